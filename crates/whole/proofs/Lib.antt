@@ -1,0 +1,12 @@
+-- Laws, each stated once for the whole project. A file has the name of the definition that it is about, or of its subject.
+pub mod Integer
+pub mod Size
+pub mod Sum
+pub mod SumSize
+pub mod Pairs
+pub mod Table
+pub mod Search
+pub mod Rules
+pub mod Machine
+pub mod Accumulate
+pub mod Lent

@@ -1,0 +1,58 @@
+-- Laws of `first-broken`: what a judge that tests rule by rule has shown, and that its answer is the least number that applies.
+-- Assumes nothing.
+use mathlib.Core.Path.{_≡_, refl, sym, ap, _∙_, subst}
+use mathlib.Core.Bool.{Bool, true, false, cond, _&&_}
+use mathlib.Core.List.{List, [], _∷_, _++_}
+use mathlib.Core.Logic.{_⊎_, inl, inr, ⊎-elim}
+use Prim.Native.Nat.{ℕ, suc, _≤_, _<_}
+use native.Mathlib.Omega.{arith}
+use lib.Dec.{T, ltb, ltb→lt}
+use Rattle.whole.specs.Rules.{Rule, first-broken}
+
+-- ---- one rule and the rest: the number is 0 only where the rule holds and none of the rest is broken
+pub holds : (b : Bool) (k r : ℕ) → cond b (suc k) r ≡ 0 → (b ≡ false) × (r ≡ 0)
+holds true k r e = let h : ⊥ = omega arith in absurd h
+holds false k r e = (refl, e)
+
+-- ---- the numbers rise, from above k
+abbrev pub Rising : ℕ → List Rule → Type 0
+Rising k [] = Unit
+Rising k (rule ∷ rules) = T (ltb k (rule .1)) × Rising (rule .1) rules
+
+-- ---- two lists of rules, one after the other
+module _ (rest : List Rule) where
+  -- a number of the first list is the number of both
+  pub first-here : (rules : List Rule) (r : ℕ) → r ≡ first-broken rules → (r ≡ 0 → ⊥) → r ≡ first-broken (rules ++ rest)
+  first-here [] r e f = absurd (f e)
+  first-here ((true, m) ∷ rules) r e f = e
+  first-here ((false, m) ∷ rules) r e f = first-here rules r e f
+
+  -- where none of the first is broken, the second decides
+  pub first-next : (k : ℕ) (rules : List Rule) → Rising k rules → first-broken rules ≡ 0 → first-broken rest ≡ first-broken (rules ++ rest)
+  first-next k [] g e = refl
+  first-next k ((true, m) ∷ rules) g e = let h = ltb→lt k m (g .0) in let z : ⊥ = omega arith in absurd z
+  first-next k ((false, m) ∷ rules) g e = first-next m rules (g .1) e
+
+  -- where none of both is broken, none of either is
+  pub first-none : (k : ℕ) (rules : List Rule) → Rising k rules → first-broken (rules ++ rest) ≡ 0 → (first-broken rules ≡ 0) × (first-broken rest ≡ 0)
+  first-none k [] g e = (refl, e)
+  first-none k ((true, m) ∷ rules) g e = let h = ltb→lt k m (g .0) in let z : ⊥ = omega arith in absurd z
+  first-none k ((false, m) ∷ rules) g e = first-none m rules (g .1) e
+
+-- ---- the least number that applies
+-- a rule with the number m is broken
+abbrev pub Applies : ℕ → List Rule → Type 0
+Applies m [] = ⊥
+Applies m (rule ∷ rules) = ((rule .0 ≡ true) × (rule .1 ≡ m)) ⊎ Applies m rules
+
+above : (k m : ℕ) (rules : List Rule) → Rising k rules → Applies m rules → k < m
+above k m (rule ∷ rules) g a = let h = ltb→lt k (rule .1) (g .0) in ⊎-elim (λ e. omega (arith, e .1)) (λ e. omega (arith, above (rule .1) m rules (g .1) e)) a
+
+pub first-least : (k m : ℕ) (rules : List Rule) → Rising k rules → Applies m rules → first-broken rules ≤ m
+first-least k m ((true, l) ∷ rules) g a = ⊎-elim (λ e. omega (arith, e .1)) (λ e. omega (arith, above l m rules (g .1) e)) a
+first-least k m ((false, l) ∷ rules) g a = ⊎-elim (λ e. absurd (subst T (sym (e .0)) tt)) (λ e. first-least l m rules (g .1) e) a
+
+pub first-applies : (rules : List Rule) → (first-broken rules ≡ 0 → ⊥) → Applies (first-broken rules) rules
+first-applies [] f = absurd (f refl)
+first-applies ((true, l) ∷ rules) f = inl (refl, refl)
+first-applies ((false, l) ∷ rules) f = inr (first-applies rules f)

@@ -1,0 +1,41 @@
+-- Laws of `some`, as a searching loop uses them. Assumes nothing.
+use mathlib.Core.Path.{_≡_, refl, sym, ap, _∙_}
+use mathlib.Core.Bool.{Bool, true, false, _||_}
+use Prim.Native.Nat.{ℕ, zero, suc, _+_, _<_}
+use native.Mathlib.Numerals.{add-one}
+use native.Mathlib.Decide.{ℕ-discrete}
+use native.Mathlib.Omega.{arith}
+use Rattle.whole.specs.Search.{some}
+
+module _ (test : ℕ → Bool) where
+  -- before the first
+  pub some-zero : some test 0 ≡ false
+  unfolding some
+  some-zero = refl
+
+  -- none so far, and not here
+  pub some-more : (n : ℕ) → some test n ≡ false → test n ≡ false → some test (n + 1) ≡ false
+  unfolding some
+  some-more n p q = ap (some test) (add-one n) ∙ rw (p, q) refl
+
+  -- one that passes
+  pub some-hit : (n k : ℕ) → k < n → test k ≡ true → some test n ≡ true
+  unfolding some
+  some-hit zero k h e = let z : ⊥ = omega arith in absurd z
+  some-hit (suc n) k h e = pick (ℕ-discrete k n) (λ (q : k < n). some-hit n k q e)
+    where
+      right : (a b : Bool) → b ≡ true → (a || b) ≡ true
+      right true b p = refl
+      right false b p = p
+
+      pick : Dec (k ≡ n) → (k < n → some test n ≡ true) → (some test n || test n) ≡ true
+      pick (yes p) g = right (some test n) (test n) (ap test (sym p) ∙ e)
+      pick (no p) g = rw (g (omega arith)) refl
+
+  -- none passes
+  pub some-none : (n k : ℕ) → some test n ≡ false → k < n → test k ≡ false
+  some-none n k p h = go (test k) refl
+    where
+      go : (b : Bool) → test k ≡ b → b ≡ false
+      go false e = refl
+      go true e = sym (some-hit n k h e) ∙ p
