@@ -1,0 +1,9 @@
+-- Laws of the measures and of an accepted job, each file named by its subject. What the buyer asks for by name is in Theorems.
+pub mod Sizes
+pub mod Adding
+pub mod Reading
+pub mod Running
+pub mod Locals
+pub mod Accepted
+pub mod Answered
+pub mod Theorems

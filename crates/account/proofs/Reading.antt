@@ -1,0 +1,61 @@
+-- From the lists that the code reads to the measures. Assumes nothing.
+use mathlib.Core.Path.{_≡_, refl, sym, ap, _∙_}
+use mathlib.Core.List.{List}
+use Prim.Native.Nat.{ℕ, _+_, _*_, _≤_, _<_}
+use native.Mathlib.Nat as N
+use native.Mathlib.Omega.{arith}
+use lib.IntN.{ℤ, pos, natAbs, _-ℤ_}
+use lib.ListN.{length, getD}
+use mir.Syntax.{w32}
+use Rattle.whole.specs.Integer.{square}
+use Rattle.whole.specs.Sum.{sum}
+use Rattle.whole.specs.Table.{table}
+use Rattle.whole.proofs.Lent.{within}
+use Rattle.whole.proofs.Machine.{Is, val, told, rd, r32}
+use Rattle.whole.proofs.Sum.{sum-cong, sum-rows}
+use Rattle.whole.proofs.Table.{table-length, table-at}
+use Rattle.account.specs.Measures.{at, row-of, pairs-of, weight-of, weight-at}
+use Rattle.account.specs.Steps.{Sized, Valued, Weighted}
+use Rattle.account.proofs.Sizes.{square-size}
+
+-- up to 64 zones have up to 4,096 weights
+pub few : (n : ℕ) → n ≤ 64 → n * n ≤ 4096
+few n h = N.mul-le-mul {n₂ = 64} {m₂ = 64} h h
+
+-- ---- a list that holds a table whose entries are small
+pub table-sized : (b n : ℕ) (f : ℕ → ℤ) (l : List ℤ) → l ≡ table f n → ((k : ℕ) → k < n → natAbs (f k) ≤ b) → Sized b l n
+table-sized b n f l e h = record {
+  count = ap length e ∙ table-length f n;
+  size = λ k p. rw (held-at b n f l e k p) (h k p);
+}
+  where
+    held-at : (b n : ℕ) (f : ℕ → ℤ) (l : List ℤ) → l ≡ table f n → (k : ℕ) → k < n → at l k ≡ f k
+    held-at b n f l e k p = ap (λ m. at m k) e ∙ table-at f n k (pos 0) p
+
+-- ---- the values
+module _ (values : List ℤ) (n : ℕ) (v : Valued values n) where
+  -- as the machine reads one
+  pub value-is : (k : ℕ) → k < n → Is (r32 (at values k)) (at values k) 100000
+  value-is k h = rd w32 (val (at values k) 100000 (v .near .size k h)) tt
+
+  pub read-le : (k : ℕ) → k < n → natAbs (r32 (at values k)) ≤ 100000
+  read-le k h = rw (value-is k h .same) (v .near .size k h)
+
+  -- what `squared_difference` answers of two
+  pub difference-told : {y : ℤ} (i j : ℕ) → i < n → j < n → y ≡ square (r32 (at values i) -ℤ r32 (at values j)) → Is y (square (at values i -ℤ at values j)) 40000000000
+  difference-told i j h k e =
+      told (square (at values i -ℤ at values j)) 40000000000 (e ∙ ap (λ z. square (z -ℤ r32 (at values j))) (value-is i h .same) ∙ ap (λ z. square (at values i -ℤ z)) (value-is j k .same)) (square-size (at values) n (v .zones) (v .near .size) i j h k)
+
+-- ---- the weights
+module _ (weights : List ℕ) (n : ℕ) (w : Weighted weights n) where
+  pub place : (i j : ℕ) → i < n → j < n → i * n + j < length weights
+  place i j h k = omega (arith, within n i j h k, w .count)
+
+  pub weight-le : (i j : ℕ) → i < n → j < n → weight-at weights n i j ≤ 9
+  unfolding weight-at
+  weight-le i j h k = w .light (i * n + j) (within n i j h k)
+
+  -- summed along the list they are W
+  pub flat-weight : sum (λ k. pos (getD weights k 0)) (n * n) ≡ weight-of (weight-at weights n) n
+  unfolding weight-of pairs-of row-of weight-at
+  flat-weight = sum-rows (λ k. pos (getD weights k 0)) n n ∙ sum-cong _ _ n (λ i p. sum-cong _ _ n (λ j q. ap pos (sym (N.mul-one (getD weights (i * n + j) 0)))))

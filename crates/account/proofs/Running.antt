@@ -1,0 +1,66 @@
+-- The sums that the loops run, from the lists that the code reads: each stays within an i64. Assumes nothing.
+use mathlib.Core.Path.{_≡_, sym, ap, _∙_}
+use mathlib.Core.List.{List}
+use Prim.Native.Nat.{ℕ, _+_, _*_, _≤_, _<_}
+use native.Mathlib.Nat as N
+use native.Mathlib.Omega.{arith}
+use lib.IntN.{ℤ, pos, natAbs, _-ℤ_, _*ℤ_}
+use lib.ListN.{getD}
+use mir.Syntax.{w64}
+use Rattle.whole.specs.Integer.{square}
+use Rattle.whole.specs.Sum.{sum}
+use Rattle.whole.proofs.Accumulate.{Bounded}
+use Rattle.whole.proofs.SumSize.{sum-size}
+use Rattle.account.specs.Measures.{at, row-of, weight-at}
+use Rattle.account.specs.Steps.{Sized, Valued, Weighted, Job}
+use Rattle.account.proofs.Sizes.{total-size, before-size, spread-size, square-size, row-size, rows-size}
+use Rattle.account.proofs.Reading.{few, weight-le}
+
+-- ---- S and M
+module _ (values : List ℤ) (n : ℕ) (v : Valued values n) where
+  pub total-runs : Bounded w64 (at values) n 6400000
+  total-runs = record { bound = total-size (at values) n (v .zones) (v .near .size); small = tt }
+
+  pub before-runs : (j : ℕ) → j < n → Bounded w64 (λ i. square (at values i -ℤ at values j)) j 2560000000000
+  before-runs j h = record { bound = λ m k. before-size (at values) n (v .zones) (v .near .size) j m h k; small = tt }
+
+  pub spread-runs : Bounded w64 (λ j. sum (λ i. square (at values i -ℤ at values j)) j) n 80640000000000
+  spread-runs = record { bound = spread-size (at values) n (v .zones) (v .near .size); small = tt }
+
+-- ---- W and the rows of P
+module _ (weights : List ℕ) (n : ℕ) (w : Weighted weights n) where
+  pub weight-runs : Bounded w64 (λ k. pos (getD weights k 0)) (n * n) 36864
+  weight-runs = record {
+    bound = λ m le. omega (arith, sum-size (λ k. pos (getD weights k 0)) m 9 (λ k p. w .light k (omega arith)), few n (w .zones));
+    small = tt;
+  }
+
+  pub neighbours-run : (d : List ℤ) (i : ℕ) → Sized 12800000 d n → i < n → Bounded w64 (λ j. pos (weight-at weights n i j) *ℤ at d j) n 7372800000
+  neighbours-run d i s h = record {
+    bound = λ m k. row-size (weight-at weights n) (λ i j. at d j) n 12800000 (w .zones) (weight-le weights n w) (λ i j p q. s .size j q) i m h k;
+    small = tt;
+  }
+
+-- ---- P, from the local numerators
+pub locals-run : (locals : List ℤ) (n : ℕ) → n ≤ 64 → Sized 94371840000000000 locals n → Bounded w64 (at locals) n 6039797760000000000
+locals-run locals n zones s = record {
+  bound = λ m le. omega (arith, sum-size (at locals) m 94371840000000000 (λ k p. s .size k (omega arith)));
+  small = tt;
+}
+
+-- ---- G and its rows
+module _ (values : List ℤ) (weights : List ℕ) (n : ℕ) (r : Job values weights n) where
+  differences : (i j : ℕ) → i < n → j < n → natAbs (square (at values i -ℤ at values j)) ≤ 40000000000
+  differences = square-size (at values) n (r .valued .zones) (r .valued .near .size)
+
+  pub row-squares-run : (i : ℕ) → i < n → Bounded w64 (λ j. pos (weight-at weights n i j) *ℤ square (at values i -ℤ at values j)) n 23040000000000
+  row-squares-run i h = record {
+    bound = λ m k. row-size (weight-at weights n) (λ i j. square (at values i -ℤ at values j)) n 40000000000 (r .weighted .zones) (weight-le weights n (r .weighted)) differences i m h k;
+    small = tt;
+  }
+
+  pub squares-run : Bounded w64 (λ i. row-of (weight-at weights n) (λ i j. square (at values i -ℤ at values j)) i n) n 1474560000000000
+  squares-run = record {
+    bound = rows-size (weight-at weights n) (λ i j. square (at values i -ℤ at values j)) n 40000000000 (r .weighted .zones) (weight-le weights n (r .weighted)) differences;
+    small = tt;
+  }

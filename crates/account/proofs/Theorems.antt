@@ -1,0 +1,99 @@
+-- What the buyer asks for by name, over the definitions of Measures, Limits, Refusals and Answers. Assumes nothing.
+use mathlib.Core.Path.{_≡_, refl, sym, ap, _∙_, subst}
+use mathlib.Core.List.{List}
+use mathlib.Core.Logic.{_⊎_, ⊎-elim}
+use Prim.Native.Nat.{ℕ, _+_, _*_, _-_, _≤_, _<_}
+use native.Mathlib.Nat as N
+use native.Mathlib.Decide.{decLt, ℕ-discrete}
+use native.Mathlib.Omega.{arith}
+use lib.Dec.{le→leb}
+use lib.IntN.{ℤ, pos, natAbs, _-ℤ_, _*ℤ_, +ℤ-invr}
+use lib.Signed.{_≤ℤ_}
+use Rattle.whole.specs.Integer.{square}
+use Rattle.whole.specs.Sum.{sum}
+use Rattle.whole.proofs.Integer.{equal-of-diff}
+use Rattle.whole.proofs.Pairs.{deviations-squared}
+use Rattle.whole.proofs.Rules.{Applies, first-least, first-applies}
+use Rattle.whole.proofs.Size.{size-*, size-*-le, square-zero, square-above}
+use Rattle.whole.proofs.Sum.{sum-cong, sum-none}
+use Rattle.whole.proofs.SumSize.{sum-above, terms-zero}
+use Rattle.account.specs.Measures.{at, total-of, deviation-of, spread-of, weight-of, cross-of, squares-of, local-of, weight-at}
+use Rattle.account.specs.Limits.{limit, Limits}
+use Rattle.account.specs.Refusals.{job-rules, account-rules, account-refusal}
+use Rattle.account.proofs.Accepted.{Accepted, accepted}
+use Rattle.account.proofs.Adding as adding
+use Rattle.account.proofs.Reading.{weight-le}
+use Rattle.account.proofs.Sizes.{deviation-size, spread-of-size, weight-sharp, squares-sharp, local-sharp, cross-sharp}
+
+-- ---- the squares of d sum to n × M
+pub deviations-squared-sum : (x : ℕ → ℤ) (n : ℕ) → sum (λ i. square (deviation-of x n i)) n ≡ pos n *ℤ spread-of x n
+unfolding deviation-of total-of spread-of
+deviations-squared-sum x n = deviations-squared x n
+
+-- ---- the local numerators add up to P, whatever the weights
+pub locals-add-up : (f : ℕ → ℕ → ℕ) (x : ℕ → ℤ) (n : ℕ) → sum (λ i. local-of f (deviation-of x n) n i) n ≡ cross-of f (deviation-of x n) n
+locals-add-up f x n = adding.locals-sum f (deviation-of x n) n
+
+-- ---- M is 0 exactly when all values are equal
+module _ (x : ℕ → ℤ) (n : ℕ) where
+  earlier : spread-of x n ≡ pos 0 → (i j : ℕ) → i < j → j < n → x i ≡ x j
+  unfolding spread-of
+  earlier e i j h k =
+      let row = terms-zero (λ j. sum (λ i. square (x i -ℤ x j)) j) n (λ j p. sum-above _ j (λ i q. square-above (x i -ℤ x j))) e j k in
+      equal-of-diff (x i) (x j) (square-zero (x i -ℤ x j) (terms-zero (λ i. square (x i -ℤ x j)) j (λ i q. square-above (x i -ℤ x j)) row i h))
+
+  pub equal-when-zero : spread-of x n ≡ pos 0 → (i j : ℕ) → i < n → j < n → x i ≡ x j
+  equal-when-zero e i j h k = pick (decLt i j) (ℕ-discrete i j)
+    where
+      pick : Dec (i < j) → Dec (i ≡ j) → x i ≡ x j
+      pick (yes p) q = earlier e i j p k
+      pick (no p) (yes q) = ap x q
+      pick (no p) (no q) = sym (earlier e j i (omega arith) h)
+
+  pub zero-when-equal : ((i j : ℕ) → i < n → j < n → x i ≡ x j) → spread-of x n ≡ pos 0
+  unfolding spread-of
+  zero-when-equal same =
+      sum-cong _ _ n (λ j p. sum-cong _ _ j (λ i q. ap (λ z. square (z -ℤ x j)) (same i j (omega arith) p) ∙ ap (λ z. z *ℤ z) (+ℤ-invr (x j))) ∙ sum-none j) ∙ sum-none n
+
+-- ---- every numerator and divisor is at most 6 × 10^18, whatever weights of at most 9 are counted off the diagonal
+pub within-limits : (f : ℕ → ℕ → ℕ) (x : ℕ → ℤ) (n : ℕ) → n ≤ 64 → ((i j : ℕ) → i < n → j < n → f i j ≤ 9) → ((i : ℕ) → i < n → f i i ≡ 0) → ((k : ℕ) → k < n → natAbs (x k) ≤ 100000) → Limits f x n
+within-limits f x n zones light clear near =
+    let d = deviation-size x n zones near in
+    let w = weight-sharp f n zones light clear in
+    let m = spread-of-size x n zones near in
+    let g = squares-sharp f n zones light clear x near in
+    record {
+      moran-numerator = omega (arith, cross-sharp f n zones light clear (deviation-of x n) d);
+      moran-divisor = omega (arith, size-*-le (weight-of f n) (spread-of x n) 36288 80640000000000 w m);
+      geary-numerator = omega (arith, size-*-le (pos ((n - 1) * n)) (squares-of f x n) 4032 1451520000000000 (N.mul-le-mul {n₂ = 63} {m₂ = 64} (omega arith) zones) g);
+      geary-divisor = omega (arith, size-*-le (pos 2 *ℤ weight-of f n) (spread-of x n) 72576 80640000000000 (size-*-le (pos 2) (weight-of f n) 2 36288 (N.le-refl 2) w) m);
+      local-numerator = λ i h. omega (arith, local-sharp f n zones light clear (deviation-of x n) d i h);
+      local-divisor = omega arith;
+    }
+
+-- ---- of every accepted job: the limits, and W and M are at least 1
+module _ (n : ℕ) (values : List ℤ) (weights : List ℕ) (locals : List ℤ) (taken : account-refusal n values weights locals ≡ 0) where
+  pub accepted-limits : Limits (weight-at weights n) (at values) n
+  accepted-limits =
+      let a = accepted n values weights locals taken in
+      let v = a .job .valued in
+      within-limits (weight-at weights n) (at values) n (v .zones) (weight-le weights n (a .job .weighted)) (a .clear) (v .near .size)
+
+  one-of : (z : ℤ) → z ≡ pos (natAbs z) → 1 ≤ natAbs z → pos 1 ≤ℤ z
+  one-of z e h = rw e (record { le = le→leb 1 (natAbs z) h })
+
+  pub weight-one : pos 1 ≤ℤ weight-of (weight-at weights n) n
+  weight-one = one-of _ (adding.weight-above (weight-at weights n) n) (accepted n values weights locals taken .weighty)
+
+  pub spread-one : pos 1 ≤ℤ spread-of (at values) n
+  spread-one = one-of _ (adding.spread-above (at values) n) (accepted n values weights locals taken .varied)
+
+-- ---- the refusal is the least number that applies: it applies, and no number below it does
+module _ (n : ℕ) (values : List ℤ) (weights : List ℕ) (locals : List ℤ) where
+  pub refusal-applies : (account-refusal n values weights locals ≡ 0 → ⊥) → Applies (account-refusal n values weights locals) (account-rules n values weights locals)
+  unfolding account-refusal
+  refusal-applies = first-applies (account-rules n values weights locals)
+
+  pub refusal-least : (number : ℕ) → Applies number (account-rules n values weights locals) → account-refusal n values weights locals ≤ number
+  unfolding account-refusal account-rules job-rules
+  refusal-least number = first-least 0 number (account-rules n values weights locals) (tt, (tt, (tt, (tt, (tt, (tt, (tt, tt)))))))

@@ -1,0 +1,97 @@
+-- `job_sums` meets its contract: the deviations are worked into a local array, whose first n places are lent. Assumes nothing.
+use mathlib.Core.Path.{_≡_, refl, sym, ap, _∙_}
+use mathlib.Core.List.{List}
+use Prim.Native.Nat.{ℕ}
+use lib.IntN.{ℤ}
+use lib.ListN.{length}
+use lib.Seq.{length-take-le}
+use mir.Syntax.{w64}
+use Rattle.whole.specs.Table.{table}
+use Rattle.whole.proofs.Lent.{front, front-le, front-length}
+use Rattle.whole.proofs.Machine.{rd}
+use Rattle.whole.proofs.Table.{table-length}
+use Rattle.account.specs.Measures.{at, total-of, deviation-of, spread-of, weight-of, cross-of, squares-of, weight-at}
+use Rattle.account.specs.Answers.{five, job-figures}
+use Rattle.account.specs.Steps.{pair-sums-of}
+use Rattle.account.specs.declared.measures.PairSums.{PairSums}
+use Rattle.account.proofs.Locals.{total-told, spread-told, weight-told, cross-told, squares-told}
+use borrow.Author.Needs.{needs}
+use Rattle.account.proofs.measures.job_sums.Statement.{statement}
+use Rattle.account.proofs.measures.job_sums.Tie as tie
+
+parts : (f : ℕ → ℕ → ℕ) (x : ℕ → ℤ) (n : ℕ) (r : PairSums) → r ≡ pair-sums-of f x n → (r .weight ≡ weight-of f n) × (r .cross ≡ cross-of f (deviation-of x n) n) × (r .squares ≡ squares-of f x n)
+unfolding pair-sums-of
+parts f x n r e = (ap (λ (s : PairSums). s .weight) e, ap (λ (s : PairSums). s .cross) e, ap (λ (s : PairSums). s .squares) e)
+
+same : (n : ℕ) (values : List ℤ) (weights : List ℕ) (s m w p g : ℤ) → s ≡ total-of (at values) n → m ≡ spread-of (at values) n → w ≡ weight-of (weight-at weights n) n → p ≡ cross-of (weight-at weights n) (deviation-of (at values) n) n → g ≡ squares-of (weight-at weights n) (at values) n →
+    five (record { total = s; spread = m; weight = w; cross = p; squares = g }) ≡ job-figures n values weights
+unfolding job-figures
+same n values weights s m w p g e1 e2 e3 e4 e5 = rw (e1, e2, e3, e4, e5) refl
+
+-- the deviations of the job, as the array's front holds them
+module _ (c : tie.After-deviations) where
+  abbrev a : tie.Start
+  a = c .before .before .before
+
+  abbrev expected : List ℤ
+  expected = table (deviation-of (at (a .args .values .now)) (a .args .n)) (a .args .n)
+
+  as-long : length expected ≡ a .args .n
+  as-long = table-length (deviation-of (at (a .args .values .now)) (a .args .n)) (a .args .n)
+
+array-borrow-prefix-d : tie.Need-array-borrow-prefix-d
+array-borrow-prefix-d c = c .before .pre .0 .valued .zones
+
+slice-aggregate-deviations : tie.Need-slice-aggregate-deviations
+slice-aggregate-deviations c = sym (length-take-le _ _ (c .before .before .pre .0 .valued .zones))
+
+deviations-requires : tie.Need-deviations-requires
+deviations-requires c κs = let v = c .before .before .pre .0 .valued in (v, length-take-le _ _ (v .zones))
+
+array-share-prefix-d : tie.Need-array-share-prefix-d
+array-share-prefix-d c = let b = c .before in front-le {A = ℤ} _ _ (expected b) _ (b .deviations .ensures) (as-long b)
+
+slice-aggregate-pair-sums : tie.Need-slice-aggregate-pair-sums
+slice-aggregate-pair-sums c = let b = c .before .before in front-length {A = ℤ} _ _ (expected b) _ (b .deviations .ensures) (as-long b)
+
+pair-sums-requires : tie.Need-pair-sums-requires
+pair-sums-requires c κs = let b = c .before .before .before in (a b .pre .0, (front {A = ℤ} _ _ (expected b) _ (b .deviations .ensures) (as-long b), a b .pre .1))
+
+total-requires : tie.Need-total-requires
+total-requires c κs = search needs
+
+spread-requires : tie.Need-spread-requires
+spread-requires c κs = search needs
+
+same-length : tie.Need-same-length
+same-length c = search needs
+
+returns : tie.Need-returns
+returns c =
+    let b = c .before .before .before .before in
+    let s = b .before .before .before .before .before .before .before in
+    let r = s .pre .0 in
+    let p = parts (weight-at (s .args .weights .now) (s .args .n)) (at (s .args .values .now)) (s .args .n) _ (b .pair-sums .ensures .0) in (
+      same (s .args .n) (s .args .values .now) (s .args .weights .now) _ _ _ _ _
+          (rd w64 (total-told _ _ (r .valued) (c .before .before .total .ensures)) tt .same)
+          (rd w64 (spread-told _ _ (r .valued) (c .before .spread .ensures)) tt .same)
+          (rd w64 (weight-told _ _ (r .weighted) (p .0)) tt .same)
+          (rd w64 (cross-told _ _ _ r (p .1)) tt .same)
+          (rd w64 (squares-told _ _ _ r (p .2)) tt .same),
+      b .pair-sums .ensures .1,
+    )
+
+pub job-sums-spec : {M : Type 1} → statement M
+job-sums-spec =
+    tie.close
+    (tie.spec
+    array-borrow-prefix-d
+    slice-aggregate-deviations
+    deviations-requires
+    array-share-prefix-d
+    slice-aggregate-pair-sums
+    pair-sums-requires
+    total-requires
+    spread-requires
+    same-length
+    returns)

@@ -1,0 +1,65 @@
+-- The rules that a job must keep, with their numbers, in the order of document 01's "Causes of refusal". The call is refused with the
+-- number of the first that is broken: the least that applies, and once 1 or 2 applies nothing further is judged. Assumes nothing.
+use mathlib.Core.Bool.{Bool, false, not, _||_}
+use mathlib.Core.List.{List, [], _∷_, _++_}
+use Prim.Native.Nat.{ℕ, _*_}
+use lib.Dec.{ltb, eqb}
+use lib.IntN.{ℤ, natAbs}
+use lib.ListN.{length, getD}
+use Rattle.whole.specs.Integer.{is-zero}
+use Rattle.whole.specs.Rules.{Rule, first-broken}
+use Rattle.whole.specs.Search.{some}
+use Rattle.account.specs.Measures.{at, weight-of, spread-of, weight-at}
+
+-- ---- what a rule looks for
+
+-- n is outside the range
+abbrev pub outside : ℕ → ℕ → ℕ → Bool
+outside lowest highest n = ltb n lowest || ltb highest n
+
+-- a list has another length than it must: each pair is a list's length and the length that it must have
+abbrev pub misfits : List (ℕ × ℕ) → Bool
+misfits [] = false
+misfits (one ∷ others) = not (eqb (one .0) (one .1)) || misfits others
+
+-- a number of the list is beyond the limit in size
+unfoldable pub any-beyond : ℕ → List ℤ → Bool
+any-beyond limit numbers = some (λ k. ltb limit (natAbs (at numbers k))) (length numbers)
+
+-- a number of the list is above the limit
+unfoldable pub any-above : ℕ → List ℕ → Bool
+any-above limit numbers = some (λ k. ltb limit (getD numbers k 0)) (length numbers)
+
+-- a weight stands on the diagonal
+unfoldable pub any-on-diagonal : ℕ → List ℕ → Bool
+any-on-diagonal n weights = some (λ i. ltb 0 (weight-at weights n i i)) n
+
+-- ---- the rules
+
+-- 1 and 2: n, and the exact length of each lent list
+abbrev pub size-rules : ℕ → List (ℕ × ℕ) → List Rule
+size-rules n lengths = (outside 2 64 n, 1) ∷ (misfits lengths, 2) ∷ []
+
+-- 3 to 7: the values, the weights, W and M
+unfoldable pub job-rules : ℕ → List ℤ → List ℕ → List Rule
+job-rules n values weights =
+    (any-beyond 100000 values, 3)
+    ∷ (any-above 9 weights, 4)
+    ∷ (any-on-diagonal n weights, 5)
+    ∷ (is-zero (weight-of (weight-at weights n) n), 6)
+    ∷ (is-zero (spread-of (at values) n), 7)
+    ∷ []
+
+-- ---- the account
+
+-- its lists' lengths, with those that they must have: n values, n × n weights, n places for the local numerators
+abbrev pub account-lengths : ℕ → ℕ → ℕ → ℕ → List (ℕ × ℕ)
+account-lengths n values weights locals = (values, n) ∷ (weights, n * n) ∷ (locals, n) ∷ []
+
+-- 1 to 7
+unfoldable pub account-rules : ℕ → List ℤ → List ℕ → List ℤ → List Rule
+account-rules n values weights locals = size-rules n (account-lengths n (length values) (length weights) (length locals)) ++ job-rules n values weights
+
+-- its refusal, 0 where no rule is broken
+unfoldable pub account-refusal : ℕ → List ℤ → List ℕ → List ℤ → ℕ
+account-refusal n values weights locals = first-broken (account-rules n values weights locals)

@@ -1,0 +1,115 @@
+// The judges: each answers the number of the first broken rule, 0 where none is broken, and stores nothing.
+use crate::measures;
+ghost use mathlib.Core.Path.{_≡_};
+ghost use mathlib.Core.List.{_++_};
+ghost use Prim.Native.Nat.{ℕ, _*_, _≤_};
+ghost use lib.ListN.{length};
+ghost use Rattle.whole.specs.Rules.{first-broken};
+ghost use Rattle.account.specs.Refusals.{any-beyond, any-above, any-on-diagonal, size-rules, job-rules, account-lengths};
+
+// Whether some value is beyond 100,000 in size.
+pub fn any_beyond(values: &[i32]) -> bool
+    ensures { λ r. ⌜ r ≡ any-beyond 100000 (now (values .entry)) ⌝ }
+{
+    let mut i: usize = 0;
+    while i < values.len() {
+        let x = values[i];
+        if x > 100000 {
+            return true;
+        }
+        if x < -100000 {
+            return true;
+        }
+        i += 1;
+    }
+    false
+}
+
+// Whether some number is above the limit.
+pub fn any_above(limit: u8, numbers: &[u8]) -> bool
+    ensures { λ r. ⌜ r ≡ any-above limit (now (numbers .entry)) ⌝ }
+{
+    let mut i: usize = 0;
+    while i < numbers.len() {
+        if numbers[i] > limit {
+            return true;
+        }
+        i += 1;
+    }
+    false
+}
+
+// Whether some weight stands on the diagonal.
+pub fn any_on_diagonal(n: usize, weights: &[u8]) -> bool
+    requires { ⌜ n ≤ 64 ⌝ }
+    requires { ⌜ length (now weights) ≡ n * n ⌝ }
+    ensures { λ r. ⌜ r ≡ any-on-diagonal n (now (weights .entry)) ⌝ }
+{
+    let mut i: usize = 0;
+    while i < n {
+        let place = i * n + i;
+        if weights[place] > 0 {
+            return true;
+        }
+        i += 1;
+    }
+    false
+}
+
+// 1 and 2: n, and the lengths of the account's three lists.
+pub fn judge_sizes(n: usize, values: usize, weights: usize, locals: usize) -> u8
+    ensures { λ r. ⌜ r ≡ first-broken (size-rules n (account-lengths n values weights locals)) ⌝ }
+{
+    if n < 2 {
+        return 1;
+    }
+    if n > 64 {
+        return 1;
+    }
+    if values != n {
+        return 2;
+    }
+    if weights != n * n {
+        return 2;
+    }
+    if locals != n {
+        return 2;
+    }
+    0
+}
+
+// 3 to 7, of a job whose sizes are good.
+pub fn judge_job(n: usize, values: &[i32], weights: &[u8]) -> u8
+    requires { ⌜ n ≤ 64 ⌝ }
+    requires { ⌜ length (now values) ≡ n ⌝ }
+    requires { ⌜ length (now weights) ≡ n * n ⌝ }
+    ensures { λ r. ⌜ r ≡ first-broken (job-rules n (now (values .entry)) (now (weights .entry))) ⌝ }
+{
+    if any_beyond(values) {
+        return 3;
+    }
+    if any_above(9, weights) {
+        return 4;
+    }
+    if any_on_diagonal(n, weights) {
+        return 5;
+    }
+    if measures::weight_sum(n, weights) == 0 {
+        return 6;
+    }
+    if measures::spread(n, values) == 0 {
+        return 7;
+    }
+    0
+}
+
+// 1 to 7: the account's refusal. The local list's content is not judged, so its length is all that is asked for.
+pub fn judge_account(n: usize, values: &[i32], weights: &[u8], locals: usize) -> u8
+    ensures { λ r. ⌜ r ≡ first-broken (size-rules n (account-lengths n (length (now (values .entry))) (length (now (weights .entry))) locals) ++ job-rules n (now (values .entry)) (now (weights .entry))) ⌝ }
+{
+    let sizes = judge_sizes(n, values.len(), weights.len(), locals);
+    if sizes != 0 {
+        return sizes;
+    }
+    judge_job(n, values, weights)
+}
