@@ -5,7 +5,7 @@ use Prim.Native.Nat.{ℕ, _*_, _≤_, _<_}
 use lib.IntN.{ℤ, natAbs}
 use lib.ListN.{length, getD}
 use Rattle.account.specs.Measures.{at, deviation-of, weight-of, cross-of, squares-of}
-use Rattle.account.specs.declared.measures.PairSums.{PairSums}
+use Rattle.account.specs.declared.working.PairSums.{PairSums}
 
 -- n numbers, each at most b in size
 pub record Sized (b : ℕ) (numbers : List ℤ) (n : ℕ) : Type 0 where

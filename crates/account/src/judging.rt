@@ -1,5 +1,6 @@
 // The judges: each answers the number of the first broken rule, 0 where none is broken, and stores nothing.
-use crate::measures;
+use crate::differences;
+use crate::working;
 ghost use mathlib.Core.Path.{_≡_};
 ghost use mathlib.Core.List.{_++_};
 ghost use Prim.Native.Nat.{ℕ, _*_, _≤_};
@@ -94,10 +95,10 @@ pub fn judge_job(n: usize, values: &[i32], weights: &[u8]) -> u8
     if any_on_diagonal(n, weights) {
         return 5;
     }
-    if measures::weight_sum(n, weights) == 0 {
+    if working::weight_sum(n, weights) == 0 {
         return 6;
     }
-    if measures::spread(n, values) == 0 {
+    if differences::spread(n, values) == 0 {
         return 7;
     }
     0

@@ -1,6 +1,8 @@
 // The account of a job: values and weights give S, M, W, P, G, and the local numerators L(i) go to a lent list.
+mod deviations;
+mod differences;
 mod judging;
-mod measures;
+mod working;
 
 ghost use mathlib.Core.Path.{_≡_};
 ghost use Rattle.account.specs.Refusals.{account-refusal};
@@ -36,5 +38,5 @@ pub fn account(n: usize, values: &[i32], weights: &[u8], locals: &mut [i64]) -> 
     if refusal != 0 {
         return Answer::Refused(refusal);
     }
-    Answer::Accounted(measures::job_sums(n, values, weights, locals))
+    Answer::Accounted(working::job_sums(n, values, weights, locals))
 }

@@ -10,8 +10,8 @@ use Rattle.whole.proofs.Machine.{Is, val, told, rd, is-*, fit, r64}
 use Rattle.whole.proofs.Table.{is-table, stored}
 use Rattle.account.specs.Measures.{at, row-of, local-of, weight-at}
 use Rattle.account.proofs.Running.{neighbours-run}
-use Rattle.account.proofs.measures.local_numerators.Statement.{statement}
-use Rattle.account.proofs.measures.local_numerators.Tie as tie
+use Rattle.account.proofs.deviations.local_numerators.Statement.{statement}
+use Rattle.account.proofs.deviations.local_numerators.Tie as tie
 
 abbrev Inv-loop : tie.InvT-loop
 Inv-loop n weights d locals₀ i₀ locals i = (i ≤ n) × ((length locals ≡ n) × ((k : ℕ) → k < i → at locals k ≡ local-of (weight-at weights n) (at d) n k))

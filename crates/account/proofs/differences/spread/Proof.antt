@@ -12,8 +12,8 @@ use Rattle.whole.proofs.Accumulate.{acc-none, acc-more, acc-done}
 use Rattle.whole.proofs.Machine.{Is, told, rd, fit, r64}
 use Rattle.account.specs.Measures.{at, spread-of}
 use Rattle.account.proofs.Running.{before-runs, spread-runs}
-use Rattle.account.proofs.measures.spread.Statement.{statement}
-use Rattle.account.proofs.measures.spread.Tie as tie
+use Rattle.account.proofs.differences.spread.Statement.{statement}
+use Rattle.account.proofs.differences.spread.Tie as tie
 
 abbrev Inv-loop : tie.InvT-loop
 Inv-loop n values acc₀ j₀ acc j = (j ≤ n) × (acc ≡ ofZ w64 (sum (λ j. sum (λ i. square (at values i -ℤ at values j)) j) j))

@@ -12,8 +12,8 @@ use Rattle.whole.proofs.Accumulate.{acc-none, acc-more, acc-done}
 use Rattle.whole.proofs.Machine.{Is, told, rd, fit, r64}
 use Rattle.account.specs.Measures.{at, row-of, pairs-of, squares-of, weight-at}
 use Rattle.account.proofs.Running.{row-squares-run, squares-run}
-use Rattle.account.proofs.measures.squares.Statement.{statement}
-use Rattle.account.proofs.measures.squares.Tie as tie
+use Rattle.account.proofs.differences.squares.Statement.{statement}
+use Rattle.account.proofs.differences.squares.Tie as tie
 
 abbrev Inv-loop : tie.InvT-loop
 Inv-loop n values weights acc₀ i₀ acc i = (i ≤ n) × (acc ≡ ofZ w64 (sum (λ i. row-of (weight-at weights n) (λ i j. square (at values i -ℤ at values j)) i n) i))

@@ -11,8 +11,8 @@ use Rattle.whole.proofs.Accumulate.{acc-none, acc-more, acc-done}
 use Rattle.whole.proofs.Machine.{Is, nat, fit, fits-le}
 use Rattle.account.proofs.Reading.{flat-weight}
 use Rattle.account.proofs.Running.{weight-runs}
-use Rattle.account.proofs.measures.weight_sum.Statement.{statement}
-use Rattle.account.proofs.measures.weight_sum.Tie as tie
+use Rattle.account.proofs.working.weight_sum.Statement.{statement}
+use Rattle.account.proofs.working.weight_sum.Tie as tie
 
 abbrev Inv-loop : tie.InvT-loop
 Inv-loop n weights acc₀ k₀ acc k = (k ≤ length weights) × (acc ≡ ofZ w64 (sum (λ t. pos (getD weights t 0)) k))

@@ -11,8 +11,8 @@ use Rattle.whole.proofs.Machine.{Is, rd, fit, r32, r64}
 use Rattle.account.specs.Measures.{at, total-of}
 use Rattle.account.proofs.Reading.{value-is}
 use Rattle.account.proofs.Running.{total-runs}
-use Rattle.account.proofs.measures.total.Statement.{statement}
-use Rattle.account.proofs.measures.total.Tie as tie
+use Rattle.account.proofs.deviations.total.Statement.{statement}
+use Rattle.account.proofs.deviations.total.Tie as tie
 
 abbrev Inv-loop : tie.InvT-loop
 Inv-loop n values acc₀ i₀ acc i = (i ≤ n) × (acc ≡ ofZ w64 (sum (at values) i))

@@ -13,8 +13,8 @@ use Rattle.whole.proofs.Machine.{Is, val, nat, rd, is-*, fit, fits-le, r64}
 use Rattle.account.specs.Measures.{at, row-of, weight-at}
 use Rattle.account.proofs.Reading.{few, place, weight-le}
 use Rattle.account.proofs.Running.{neighbours-run}
-use Rattle.account.proofs.measures.neighbour_sum.Statement.{statement}
-use Rattle.account.proofs.measures.neighbour_sum.Tie as tie
+use Rattle.account.proofs.deviations.neighbour_sum.Statement.{statement}
+use Rattle.account.proofs.deviations.neighbour_sum.Tie as tie
 
 abbrev Inv-loop : tie.InvT-loop
 Inv-loop n weights d i row acc₀ j₀ acc j = (j ≤ n) × (acc ≡ ofZ w64 (sum (λ j. pos (weight-at weights n i j) *ℤ at d j) j))

@@ -13,8 +13,8 @@ use Rattle.whole.proofs.Table.{is-table, stored}
 use Rattle.account.specs.Measures.{at, total-of, deviation-of}
 use Rattle.account.proofs.Reading.{value-is}
 use Rattle.account.proofs.Running.{total-runs}
-use Rattle.account.proofs.measures.deviations.Statement.{statement}
-use Rattle.account.proofs.measures.deviations.Tie as tie
+use Rattle.account.proofs.deviations.deviations.Statement.{statement}
+use Rattle.account.proofs.deviations.deviations.Tie as tie
 
 abbrev Inv-loop : tie.InvT-loop
 Inv-loop n values d₀ s count i₀ d i = (i ≤ n) × ((length d ≡ n) × ((k : ℕ) → k < i → at d k ≡ deviation-of (at values) n k))

@@ -7,11 +7,11 @@ use Rattle.whole.proofs.Machine.{rd}
 use Rattle.account.specs.Measures.{at, deviation-of, weight-of, cross-of, squares-of, weight-at}
 use Rattle.account.specs.Answers.{job-locals}
 use Rattle.account.specs.Steps.{pair-sums-of}
-use Rattle.account.specs.declared.measures.PairSums.{PairSums}
+use Rattle.account.specs.declared.working.PairSums.{PairSums}
 use Rattle.account.proofs.Locals.{deviations-sized, locals-are, locals-sized, locals-cross, weight-told, cross-told, squares-told}
 use borrow.Author.Needs.{needs}
-use Rattle.account.proofs.measures.pair_sums.Statement.{statement}
-use Rattle.account.proofs.measures.pair_sums.Tie as tie
+use Rattle.account.proofs.working.pair_sums.Statement.{statement}
+use Rattle.account.proofs.working.pair_sums.Tie as tie
 
 same : (f : ℕ → ℕ → ℕ) (x : ℕ → ℤ) (n : ℕ) (w p g : ℤ) → w ≡ weight-of f n → p ≡ cross-of f (deviation-of x n) n → g ≡ squares-of f x n → _≡_ {A = PairSums} (record { weight = w; cross = p; squares = g }) (pair-sums-of f x n)
 unfolding pair-sums-of

@@ -10,8 +10,8 @@ use Rattle.whole.proofs.Accumulate.{acc-none, acc-more, acc-done}
 use Rattle.whole.proofs.Machine.{Is, val, rd, fit, r64}
 use Rattle.account.specs.Measures.{at}
 use Rattle.account.proofs.Running.{locals-run}
-use Rattle.account.proofs.measures.sum_of.Statement.{statement}
-use Rattle.account.proofs.measures.sum_of.Tie as tie
+use Rattle.account.proofs.deviations.sum_of.Statement.{statement}
+use Rattle.account.proofs.deviations.sum_of.Tie as tie
 
 abbrev Inv-loop : tie.InvT-loop
 Inv-loop n locals acc₀ i₀ acc i = (i ≤ n) × (acc ≡ ofZ w64 (sum (at locals) i))

@@ -14,8 +14,8 @@ use Rattle.whole.proofs.Machine.{Is, nat, rd, is-*, fit, fits-le, r64}
 use Rattle.account.specs.Measures.{at, row-of, weight-at}
 use Rattle.account.proofs.Reading.{few, place, weight-le, read-le, difference-told}
 use Rattle.account.proofs.Running.{row-squares-run}
-use Rattle.account.proofs.measures.row_squares.Statement.{statement}
-use Rattle.account.proofs.measures.row_squares.Tie as tie
+use Rattle.account.proofs.differences.row_squares.Statement.{statement}
+use Rattle.account.proofs.differences.row_squares.Tie as tie
 
 abbrev Inv-loop : tie.InvT-loop
 Inv-loop n values weights i a row acc₀ j₀ acc j = (j ≤ n) × (acc ≡ ofZ w64 (sum (λ j. pos (weight-at weights n i j) *ℤ square (at values i -ℤ at values j)) j))

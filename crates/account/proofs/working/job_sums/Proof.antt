@@ -13,11 +13,11 @@ use Rattle.whole.proofs.Table.{table-length}
 use Rattle.account.specs.Measures.{at, total-of, deviation-of, spread-of, weight-of, cross-of, squares-of, weight-at}
 use Rattle.account.specs.Answers.{five, job-figures}
 use Rattle.account.specs.Steps.{pair-sums-of}
-use Rattle.account.specs.declared.measures.PairSums.{PairSums}
+use Rattle.account.specs.declared.working.PairSums.{PairSums}
 use Rattle.account.proofs.Locals.{total-told, spread-told, weight-told, cross-told, squares-told}
 use borrow.Author.Needs.{needs}
-use Rattle.account.proofs.measures.job_sums.Statement.{statement}
-use Rattle.account.proofs.measures.job_sums.Tie as tie
+use Rattle.account.proofs.working.job_sums.Statement.{statement}
+use Rattle.account.proofs.working.job_sums.Tie as tie
 
 parts : (f : ℕ → ℕ → ℕ) (x : ℕ → ℤ) (n : ℕ) (r : PairSums) → r ≡ pair-sums-of f x n → (r .weight ≡ weight-of f n) × (r .cross ≡ cross-of f (deviation-of x n) n) × (r .squares ≡ squares-of f x n)
 unfolding pair-sums-of

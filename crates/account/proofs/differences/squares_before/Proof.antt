@@ -12,8 +12,8 @@ use Rattle.whole.proofs.Machine.{Is, told, rd, fit, r64}
 use Rattle.account.specs.Measures.{at}
 use Rattle.account.proofs.Reading.{read-le, difference-told}
 use Rattle.account.proofs.Running.{before-runs}
-use Rattle.account.proofs.measures.squares_before.Statement.{statement}
-use Rattle.account.proofs.measures.squares_before.Tie as tie
+use Rattle.account.proofs.differences.squares_before.Statement.{statement}
+use Rattle.account.proofs.differences.squares_before.Tie as tie
 
 abbrev Inv-loop : tie.InvT-loop
 Inv-loop n values j b acc₀ i₀ acc i = (i ≤ j) × (acc ≡ ofZ w64 (sum (λ i. square (at values i -ℤ at values j)) i))

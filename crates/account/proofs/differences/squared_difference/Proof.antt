@@ -4,8 +4,8 @@ use lib.IntN.{ℤ, natAbs, _-ℤ_}
 use mir.Syntax.{w32, w64}
 use Rattle.whole.specs.Integer.{square}
 use Rattle.whole.proofs.Machine.{Is, val, rd, is--, is-*, fit, r32, r64}
-use Rattle.account.proofs.measures.squared_difference.Statement.{statement}
-use Rattle.account.proofs.measures.squared_difference.Tie as tie
+use Rattle.account.proofs.differences.squared_difference.Statement.{statement}
+use Rattle.account.proofs.differences.squared_difference.Tie as tie
 
 -- a value as it is read, the difference of two, and its square
 value : (a : ℤ) → natAbs a ≤ 100000 → Is (r32 a) a 100000

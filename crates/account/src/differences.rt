@@ -1,0 +1,82 @@
+// Squared differences of values: M over the pairs i < j, G over the ordered pairs with their weights.
+ghost use mathlib.Core.Path.{_≡_};
+ghost use Prim.Native.Nat.{_≤_, _<_};
+ghost use lib.IntN.{natAbs, _-ℤ_};
+ghost use Rattle.whole.specs.Integer.{square};
+ghost use Rattle.whole.specs.Sum.{sum};
+ghost use Rattle.account.specs.Measures.{at, spread-of, row-of, squares-of, weight-at};
+ghost use Rattle.account.specs.Steps.{Valued, Job};
+
+// The squared difference of two values.
+pub fn squared_difference(a: i32, b: i32) -> i64
+    requires { ⌜ natAbs a ≤ 100000 ⌝ }
+    requires { ⌜ natAbs b ≤ 100000 ⌝ }
+    ensures { λ r. ⌜ r ≡ square (a -ℤ b) ⌝ }
+{
+    let difference = a as i64 - b as i64;
+    difference * difference
+}
+
+// The squared differences of zone j to the zones before it.
+pub fn squares_before(n: usize, values: &[i32], j: usize) -> i64
+    requires { ⌜ Valued (now values) n ⌝ }
+    requires { ⌜ j < n ⌝ }
+    ensures { λ r. ⌜ r ≡ sum (λ i. square (at (now (values .entry)) i -ℤ at (now (values .entry)) j)) j ⌝ }
+{
+    let b = values[j];
+    let mut acc: i64 = 0;
+    let mut i: usize = 0;
+    while i < j {
+        let a = values[i];
+        acc += squared_difference(a, b);
+        i += 1;
+    }
+    acc
+}
+
+// M: each pair once, by its later zone.
+pub fn spread(n: usize, values: &[i32]) -> i64
+    requires { ⌜ Valued (now values) n ⌝ }
+    ensures { λ r. ⌜ r ≡ spread-of (at (now (values .entry))) n ⌝ }
+{
+    let mut acc: i64 = 0;
+    let mut j: usize = 0;
+    while j < n {
+        acc += squares_before(n, values, j);
+        j += 1;
+    }
+    acc
+}
+
+// The weighted squared differences of zone i.
+pub fn row_squares(n: usize, values: &[i32], weights: &[u8], i: usize) -> i64
+    requires { ⌜ Job (now values) (now weights) n ⌝ }
+    requires { ⌜ i < n ⌝ }
+    ensures { λ r. ⌜ r ≡ row-of (weight-at (now (weights .entry)) n) (λ i j. square (at (now (values .entry)) i -ℤ at (now (values .entry)) j)) i n ⌝ }
+{
+    let a = values[i];
+    let row = i * n;
+    let mut acc: i64 = 0;
+    let mut j: usize = 0;
+    while j < n {
+        let weight = weights[row + j] as i64;
+        let b = values[j];
+        acc += weight * squared_difference(a, b);
+        j += 1;
+    }
+    acc
+}
+
+// G.
+pub fn squares(n: usize, values: &[i32], weights: &[u8]) -> i64
+    requires { ⌜ Job (now values) (now weights) n ⌝ }
+    ensures { λ r. ⌜ r ≡ squares-of (weight-at (now (weights .entry)) n) (at (now (values .entry))) n ⌝ }
+{
+    let mut acc: i64 = 0;
+    let mut i: usize = 0;
+    while i < n {
+        acc += row_squares(n, values, weights, i);
+        i += 1;
+    }
+    acc
+}

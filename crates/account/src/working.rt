@@ -1,0 +1,80 @@
+// The work on a job that was judged and accepted: the sums over its pairs, and all five.
+use crate::Sums;
+use crate::deviations;
+use crate::differences;
+ghost use mathlib.Core.Path.{_≡_};
+ghost use lib.ListN.{length};
+ghost use Rattle.whole.specs.Table.{table};
+ghost use Rattle.account.specs.Measures.{at, deviation-of, weight-of, weight-at};
+ghost use Rattle.account.specs.Answers.{five, job-figures, job-locals};
+ghost use Rattle.account.specs.Steps.{Weighted, Job, pair-sums-of};
+
+// W.
+pub fn weight_sum(n: usize, weights: &[u8]) -> i64
+    requires { ⌜ Weighted (now weights) n ⌝ }
+    ensures { λ r. ⌜ r ≡ weight-of (weight-at (now (weights .entry)) n) n ⌝ }
+{
+    let mut acc: i64 = 0;
+    let mut k: usize = 0;
+    while k < weights.len() {
+        acc += weights[k] as i64;
+        k += 1;
+    }
+    acc
+}
+
+// The three sums over the pairs.
+pub struct PairSums {
+    // W
+    pub weight: i64,
+    // P
+    pub cross: i64,
+    // G
+    pub squares: i64,
+}
+
+// W, P and G for weights of any kind, with the local numerators in `locals`. The deviations d are those of the whole job.
+pub fn pair_sums(
+    n: usize,
+    values: &[i32],
+    d: &[i64],
+    weights: &[u8],
+    locals: &mut [i64],
+) -> PairSums
+    requires { ⌜ Job (now values) (now weights) n ⌝ }
+    requires { ⌜ now d ≡ table (deviation-of (at (now values)) n) n ⌝ }
+    requires { ⌜ length (now locals) ≡ n ⌝ }
+    ensures { λ r. ⌜ r ≡ pair-sums-of (weight-at (now (weights .entry)) n) (at (now (values .entry))) n ⌝ }
+    ensures { λ _. ⌜ now (locals .exit) ≡ job-locals n (now (values .entry)) (now (weights .entry)) ⌝ }
+{
+    deviations::local_numerators(n, weights, d, locals);
+    let cross = deviations::sum_of(n, locals);
+    let weight = weight_sum(n, weights);
+    let squares = differences::squares(n, values, weights);
+    PairSums {
+        weight: weight,
+        cross: cross,
+        squares: squares,
+    }
+}
+
+// The five sums of the job, with its local numerators in `locals`.
+pub fn job_sums(n: usize, values: &[i32], weights: &[u8], locals: &mut [i64]) -> Sums
+    requires { ⌜ Job (now values) (now weights) n ⌝ }
+    requires { ⌜ length (now locals) ≡ n ⌝ }
+    ensures { λ r. ⌜ five r ≡ job-figures n (now (values .entry)) (now (weights .entry)) ⌝ }
+    ensures { λ _. ⌜ now (locals .exit) ≡ job-locals n (now (values .entry)) (now (weights .entry)) ⌝ }
+{
+    let mut d: [i64; 64] = [0; 64];
+    deviations::deviations(n, values, &mut d[..n]);
+    let pairs = pair_sums(n, values, &d[..n], weights, locals);
+    let total = deviations::total(n, values);
+    let spread = differences::spread(n, values);
+    Sums {
+        total: total,
+        spread: spread,
+        weight: pairs.weight,
+        cross: pairs.cross,
+        squares: pairs.squares,
+    }
+}
