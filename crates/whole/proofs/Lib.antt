@@ -8,5 +8,6 @@ pub mod Table
 pub mod Search
 pub mod Rules
 pub mod Machine
+pub mod Sign
 pub mod Accumulate
 pub mod Lent
