@@ -2,7 +2,7 @@
 use mathlib.Core.Path.{_≡_, refl, subst}
 use mathlib.Core.Bool.{Bool, true, false, not, _||_}
 use mathlib.Core.List.{List, [], _∷_}
-use Prim.Native.Nat.{ℕ, _+_, _*_, _≤_, _<_}
+use Prim.Native.Nat.{ℕ, _*_, _≤_, _<_}
 use native.Mathlib.Omega.{arith}
 use borrow.Author.Tests.{ltb-false, eqb-true, not-false}
 use lib.Dec.{T, ltb, eqb}
@@ -15,7 +15,7 @@ use Rattle.whole.proofs.Search.{some-none}
 use Rattle.whole.proofs.Size.{some-size}
 use Rattle.account.specs.Measures.{at, weight-of, spread-of, weight-at}
 use Rattle.account.specs.Refusals.{outside, misfits, any-beyond, any-above, any-on-diagonal, size-rules, job-rules, account-lengths, account-rules, account-refusal}
-use Rattle.account.specs.Steps.{Sized, Valued, Weighted, Job}
+use Rattle.account.specs.Steps.{Sized, Weighted, Job}
 
 -- ---- what a rule that holds tells
 neither : (a b : Bool) → (a || b) ≡ false → (a ≡ false) × (b ≡ false)

@@ -1,15 +1,14 @@
--- How the measures add and compare, for any weights: equal parts give equal sums, the local numerators add up to P, and W, M and G
--- are not below 0. Assumes nothing.
+-- How the measures add, for any weights: equal deviations give equal local numerators, these add up to P, and W and M are not below 0.
+-- Assumes nothing.
 use mathlib.Core.Path.{_≡_, refl, sym, ap, _∙_}
 use Prim.Native.Nat.{ℕ, _<_}
 use lib.IntN.{ℤ, pos, natAbs, _-ℤ_, _*ℤ_}
-use Rattle.whole.specs.Integer.{square}
 use Rattle.whole.specs.Sum.{sum}
 use Rattle.whole.proofs.Integer.{*-left-comm}
 use Rattle.whole.proofs.Size.{square-above, *-above}
 use Rattle.whole.proofs.Sum.{sum-cong, sum-scale}
 use Rattle.whole.proofs.SumSize.{sum-above}
-use Rattle.account.specs.Measures.{spread-of, row-of, pairs-of, weight-of, cross-of, squares-of, local-of}
+use Rattle.account.specs.Measures.{spread-of, row-of, pairs-of, weight-of, cross-of, local-of}
 
 -- ---- deviations that agree give the same local numerators
 pub local-cong : (f : ℕ → ℕ → ℕ) (n : ℕ) (d e : ℕ → ℤ) → ((i : ℕ) → i < n → d i ≡ e i) → (i : ℕ) → i < n → local-of f d n i ≡ local-of f e n i
@@ -36,7 +35,3 @@ module _ (f : ℕ → ℕ → ℕ) (n : ℕ) where
   pub weight-above : weight-of f n ≡ pos (natAbs (weight-of f n))
   unfolding weight-of
   weight-above = pairs-above (λ i j. pos 1) (λ i j. refl)
-
-  pub squares-above : (x : ℕ → ℤ) → squares-of f x n ≡ pos (natAbs (squares-of f x n))
-  unfolding squares-of
-  squares-above x = pairs-above (λ i j. square (x i -ℤ x j)) (λ i j. square-above (x i -ℤ x j))

@@ -1,12 +1,10 @@
 -- What an answer of the account says, and that it says all: an answer is known by its number and its figures. Assumes nothing.
 use mathlib.Core.Path.{_≡_, refl, sym, ap, _∙_}
-use mathlib.Core.List.{List, [], _∷_}
+use mathlib.Core.List.{List}
 use Prim.Native.Nat.{ℕ}
 use native.Mathlib.Omega.{arith}
-use native.Mathlib.Decide.{ℕ-discrete}
 use borrow.Author.Tests.{eq-eqb, ne-eqb}
 use lib.IntN.{ℤ}
-use Rattle.account.specs.Measures.{at, total-of, deviation-of, spread-of, weight-of, cross-of, squares-of, weight-at}
 use Rattle.account.specs.Refusals.{account-refusal}
 use Rattle.account.specs.Answers.{number-of, figures-of, job-figures, job-locals, account-figures, account-locals}
 use Rattle.account.specs.declared.Sums.{Sums}

@@ -1,7 +1,7 @@
 -- The deviations and the local numerators as the code holds them in lists, and what is known of the sums that are told. Assumes nothing.
-use mathlib.Core.Path.{_≡_, sym, ap, _∙_}
+use mathlib.Core.Path.{_≡_, ap, _∙_}
 use mathlib.Core.List.{List}
-use Prim.Native.Nat.{ℕ, _≤_, _<_}
+use Prim.Native.Nat.{ℕ}
 use native.Mathlib.Nat as N
 use lib.IntN.{ℤ, pos}
 use Rattle.whole.specs.Sum.{sum}

@@ -1,6 +1,6 @@
 -- How large the measures of up to 64 zones can be, for values of at most 100,000 in size and any weights of at most 9; and sharper
 -- where no weight stands on the diagonal, so that every numerator and divisor is at most 6 × 10^18. Assumes nothing.
-use mathlib.Core.Path.{_≡_, refl, sym, ap, _∙_}
+use mathlib.Core.Path.{_≡_, ap, _∙_}
 use Prim.Native.Nat.{ℕ, zero, suc, _+_, _*_, _≤_, _<_}
 use native.Mathlib.Nat as N
 use native.Mathlib.Omega.{arith}

@@ -1,11 +1,11 @@
 -- What the buyer asks for by name, over the definitions of Measures, Limits, Refusals and Answers. Assumes nothing.
-use mathlib.Core.Path.{_≡_, refl, sym, ap, _∙_, subst}
+use mathlib.Core.Path.{_≡_, refl, sym, ap, _∙_}
 use mathlib.Core.List.{List}
-use mathlib.Core.Logic.{_⊎_, ⊎-elim}
-use Prim.Native.Nat.{ℕ, _+_, _*_, _-_, _≤_, _<_}
+use Prim.Native.Nat.{ℕ, _*_, _-_, _≤_, _<_}
 use native.Mathlib.Nat as N
 use native.Mathlib.Decide.{decLt, ℕ-discrete}
 use native.Mathlib.Omega.{arith}
+use borrow.Author.Tests.{eq-eqb}
 use lib.Dec.{le→leb}
 use lib.IntN.{ℤ, pos, natAbs, _-ℤ_, _*ℤ_, +ℤ-invr}
 use lib.Signed.{_≤ℤ_}
@@ -14,14 +14,18 @@ use Rattle.whole.specs.Sum.{sum}
 use Rattle.whole.proofs.Integer.{equal-of-diff}
 use Rattle.whole.proofs.Pairs.{deviations-squared}
 use Rattle.whole.proofs.Rules.{Applies, first-least, first-applies}
-use Rattle.whole.proofs.Size.{size-*, size-*-le, square-zero, square-above}
+use Rattle.whole.proofs.Size.{size-*-le, square-zero, square-above}
 use Rattle.whole.proofs.Sum.{sum-cong, sum-none}
 use Rattle.whole.proofs.SumSize.{sum-above, terms-zero}
 use Rattle.account.specs.Measures.{at, total-of, deviation-of, spread-of, weight-of, cross-of, squares-of, local-of, weight-at}
-use Rattle.account.specs.Limits.{limit, Limits}
+use Rattle.account.specs.Limits.{Limits}
 use Rattle.account.specs.Refusals.{job-rules, account-rules, account-refusal}
-use Rattle.account.proofs.Accepted.{Accepted, accepted}
+use Rattle.account.specs.Answers.{number-of, figures-of, job-figures, job-locals, account-figures, account-locals}
+use Rattle.account.specs.declared.Answer.{Answer}
+use Rattle.account.proofs.Accepted.{accepted}
 use Rattle.account.proofs.Adding as adding
+use Rattle.account.proofs.Answered as answered
+use Rattle.account.proofs.Locals.{locals-cross}
 use Rattle.account.proofs.Reading.{weight-le}
 use Rattle.account.proofs.Sizes.{deviation-size, spread-of-size, weight-sharp, squares-sharp, local-sharp, cross-sharp}
 
@@ -33,6 +37,16 @@ deviations-squared-sum x n = deviations-squared x n
 -- ---- the local numerators add up to P, whatever the weights
 pub locals-add-up : (f : ℕ → ℕ → ℕ) (x : ℕ → ℤ) (n : ℕ) → sum (λ i. local-of f (deviation-of x n) n i) n ≡ cross-of f (deviation-of x n) n
 locals-add-up f x n = adding.locals-sum f (deviation-of x n) n
+
+-- and those that the account leaves in the lent list to the P that it answers
+pub account-adds-up :
+    (n : ℕ) (values : List ℤ) (weights : List ℕ) (locals : List ℤ) →
+    account-refusal n values weights locals ≡ 0 →
+    sum (at (account-locals n values weights locals)) n ≡ at (account-figures n values weights locals) 3
+unfolding account-locals account-figures job-figures
+account-adds-up n values weights locals z =
+    let a = accepted n values weights locals z in
+    rw (eq-eqb (account-refusal n values weights locals) 0 z) (locals-cross values weights n (a .job) (job-locals n values weights) refl)
 
 -- ---- M is 0 exactly when all values are equal
 module _ (x : ℕ → ℤ) (n : ℕ) where
@@ -56,7 +70,12 @@ module _ (x : ℕ → ℤ) (n : ℕ) where
       sum-cong _ _ n (λ j p. sum-cong _ _ j (λ i q. ap (λ z. square (z -ℤ x j)) (same i j (omega arith) p) ∙ ap (λ z. z *ℤ z) (+ℤ-invr (x j))) ∙ sum-none j) ∙ sum-none n
 
 -- ---- every numerator and divisor is at most 6 × 10^18, whatever weights of at most 9 are counted off the diagonal
-pub within-limits : (f : ℕ → ℕ → ℕ) (x : ℕ → ℤ) (n : ℕ) → n ≤ 64 → ((i j : ℕ) → i < n → j < n → f i j ≤ 9) → ((i : ℕ) → i < n → f i i ≡ 0) → ((k : ℕ) → k < n → natAbs (x k) ≤ 100000) → Limits f x n
+pub within-limits :
+    (f : ℕ → ℕ → ℕ) (x : ℕ → ℤ) (n : ℕ) → n ≤ 64 →
+    ((i j : ℕ) → i < n → j < n → f i j ≤ 9) →
+    ((i : ℕ) → i < n → f i i ≡ 0) →
+    ((k : ℕ) → k < n → natAbs (x k) ≤ 100000) →
+    Limits f x n
 within-limits f x n zones light clear near =
     let d = deviation-size x n zones near in
     let w = weight-sharp f n zones light clear in
@@ -97,3 +116,7 @@ module _ (n : ℕ) (values : List ℤ) (weights : List ℕ) (locals : List ℤ) 
   pub refusal-least : (number : ℕ) → Applies number (account-rules n values weights locals) → account-refusal n values weights locals ≤ number
   unfolding account-refusal account-rules job-rules
   refusal-least number = first-least 0 number (account-rules n values weights locals) (tt, (tt, (tt, (tt, (tt, (tt, (tt, tt)))))))
+
+-- ---- an answer is known by its number and its figures, so that the contract leaves no second answer open
+pub answer-unique : (a b : Answer) → number-of a ≡ number-of b → figures-of a ≡ figures-of b → a ≡ b
+answer-unique = answered.answer-unique

@@ -3,7 +3,7 @@ use crate::differences;
 use crate::working;
 ghost use mathlib.Core.Path.{_≡_};
 ghost use mathlib.Core.List.{_++_};
-ghost use Prim.Native.Nat.{ℕ, _*_, _≤_};
+ghost use Prim.Native.Nat.{_*_, _≤_};
 ghost use lib.ListN.{length};
 ghost use Rattle.whole.specs.Rules.{first-broken};
 ghost use Rattle.account.specs.Refusals.{any-beyond, any-above, any-on-diagonal, size-rules, job-rules, account-lengths};

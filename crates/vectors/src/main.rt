@@ -5,7 +5,6 @@
 // tools/account_jobs.py makes the jobs, and what must be written, by an account of its own.
 use account::Answer;
 use account::Sums;
-ghost use mathlib.Core.Path.{_≡_};
 ghost use Prim.Native.Nat.{_+_, _*_, _<_, _≤_};
 ghost use lib.ListN.{length};
 

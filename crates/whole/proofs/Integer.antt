@@ -1,24 +1,21 @@
 -- Laws of ℤ that lib.IntN lacks: the product over a sum, its associativity and its sign. An identity of ℤ is proved by `omega`:
 -- every integer is a difference of two naturals, `diff a b`, and sums, negatives and products of differences are differences, so that
 -- the identity comes to one of ℕ, which `omega` multiplies out. Assumes nothing.
-use mathlib.Core.Path.{_≡_, refl, sym, ap, _∙_}
-use mathlib.Core.Bool.{Bool, true, false, cond}
-use Prim.Native.Nat.{ℕ, zero, suc, _+_, _*_, _-_}
+use mathlib.Core.Path.{_≡_, sym, ap, _∙_}
+use Prim.Native.Nat.{ℕ, zero, suc, _+_, _*_}
 use native.Mathlib.Nat as N
 use native.Mathlib.Omega.{arith}
-use lib.IntN.{ℤ, pos, negsuc, negℤ, natAbs, _+ℤ_, _-ℤ_, _*ℤ_, +ℤ-sucℤ, +ℤ-predℤ, -ℤ-one, +ℤ-idl, +ℤ-idr, +ℤ-assoc, +ℤ-comm, +ℤ-invr, +ℤ-invl, negℤ-+ℤ, negℤ-negℤ, zero-*ℤ, *ℤ-comm, sucℤ-*ℤ, predℤ-*ℤ}
-use borrow.Author.Tests.{ltb-false}
-use lib.Dec.{ltb}
+use lib.IntN.{ℤ, pos, negsuc, negℤ, _+ℤ_, _-ℤ_, _*ℤ_, +ℤ-sucℤ, +ℤ-predℤ, -ℤ-one, +ℤ-idl, +ℤ-idr, +ℤ-assoc, +ℤ-comm, +ℤ-invr, +ℤ-invl, negℤ-+ℤ, negℤ-negℤ, zero-*ℤ, *ℤ-comm, sucℤ-*ℤ, predℤ-*ℤ}
 
 -- ---- sums of three and four
-pub +-left-comm : (a b c : ℤ) → a +ℤ (b +ℤ c) ≡ b +ℤ (a +ℤ c)
++-left-comm : (a b c : ℤ) → a +ℤ (b +ℤ c) ≡ b +ℤ (a +ℤ c)
 +-left-comm a b c = sym (+ℤ-assoc a b c) ∙ ap (λ x. x +ℤ c) (+ℤ-comm a b) ∙ +ℤ-assoc b a c
 
 pub +-swap : (a b c d : ℤ) → (a +ℤ b) +ℤ (c +ℤ d) ≡ (a +ℤ c) +ℤ (b +ℤ d)
 +-swap a b c d = +ℤ-assoc a b (c +ℤ d) ∙ ap (λ x. a +ℤ x) (+-left-comm b c d) ∙ sym (+ℤ-assoc a c (b +ℤ d))
 
 -- ---- the product over a sum
-pub *-dist-r : (m n k : ℤ) → (m +ℤ n) *ℤ k ≡ m *ℤ k +ℤ n *ℤ k
+*-dist-r : (m n k : ℤ) → (m +ℤ n) *ℤ k ≡ m *ℤ k +ℤ n *ℤ k
 *-dist-r m (pos zero) k = ap (λ x. x *ℤ k) (+ℤ-idr m) ∙ sym (ap (λ x. m *ℤ k +ℤ x) (zero-*ℤ k) ∙ +ℤ-idr (m *ℤ k))
 *-dist-r m (pos (suc n)) k =
     ap (λ x. x *ℤ k) (+ℤ-sucℤ m (pos n)) ∙ sucℤ-*ℤ (m +ℤ pos n) k ∙ ap (λ x. x +ℤ k) (*-dist-r m (pos n) k) ∙ +ℤ-assoc (m *ℤ k) (pos n *ℤ k) k ∙ ap (λ x. m *ℤ k +ℤ x) (sym (sucℤ-*ℤ (pos n) k))
@@ -35,10 +32,10 @@ pub *-dist-l : (k m n : ℤ) → k *ℤ (m +ℤ n) ≡ k *ℤ m +ℤ k *ℤ n
 neg-unique : (a b : ℤ) → a +ℤ b ≡ pos zero → b ≡ negℤ a
 neg-unique a b h = sym (+ℤ-idl b) ∙ ap (λ x. x +ℤ b) (sym (+ℤ-invl a)) ∙ +ℤ-assoc (negℤ a) a b ∙ ap (λ x. negℤ a +ℤ x) h ∙ +ℤ-idr (negℤ a)
 
-pub neg-* : (m k : ℤ) → negℤ m *ℤ k ≡ negℤ (m *ℤ k)
+neg-* : (m k : ℤ) → negℤ m *ℤ k ≡ negℤ (m *ℤ k)
 neg-* m k = neg-unique (m *ℤ k) (negℤ m *ℤ k) (sym (*-dist-r m (negℤ m) k) ∙ ap (λ x. x *ℤ k) (+ℤ-invr m) ∙ zero-*ℤ k)
 
-pub *-neg : (m k : ℤ) → m *ℤ negℤ k ≡ negℤ (m *ℤ k)
+*-neg : (m k : ℤ) → m *ℤ negℤ k ≡ negℤ (m *ℤ k)
 *-neg m k = *ℤ-comm m (negℤ k) ∙ neg-* k m ∙ ap negℤ (*ℤ-comm k m)
 
 -- ---- a difference of two naturals. Shut, so that the laws below are all that a proof sees of it, but for its size
@@ -83,25 +80,9 @@ diff-shift : (a b k : ℕ) → diff (a + k) (b + k) ≡ diff a b
 unfolding diff
 diff-shift a b k = sym (diff-+ a b k k) ∙ ap (λ x. diff a b +ℤ x) (+ℤ-invr (pos k)) ∙ +ℤ-idr (diff a b)
 
--- differences are equal where the crossed sums are, and only there
+-- differences are equal where the crossed sums are
 pub diff-eq : (a b c d : ℕ) → a + d ≡ c + b → diff a b ≡ diff c d
 diff-eq a b c d h = sym (diff-shift a b d) ∙ ap (λ x. diff x (b + d)) h ∙ ap (λ x. diff (c + b) x) (N.add-comm b d) ∙ diff-shift c d b
-
-diff-zero : (a b : ℕ) → diff a b ≡ pos 0 → a ≡ b
-unfolding diff
-diff-zero a zero e = ap natAbs (sym (+ℤ-idr (pos a)) ∙ e)
-diff-zero a (suc b) e = go a b (ltb a (suc b)) refl e
-  where
-    go : (a b : ℕ) (t : Bool) → ltb a (suc b) ≡ t → cond t (negsuc (suc b - suc a)) (pos (a - suc b)) ≡ pos 0 → a ≡ suc b
-    go a b true p e = let z = ap natAbs e in let h : ⊥ = omega arith in absurd h
-    go a b false p e = let z = ap natAbs e in let q = ltb-false a (suc b) p in omega arith
-
-pub diff-inj : (a b c d : ℕ) → diff a b ≡ diff c d → a + d ≡ c + b
-diff-inj a b c d e =
-    diff-zero (a + d) (c + b) (sym (crossed a b c d) ∙ ap (λ x. x +ℤ diff d c) e ∙ diff-+ c d d c ∙ diff-eq (c + d) (d + c) 0 0 (omega arith) ∙ sym (diff-pos 0))
-  where
-    crossed : (a b c d : ℕ) → diff a b +ℤ diff d c ≡ diff (a + d) (c + b)
-    crossed a b c d = diff-+ a b d c ∙ ap (λ x. diff (a + d) x) (N.add-comm b c)
 
 -- ---- identities, by `omega`
 pub *-assoc : (a b c : ℤ) → (a *ℤ b) *ℤ c ≡ a *ℤ (b *ℤ c)

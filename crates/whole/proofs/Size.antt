@@ -1,5 +1,5 @@
 -- The size of an integer, `natAbs`: of a sum, a product, a square; and integers that are not below 0. Assumes nothing.
-use mathlib.Core.Path.{_≡_, refl, sym, ap, _∙_}
+use mathlib.Core.Path.{_≡_, refl, ap, _∙_}
 use mathlib.Core.Bool.{Bool, true, false, cond}
 use Prim.Native.Nat.{ℕ, zero, suc, _+_, _*_, _-_, _≤_, _<_, _^_}
 use native.Mathlib.Nat as N

@@ -8,7 +8,7 @@ use native.Mathlib.Decide.{ℕ-discrete}
 use native.Mathlib.Omega.{arith}
 use borrow.Author.Tests.{eq-eqb, ne-eqb}
 use lib.Dec.{eqb}
-use lib.IntN.{ℤ, pos, negℤ, _+ℤ_, _*ℤ_, +ℤ-idl, +ℤ-idr, +ℤ-assoc, zero-*ℤ, *ℤ-zero, negℤ-+ℤ}
+use lib.IntN.{ℤ, pos, _+ℤ_, _*ℤ_, +ℤ-idl, +ℤ-idr, +ℤ-assoc, zero-*ℤ, *ℤ-zero}
 use Rattle.whole.specs.Sum.{sum}
 use Rattle.whole.proofs.Integer.{+-swap, *-dist-l, diff-of, diff-pos, diff-+, diff-*, diff-eq}
 
@@ -30,11 +30,6 @@ pub sum-+ : (f g : ℕ → ℤ) (n : ℕ) → sum (λ k. f k +ℤ g k) n ≡ sum
 unfolding sum
 sum-+ f g zero = refl
 sum-+ f g (suc n) = ap (λ x. x +ℤ (f n +ℤ g n)) (sum-+ f g n) ∙ +-swap (sum f n) (sum g n) (f n) (g n)
-
-pub sum-neg : (f : ℕ → ℤ) (n : ℕ) → sum (λ k. negℤ (f k)) n ≡ negℤ (sum f n)
-unfolding sum
-sum-neg f zero = refl
-sum-neg f (suc n) = ap (λ x. x +ℤ negℤ (f n)) (sum-neg f n) ∙ sym (negℤ-+ℤ (sum f n) (f n))
 
 pub sum-scale : (c : ℤ) (f : ℕ → ℤ) (n : ℕ) → sum (λ k. c *ℤ f k) n ≡ c *ℤ sum f n
 unfolding sum

@@ -1,6 +1,5 @@
 -- `account` meets its contract: judged first, and worked only where no rule is broken. Assumes nothing.
-use mathlib.Core.Path.{_≡_, refl, sym, ap, _∙_}
-use Prim.Native.Nat.{ℕ}
+use mathlib.Core.Path.{_≡_, sym, _∙_}
 use Rattle.account.specs.Refusals.{account-rules, account-refusal}
 use Rattle.account.specs.Answers.{figures-of}
 use Rattle.account.proofs.Accepted.{Accepted, accepted}

@@ -1,13 +1,12 @@
 -- `deviations` meets its contract. The loop's invariant: each element passed is its deviation. Assumes nothing.
-use mathlib.Core.Path.{_≡_, ap}
-use Prim.Native.Nat.{ℕ, _+_, _-_, _≤_, _<_}
+use mathlib.Core.Path.{_≡_}
+use Prim.Native.Nat.{ℕ, _-_, _≤_, _<_}
 use native.Mathlib.Nat as N
 use native.Mathlib.Omega.{arith}
 use lib.IntN.{pos, _-ℤ_, _*ℤ_}
 use lib.ListN.{length, length-set}
 use mir.Syntax.{w64}
 use mir.Val.{toZ}
-use Rattle.whole.specs.Sum.{sum}
 use Rattle.whole.proofs.Machine.{Is, nat, told, rd, is--, is-*, fit, fits-le, r32, r64}
 use Rattle.whole.proofs.Table.{is-table, stored}
 use Rattle.account.specs.Measures.{at, total-of, deviation-of}

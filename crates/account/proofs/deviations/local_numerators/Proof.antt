@@ -1,6 +1,6 @@
 -- `local_numerators` meets its contract. The loop's invariant: each element passed is its local numerator. Assumes nothing.
-use mathlib.Core.Path.{_≡_, ap}
-use Prim.Native.Nat.{ℕ, _+_, _-_, _≤_, _<_}
+use mathlib.Core.Path.{_≡_}
+use Prim.Native.Nat.{ℕ, _-_, _≤_, _<_}
 use native.Mathlib.Nat as N
 use native.Mathlib.Omega.{arith}
 use lib.IntN.{pos, _*ℤ_}

@@ -1,6 +1,6 @@
 -- `squares_before` meets its contract. The loop's invariant: the accumulator's bits are those of the sum over the zones passed. Assumes nothing.
-use mathlib.Core.Path.{_≡_, ap, _∙_}
-use Prim.Native.Nat.{ℕ, _+_, _-_, _≤_}
+use mathlib.Core.Path.{_≡_, ap}
+use Prim.Native.Nat.{_+_, _-_, _≤_}
 use native.Mathlib.Omega.{arith}
 use lib.IntN.{ℤ, _+ℤ_, _-ℤ_}
 use mir.Syntax.{w64}
@@ -8,7 +8,7 @@ use mir.Val.{toZ, ofZ}
 use Rattle.whole.specs.Integer.{square}
 use Rattle.whole.specs.Sum.{sum}
 use Rattle.whole.proofs.Accumulate.{acc-none, acc-more, acc-done}
-use Rattle.whole.proofs.Machine.{Is, told, rd, fit, r64}
+use Rattle.whole.proofs.Machine.{Is, rd, fit, r64}
 use Rattle.account.specs.Measures.{at}
 use Rattle.account.proofs.Reading.{read-le, difference-told}
 use Rattle.account.proofs.Running.{before-runs}

@@ -1,5 +1,5 @@
 -- `judge_account` meets its contract: the sizes' number where there is one, else the job's. Assumes nothing.
-use mathlib.Core.Path.{_≡_, sym, _∙_}
+use mathlib.Core.Path.{sym, _∙_}
 use mathlib.Core.List.{List}
 use lib.ListN.{length}
 use Rattle.whole.specs.Rules.{Rule}
