@@ -27,7 +27,9 @@ in-range lowest highest n e = let f = neither (ltb n lowest) (ltb highest n) e i
 
 -- the first of some lengths is as it must be, and so are the others
 pub fits : (found wanted : ℕ) (others : List (ℕ × ℕ)) → misfits ((found, wanted) ∷ others) ≡ false → (found ≡ wanted) × (misfits others ≡ false)
-fits found wanted others e = let f = neither (not (eqb found wanted)) (misfits others) e in (eqb-true found wanted (not-false (eqb found wanted) (f .0)), f .1)
+fits found wanted others e =
+    let f = neither (not (eqb found wanted)) (misfits others) e in
+    (eqb-true found wanted (not-false (eqb found wanted) (f .0)), f .1)
 
 pub near : (limit : ℕ) (numbers : List ℤ) (n : ℕ) → length numbers ≡ n → any-beyond limit numbers ≡ false → Sized limit numbers n
 unfolding any-beyond
@@ -55,7 +57,8 @@ pub record Fitting (n values weights locals : ℕ) : Type 0 where
   pub weights-fit : weights ≡ n * n
   pub locals-fit : locals ≡ n
 
-pub fitting : (n values weights locals : ℕ) → first-broken (size-rules n (account-lengths n values weights locals)) ≡ 0 → Fitting n values weights locals
+pub fitting :
+    (n values weights locals : ℕ) → first-broken (size-rules n (account-lengths n values weights locals)) ≡ 0 → Fitting n values weights locals
 fitting n values weights locals e =
     let e1 = holds (outside 2 64 n) 0 _ e in
     let e2 = holds (misfits (account-lengths n values weights locals)) 1 _ (e1 .1) in
@@ -74,10 +77,12 @@ pub record Accepted (n : ℕ) (values : List ℤ) (weights : List ℕ) (locals :
   pub varied : 1 ≤ natAbs (spread-of (at values) n)
   pub room : length locals ≡ n
 
-pub accepted : (n : ℕ) (values : List ℤ) (weights : List ℕ) (locals : List ℤ) → account-refusal n values weights locals ≡ 0 → Accepted n values weights locals
+pub accepted :
+    (n : ℕ) (values : List ℤ) (weights : List ℕ) (locals : List ℤ) → account-refusal n values weights locals ≡ 0 → Accepted n values weights locals
 unfolding account-refusal account-rules job-rules
 accepted n values weights locals e =
-    let both = first-none (job-rules n values weights) 0 (size-rules n (account-lengths n (length values) (length weights) (length locals))) (tt, (tt, tt)) e in
+    let both =
+    first-none (job-rules n values weights) 0 (size-rules n (account-lengths n (length values) (length weights) (length locals))) (tt, (tt, tt)) e in
     let f = fitting n (length values) (length weights) (length locals) (both .0) in
     let e3 = holds (any-beyond 100000 values) 2 _ (both .1) in
     let e4 = holds (any-above 9 weights) 3 _ (e3 .1) in

@@ -20,7 +20,8 @@ local-cong f n d e same i p =
 -- ---- the local numerators add up to P
 pub locals-sum : (f : ℕ → ℕ → ℕ) (d : ℕ → ℤ) (n : ℕ) → sum (λ i. local-of f d n i) n ≡ cross-of f d n
 unfolding local-of cross-of pairs-of row-of
-locals-sum f d n = sum-cong _ _ n (λ i p. sym (sum-scale (d i) (λ j. pos (f i j) *ℤ d j) n) ∙ sum-cong _ _ n (λ j q. *-left-comm (d i) (pos (f i j)) (d j)))
+locals-sum f d n =
+    sum-cong _ _ n (λ i p. sym (sum-scale (d i) (λ j. pos (f i j) *ℤ d j) n) ∙ sum-cong _ _ n (λ j q. *-left-comm (d i) (pos (f i j)) (d j)))
 
 -- ---- not below 0
 pub spread-above : (x : ℕ → ℤ) (n : ℕ) → spread-of x n ≡ pos (natAbs (spread-of x n))

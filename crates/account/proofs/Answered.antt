@@ -11,7 +11,11 @@ use Rattle.account.specs.declared.Sums.{Sums}
 use Rattle.account.specs.declared.Answer.{Answer}
 use Rattle.account.specs.declared.Answer.the-variants.{Refused, Accounted}
 
-sums-same : (a b c d e a′ b′ c′ d′ e′ : ℤ) → a ≡ a′ → b ≡ b′ → c ≡ c′ → d ≡ d′ → e ≡ e′ → _≡_ {A = Sums} (record { total = a; spread = b; weight = c; cross = d; squares = e }) (record { total = a′; spread = b′; weight = c′; cross = d′; squares = e′ })
+sums-same :
+    (a b c d e a′ b′ c′ d′ e′ : ℤ) → a ≡ a′ → b ≡ b′ → c ≡ c′ → d ≡ d′ → e ≡ e′ →
+    _≡_ {A =
+    Sums} (record { total = a; spread = b; weight = c; cross = d; squares = e }) (record
+    { total = a′; spread = b′; weight = c′; cross = d′; squares = e′ })
 sums-same a b c d e a′ b′ c′ d′ e′ p q r s t = rw (p, q, r, s, t) refl
 
 -- two answers that say the same are the same
@@ -36,6 +40,8 @@ module _ (n : ℕ) (values : List ℤ) (weights : List ℕ) (locals : List ℤ) 
   refused k e f = let q = ne-eqb (account-refusal n values weights locals) 0 (λ z. f (e ∙ z)) in (e, (rw q refl, rw q refl))
 
   -- the sums, and the local numerators
-  pub accounted : (sums : Sums) (left : List ℤ) → account-refusal n values weights locals ≡ 0 → figures-of (Accounted sums) ≡ job-figures n values weights → left ≡ job-locals n values weights → Promised (Accounted sums) left
+  pub accounted :
+      (sums : Sums) (left : List ℤ) → account-refusal n values weights locals ≡ 0 → figures-of (Accounted sums) ≡ job-figures n values weights →
+      left ≡ job-locals n values weights → Promised (Accounted sums) left
   unfolding number-of account-figures account-locals
   accounted sums left z e g = let q = eq-eqb (account-refusal n values weights locals) 0 z in (sym z, (rw q e, rw q g))

@@ -42,9 +42,12 @@ module _ (values : List ℤ) (n : ℕ) (v : Valued values n) where
   read-le k h = rw (value-is k h .same) (v .near .size k h)
 
   -- what `squared_difference` answers of two
-  pub difference-told : {y : ℤ} (i j : ℕ) → i < n → j < n → y ≡ square (r32 (at values i) -ℤ r32 (at values j)) → Is y (square (at values i -ℤ at values j)) 40000000000
+  pub difference-told :
+      {y : ℤ} (i j : ℕ) → i < n → j < n → y ≡ square (r32 (at values i) -ℤ r32 (at values j)) → Is y (square (at values i -ℤ at values j)) 40000000000
   difference-told i j h k e =
-      told (square (at values i -ℤ at values j)) 40000000000 (e ∙ ap (λ z. square (z -ℤ r32 (at values j))) (value-is i h .same) ∙ ap (λ z. square (at values i -ℤ z)) (value-is j k .same)) (square-size (at values) n (v .zones) (v .near .size) i j h k)
+      told (square (at values i -ℤ at values j)) 40000000000
+      (e ∙ ap (λ z. square (z -ℤ r32 (at values j))) (value-is i h .same) ∙ ap (λ z. square (at values i -ℤ z)) (value-is j k .same))
+      (square-size (at values) n (v .zones) (v .near .size) i j h k)
 
 -- ---- the weights
 module _ (weights : List ℕ) (n : ℕ) (w : Weighted weights n) where
@@ -58,4 +61,6 @@ module _ (weights : List ℕ) (n : ℕ) (w : Weighted weights n) where
   -- summed along the list they are W
   pub flat-weight : sum (λ k. pos (getD weights k 0)) (n * n) ≡ weight-of (weight-at weights n) n
   unfolding weight-of pairs-of row-of weight-at
-  flat-weight = sum-rows (λ k. pos (getD weights k 0)) n n ∙ sum-cong _ _ n (λ i p. sum-cong _ _ n (λ j q. ap pos (sym (N.mul-one (getD weights (i * n + j) 0)))))
+  flat-weight =
+      sum-rows (λ k. pos (getD weights k 0)) n n
+      ∙ sum-cong _ _ n (λ i p. sum-cong _ _ n (λ j q. ap pos (sym (N.mul-one (getD weights (i * n + j) 0)))))

@@ -53,12 +53,14 @@ module _ (values : List ℤ) (weights : List ℕ) (n : ℕ) (r : Job values weig
 
   pub row-squares-run : (i : ℕ) → i < n → Bounded w64 (λ j. pos (weight-at weights n i j) *ℤ square (at values i -ℤ at values j)) n 23040000000000
   row-squares-run i h = record {
-    bound = λ m k. row-size (weight-at weights n) (λ i j. square (at values i -ℤ at values j)) n 40000000000 (r .weighted .zones) (weight-le weights n (r .weighted)) differences i m h k;
+    bound =
+        λ m k. row-size (weight-at weights n) (λ i j. square (at values i -ℤ at values j)) n 40000000000 (r .weighted .zones) (weight-le weights n (r .weighted)) differences i m h k;
     small = tt;
   }
 
   pub squares-run : Bounded w64 (λ i. row-of (weight-at weights n) (λ i j. square (at values i -ℤ at values j)) i n) n 1474560000000000
   squares-run = record {
-    bound = rows-size (weight-at weights n) (λ i j. square (at values i -ℤ at values j)) n 40000000000 (r .weighted .zones) (weight-le weights n (r .weighted)) differences;
+    bound =
+        rows-size (weight-at weights n) (λ i j. square (at values i -ℤ at values j)) n 40000000000 (r .weighted .zones) (weight-le weights n (r .weighted)) differences;
     small = tt;
   }

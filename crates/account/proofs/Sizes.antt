@@ -27,7 +27,8 @@ module _ (x : ℕ → ℤ) (n : ℕ) (zones : n ≤ 64) (near : (k : ℕ) → k 
 
   pub deviation-size : (i : ℕ) → i < n → natAbs (deviation-of x n i) ≤ 12800000
   unfolding deviation-of total-of
-  deviation-size i h = size---le (pos n *ℤ x i) (sum x n) 6400000 6400000 (size-*-le (pos n) (x i) 64 100000 zones (near i h)) (total-size n (omega arith))
+  deviation-size i h =
+      size---le (pos n *ℤ x i) (sum x n) 6400000 6400000 (size-*-le (pos n) (x i) 64 100000 zones (near i h)) (total-size n (omega arith))
 
   pub square-size : (i j : ℕ) → i < n → j < n → natAbs (square (x i -ℤ x j)) ≤ 40000000000
   square-size i j h k = let e = size---le (x i) (x j) 100000 100000 (near i h) (near j k) in size-*-le (x i -ℤ x j) (x i -ℤ x j) 200000 200000 e e
@@ -52,12 +53,16 @@ module _ (f : ℕ → ℕ → ℕ) (h : ℕ → ℕ → ℤ) (n b : ℕ) (zones 
 
   -- the first m of a row
   pub row-size : (i m : ℕ) → i < n → m ≤ n → natAbs (sum (λ j. pos (f i j) *ℤ h i j) m) ≤ 64 * (9 * b)
-  row-size i m p q = N.le-trans (sum-size (λ j. pos (f i j) *ℤ h i j) m (9 * b) (λ j r. term-size i j p (omega arith))) (N.mul-le-mul-right (9 * b) (N.le-trans q zones))
+  row-size i m p q =
+      N.le-trans (sum-size (λ j. pos (f i j) *ℤ h i j) m (9 * b) (λ j r. term-size i j p (omega arith)))
+      (N.mul-le-mul-right (9 * b) (N.le-trans q zones))
 
   -- the first m rows
   pub rows-size : (m : ℕ) → m ≤ n → natAbs (sum (λ i. row-of f h i n) m) ≤ 64 * (64 * (9 * b))
   unfolding row-of
-  rows-size m q = N.le-trans (sum-size (λ i. row-of f h i n) m (64 * (9 * b)) (λ i r. row-size i n (omega arith) (omega arith))) (N.mul-le-mul-right (64 * (9 * b)) (N.le-trans q zones))
+  rows-size m q =
+      N.le-trans (sum-size (λ i. row-of f h i n) m (64 * (9 * b)) (λ i r. row-size i n (omega arith) (omega arith)))
+      (N.mul-le-mul-right (64 * (9 * b)) (N.le-trans q zones))
 
   -- where no weight stands on the diagonal
   module _ (clear : (i : ℕ) → i < n → f i i ≡ 0) where
@@ -83,7 +88,9 @@ module _ (f : ℕ → ℕ → ℕ) (n : ℕ) (zones : n ≤ 64) (light : (i j : 
   module _ (d : ℕ → ℤ) (small : (i : ℕ) → i < n → natAbs (d i) ≤ 12800000) where
     pub local-size : (i : ℕ) → i < n → natAbs (local-of f d n i) ≤ 94371840000000000
     unfolding local-of row-of
-    local-size i p = size-*-le (d i) (row-of f (λ i j. d j) i n) 12800000 7372800000 (small i p) (row-size f (λ i j. d j) n 12800000 zones light (λ i j p q. small j q) i n p (omega arith))
+    local-size i p =
+        size-*-le (d i) (row-of f (λ i j. d j) i n) 12800000 7372800000 (small i p)
+        (row-size f (λ i j. d j) n 12800000 zones light (λ i j p q. small j q) i n p (omega arith))
 
     pub cross-size : natAbs (cross-of f d n) ≤ 6039797760000000000
     cross-size = rw (← locals-sum f d n) (omega (arith, sum-size (λ i. local-of f d n i) n 94371840000000000 local-size))
@@ -100,7 +107,9 @@ module _ (f : ℕ → ℕ → ℕ) (n : ℕ) (zones : n ≤ 64) (light : (i j : 
     module _ (d : ℕ → ℤ) (small : (i : ℕ) → i < n → natAbs (d i) ≤ 12800000) where
       pub local-sharp : (i : ℕ) → i < n → natAbs (local-of f d n i) ≤ 92897280000000000
       unfolding local-of
-      local-sharp i p = size-*-le (d i) (row-of f (λ i j. d j) i n) 12800000 7257600000 (small i p) (row-sharp f (λ i j. d j) n 12800000 zones light (λ i j p q. small j q) clear i p)
+      local-sharp i p =
+          size-*-le (d i) (row-of f (λ i j. d j) i n) 12800000 7257600000 (small i p)
+          (row-sharp f (λ i j. d j) n 12800000 zones light (λ i j p q. small j q) clear i p)
 
       pub cross-sharp : natAbs (cross-of f d n) ≤ 5945425920000000000
       cross-sharp = rw (← locals-sum f d n) (omega (arith, sum-size (λ i. local-of f d n i) n 92897280000000000 local-sharp))

@@ -67,7 +67,9 @@ module _ (x : ℕ → ℤ) (n : ℕ) where
   pub zero-when-equal : ((i j : ℕ) → i < n → j < n → x i ≡ x j) → spread-of x n ≡ pos 0
   unfolding spread-of
   zero-when-equal same =
-      sum-cong _ _ n (λ j p. sum-cong _ _ j (λ i q. ap (λ z. square (z -ℤ x j)) (same i j (omega arith) p) ∙ ap (λ z. z *ℤ z) (+ℤ-invr (x j))) ∙ sum-none j) ∙ sum-none n
+      sum-cong _ _ n
+      (λ j p. sum-cong _ _ j (λ i q. ap (λ z. square (z -ℤ x j)) (same i j (omega arith) p) ∙ ap (λ z. z *ℤ z) (+ℤ-invr (x j))) ∙ sum-none j) ∙
+      sum-none n
 
 -- ---- every numerator and divisor is at most 6 × 10^18, whatever weights of at most 9 are counted off the diagonal
 pub within-limits :
@@ -84,8 +86,14 @@ within-limits f x n zones light clear near =
     record {
       moran-numerator = omega (arith, cross-sharp f n zones light clear (deviation-of x n) d);
       moran-divisor = omega (arith, size-*-le (weight-of f n) (spread-of x n) 36288 80640000000000 w m);
-      geary-numerator = omega (arith, size-*-le (pos ((n - 1) * n)) (squares-of f x n) 4032 1451520000000000 (N.mul-le-mul {n₂ = 63} {m₂ = 64} (omega arith) zones) g);
-      geary-divisor = omega (arith, size-*-le (pos 2 *ℤ weight-of f n) (spread-of x n) 72576 80640000000000 (size-*-le (pos 2) (weight-of f n) 2 36288 (N.le-refl 2) w) m);
+      geary-numerator =
+          omega (
+            arith,
+            size-*-le (pos ((n - 1) * n)) (squares-of f x n) 4032 1451520000000000 (N.mul-le-mul {n₂ =
+                63} {m₂ = 64} (omega arith) zones) g,
+          );
+      geary-divisor =
+          omega (arith, size-*-le (pos 2 *ℤ weight-of f n) (spread-of x n) 72576 80640000000000 (size-*-le (pos 2) (weight-of f n) 2 36288 (N.le-refl 2) w) m);
       local-numerator = λ i h. omega (arith, local-sharp f n zones light clear (deviation-of x n) d i h);
       local-divisor = omega arith;
     }
@@ -109,7 +117,8 @@ module _ (n : ℕ) (values : List ℤ) (weights : List ℕ) (locals : List ℤ) 
 
 -- ---- the refusal is the least number that applies: it applies, and no number below it does
 module _ (n : ℕ) (values : List ℤ) (weights : List ℕ) (locals : List ℤ) where
-  pub refusal-applies : (account-refusal n values weights locals ≡ 0 → ⊥) → Applies (account-refusal n values weights locals) (account-rules n values weights locals)
+  pub refusal-applies :
+      (account-refusal n values weights locals ≡ 0 → ⊥) → Applies (account-refusal n values weights locals) (account-rules n values weights locals)
   unfolding account-refusal
   refusal-applies = first-applies (account-rules n values weights locals)
 

@@ -58,7 +58,8 @@ account-lengths n values weights locals = (values, n) ∷ (weights, n * n) ∷ (
 
 -- 1 to 7
 unfoldable pub account-rules : ℕ → List ℤ → List ℕ → List ℤ → List Rule
-account-rules n values weights locals = size-rules n (account-lengths n (length values) (length weights) (length locals)) ++ job-rules n values weights
+account-rules n values weights locals =
+    size-rules n (account-lengths n (length values) (length weights) (length locals)) ++ job-rules n values weights
 
 -- its refusal, 0 where no rule is broken
 unfoldable pub account-refusal : ℕ → List ℤ → List ℕ → List ℤ → ℕ

@@ -73,7 +73,9 @@ r64 z = toZ w64 (ofZ w64 z)
 
 -- ---- y, which is z, compared with 0: the test is one of its bits
 pub zero-yes : (w : Width) {y z : ℤ} {b : ℕ} → Is y z b → T (ltb b (2 ^ hbits w)) → ofZ w y ≡ ofZ w (pos 0) → is-zero z ≡ true
-zero-yes w {y} {z} {b} i t e = eq-eqb (natAbs z) 0 (ap natAbs (sym (back w z b (i .size) t) ∙ ap (λ (x : ℤ). toZ w (ofZ w x)) (sym (i .same)) ∙ ap (toZ w) e ∙ back w (pos 0) b zero-le t))
+zero-yes w {y} {z} {b} i t e =
+    eq-eqb (natAbs z) 0
+    (ap natAbs (sym (back w z b (i .size) t) ∙ ap (λ (x : ℤ). toZ w (ofZ w x)) (sym (i .same)) ∙ ap (toZ w) e ∙ back w (pos 0) b zero-le t))
 
 pub zero-no : (w : Width) {y z : ℤ} → y ≡ z → (ofZ w y ≡ ofZ w (pos 0) → ⊥) → is-zero z ≡ false
 zero-no w {y} {z} i f = ne-eqb (natAbs z) 0 (λ e. f (ap (ofZ w) (i ∙ zero-of-size z e)))

@@ -16,8 +16,11 @@ square-diff a b = rw (diff-of a, diff-of b) (simp (diff-+, diff-*, diff-neg) (di
 square-* : (a b : ℤ) → square (a *ℤ b) ≡ square a *ℤ square b
 square-* a b = rw (diff-of a, diff-of b) (simp diff-* (diff-eq _ _ _ _ (omega arith)))
 
-one-more : (n : ℕ) (q s b : ℤ) → (pos n *ℤ q -ℤ square s) +ℤ ((q +ℤ negℤ (b +ℤ b) *ℤ s) +ℤ pos n *ℤ square b) ≡ pos (suc n) *ℤ (q +ℤ square b) -ℤ square (s +ℤ b)
-one-more n q s b = rw (diff-of q, diff-of s, diff-of b, diff-pos n, diff-pos (suc n)) (simp (diff-+, diff-*, diff-neg) (diff-eq _ _ _ _ (omega arith)))
+one-more :
+    (n : ℕ) (q s b : ℤ) →
+    (pos n *ℤ q -ℤ square s) +ℤ ((q +ℤ negℤ (b +ℤ b) *ℤ s) +ℤ pos n *ℤ square b) ≡ pos (suc n) *ℤ (q +ℤ square b) -ℤ square (s +ℤ b)
+one-more n q s b =
+    rw (diff-of q, diff-of s, diff-of b, diff-pos n, diff-pos (suc n)) (simp (diff-+, diff-*, diff-neg) (diff-eq _ _ _ _ (omega arith)))
 
 collect : (c q s : ℤ) → (square c *ℤ q +ℤ negℤ (s +ℤ s) *ℤ c *ℤ s) +ℤ c *ℤ square s ≡ c *ℤ (c *ℤ q -ℤ square s)
 collect c q s = rw (diff-of q, diff-of s, diff-of c) (simp (diff-+, diff-*, diff-neg) (diff-eq _ _ _ _ (omega arith)))
@@ -53,7 +56,8 @@ module _ (f : ℕ → ℤ) where
   unfolding sum
   pairs-sum zero = refl
   pairs-sum (suc n) =
-      ap (λ z. z +ℤ sum (λ i. square (f i -ℤ f n)) n) (pairs-sum n) ∙ ap (λ z. (pos n *ℤ squares n -ℤ square (sum f n)) +ℤ z) (to-one (f n) n) ∙ one-more n (squares n) (sum f n) (f n)
+      ap (λ z. z +ℤ sum (λ i. square (f i -ℤ f n)) n) (pairs-sum n) ∙ ap (λ z. (pos n *ℤ squares n -ℤ square (sum f n)) +ℤ z) (to-one (f n) n) ∙
+      one-more n (squares n) (sum f n) (f n)
 
   pub deviations-squared : (n : ℕ) → sum (λ k. square (pos n *ℤ f k -ℤ sum f n)) n ≡ pos n *ℤ sum (λ j. sum (λ i. square (f i -ℤ f j)) j) n
   deviations-squared n =

@@ -34,7 +34,8 @@ module _ (rest : List Rule) where
   first-next k ((false, m) ∷ rules) g e = first-next m rules (g .1) e
 
   -- where none of both is broken, none of either is
-  pub first-none : (k : ℕ) (rules : List Rule) → Rising k rules → first-broken (rules ++ rest) ≡ 0 → (first-broken rules ≡ 0) × (first-broken rest ≡ 0)
+  pub first-none :
+      (k : ℕ) (rules : List Rule) → Rising k rules → first-broken (rules ++ rest) ≡ 0 → (first-broken rules ≡ 0) × (first-broken rest ≡ 0)
   first-none k [] g e = (refl, e)
   first-none k ((true, m) ∷ rules) g e = let h = ltb→lt k m (g .0) in let z : ⊥ = omega arith in absurd z
   first-none k ((false, m) ∷ rules) g e = first-none m rules (g .1) e
@@ -46,7 +47,9 @@ Applies m [] = ⊥
 Applies m (rule ∷ rules) = ((rule .0 ≡ true) × (rule .1 ≡ m)) ⊎ Applies m rules
 
 above : (k m : ℕ) (rules : List Rule) → Rising k rules → Applies m rules → k < m
-above k m (rule ∷ rules) g a = let h = ltb→lt k (rule .1) (g .0) in ⊎-elim (λ e. omega (arith, e .1)) (λ e. omega (arith, above (rule .1) m rules (g .1) e)) a
+above k m (rule ∷ rules) g a =
+    let h = ltb→lt k (rule .1) (g .0) in
+    ⊎-elim (λ e. omega (arith, e .1)) (λ e. omega (arith, above (rule .1) m rules (g .1) e)) a
 
 pub first-least : (k m : ℕ) (rules : List Rule) → Rising k rules → Applies m rules → first-broken rules ≤ m
 first-least k m ((true, l) ∷ rules) g a = ⊎-elim (λ e. omega (arith, e .1)) (λ e. omega (arith, above l m rules (g .1) e)) a

@@ -73,7 +73,8 @@ sum-pick c (suc n) z h = pick (ℕ-discrete c n) (λ (p : c < n). sum-pick c n z
 pub sum-after : (f : ℕ → ℤ) (a b : ℕ) → sum f (a + b) ≡ sum f a +ℤ sum (λ j. f (a + j)) b
 unfolding sum
 sum-after f a zero = ap (sum f) (N.add-zero a) ∙ sym (+ℤ-idr (sum f a))
-sum-after f a (suc b) = ap (sum f) (N.add-suc a b) ∙ ap (λ z. z +ℤ f (a + b)) (sum-after f a b) ∙ +ℤ-assoc (sum f a) (sum (λ j. f (a + j)) b) (f (a + b))
+sum-after f a (suc b) =
+    ap (sum f) (N.add-suc a b) ∙ ap (λ z. z +ℤ f (a + b)) (sum-after f a b) ∙ +ℤ-assoc (sum f a) (sum (λ j. f (a + j)) b) (f (a + b))
 
 pub sum-rows : (f : ℕ → ℤ) (n m : ℕ) → sum f (m * n) ≡ sum (λ i. sum (λ j. f (i * n + j)) n) m
 unfolding sum

@@ -28,7 +28,9 @@ module _ {A : Type 0} where
   table-cong f g n d h = is-table g n d (table f n) (table-length f n) (λ k p. table-at f n k d p ∙ h k p)
 
   -- one more store
-  pub stored : (f : ℕ → A) (d v : A) (l : List A) (i : ℕ) → i < length l → v ≡ f i → ((k : ℕ) → k < i → getD l k d ≡ f k) → (k : ℕ) → k < i + 1 → getD (set l i v) k d ≡ f k
+  pub stored :
+      (f : ℕ → A) (d v : A) (l : List A) (i : ℕ) → i < length l → v ≡ f i → ((k : ℕ) → k < i → getD l k d ≡ f k) → (k : ℕ) → k < i + 1 →
+      getD (set l i v) k d ≡ f k
   stored f d v l i p e h k q = pick (ℕ-discrete k i)
     where
       pick : Dec (k ≡ i) → getD (set l i v) k d ≡ f k

@@ -9,7 +9,10 @@ use Rattle.account.proofs.account.Statement.{statement}
 use Rattle.account.proofs.account.Tie as tie
 
 -- what the judge found
-found : (c : tie.After-judge-account) → let a = c .before .before .args in c .judge-account .result ≡ account-refusal (a .n) (a .values .now) (a .weights .now) (a .locals .now)
+found :
+    (c : tie.After-judge-account) →
+    let a = c .before .before .args in
+    c .judge-account .result ≡ account-refusal (a .n) (a .values .now) (a .weights .now) (a .locals .now)
 unfolding account-refusal account-rules
 found c = c .judge-account .ensures
 

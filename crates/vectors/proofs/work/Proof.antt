@@ -12,7 +12,8 @@ use Rattle.vectors.proofs.work.Tie as tie
 decoded-length : (c : tie.After-decode) → length (c .decode .last .1 .0) ≡ c .before .before .before .before .args .values
 decoded-length c = c .decode .kept .1 .0 ∙ length-take-le _ _ (c .before .before .before .before .pre .0)
 
-lent-length : (c : tie.After-account) → length (c .account .last .1 .1 .1 .0) ≡ c .before .before .before .before .before .before .before .before .args .locals
+lent-length :
+    (c : tie.After-account) → length (c .account .last .1 .1 .1 .0) ≡ c .before .before .before .before .before .before .before .before .args .locals
 lent-length c = c .account .kept .1 .1 .1 .0 ∙ length-take-le _ _ (c .before .before .before .before .before .before .before .before .pre .1 .0)
 
 array-borrow-prefix-decoded : tie.Need-array-borrow-prefix-decoded
@@ -22,7 +23,9 @@ slice-aggregate-decode : tie.Need-slice-aggregate-decode
 slice-aggregate-decode c = sym (length-take-le _ _ (c .before .before .before .pre .0))
 
 decode-requires : tie.Need-decode-requires
-decode-requires c κs = let a = c .before .before .before in N.le-trans (N.mul-le-mul-left 4 (N.le-of-eq (length-take-le _ _ (a .pre .0)))) (a .pre .1 .1)
+decode-requires c κs =
+    let a = c .before .before .before in
+    N.le-trans (N.mul-le-mul-left 4 (N.le-of-eq (length-take-le _ _ (a .pre .0)))) (a .pre .1 .1)
 
 array-share-prefix-decoded : tie.Need-array-share-prefix-decoded
 array-share-prefix-decoded c = let l = c .before .decode .last .1 .0 in front-le {A = ℤ} l _ l _ refl (decoded-length (c .before))
@@ -49,10 +52,16 @@ write-all-requires : tie.Need-write-all-requires
 write-all-requires c κs = search needs
 
 array-share-prefix-lent : tie.Need-array-share-prefix-lent
-array-share-prefix-lent c = let b = c .before .before .before .before in let l = b .account .last .1 .1 .1 .0 in front-le {A = ℤ} l _ l _ refl (lent-length b)
+array-share-prefix-lent c =
+    let b = c .before .before .before .before in
+    let l = b .account .last .1 .1 .1 .0 in
+    front-le {A = ℤ} l _ l _ refl (lent-length b)
 
 slice-aggregate-print-list : tie.Need-slice-aggregate-print-list
-slice-aggregate-print-list c = let b = c .before .before .before .before .before in let l = b .account .last .1 .1 .1 .0 in front-length {A = ℤ} l _ l _ refl (lent-length b)
+slice-aggregate-print-list c =
+    let b = c .before .before .before .before .before in
+    let l = b .account .last .1 .1 .1 .0 in
+    front-length {A = ℤ} l _ l _ refl (lent-length b)
 
 print-list-requires : tie.Need-print-list-requires
 print-list-requires c κs = search needs

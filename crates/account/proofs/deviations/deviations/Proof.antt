@@ -32,9 +32,13 @@ module _ (c : tie.After-x Inv-loop μ-loop) where
   product : Is (toZ w64 (a .args .n) *ℤ r64 (r32 (at (a .args .values .now) i))) (pos (a .args .n) *ℤ at (a .args .values .now) i) 6400000
   product = is-* (nat w64 (a .args .n) 64 (a .pre .0 .zones) tt) (rd w64 (value-is _ _ (a .pre .0) i (omega arith)) tt)
 
-  deviation : Is (r64 (toZ w64 (a .args .n) *ℤ r64 (r32 (at (a .args .values .now) i))) -ℤ r64 (c .before .before .before .total .result)) (deviation-of (at (a .args .values .now)) (a .args .n) i) 12800000
+  deviation :
+      Is (r64 (toZ w64 (a .args .n) *ℤ r64 (r32 (at (a .args .values .now) i))) -ℤ r64 (c .before .before .before .total .result))
+      (deviation-of (at (a .args .values .now)) (a .args .n) i) 12800000
   unfolding deviation-of total-of
-  deviation = is-- (rd w64 product tt) (rd w64 (told _ 6400000 (c .before .before .before .total .ensures) (total-runs _ _ (a .pre .0) .bound (a .args .n) (N.le-refl (a .args .n)))) tt)
+  deviation =
+      is-- (rd w64 product tt)
+      (rd w64 (told _ 6400000 (c .before .before .before .total .ensures) (total-runs _ _ (a .pre .0) .bound (a .args .n) (N.le-refl (a .args .n)))) tt)
 
 total-requires : tie.Need-total-requires Inv-loop μ-loop
 total-requires c κs = c .pre .0
@@ -85,7 +89,11 @@ same-length : tie.Need-same-length Inv-loop μ-loop
 same-length c = omega arith
 
 returns : tie.Need-returns Inv-loop μ-loop
-returns c = let b = c .before in let a = b .before .before in is-table (deviation-of (at (a .args .values .now)) (a .args .n)) (a .args .n) (pos 0) (b .loop .d) (b .loop .inv .1 .0) (λ k p. b .loop .inv .1 .1 k (omega arith))
+returns c =
+    let b = c .before in
+    let a = b .before .before in
+    is-table (deviation-of (at (a .args .values .now)) (a .args .n)) (a .args .n) (pos 0) (b .loop .d) (b .loop .inv .1 .0)
+    (λ k p. b .loop .inv .1 .1 k (omega arith))
 
 pub deviations-spec : {M : Type 1} → statement M
 deviations-spec =

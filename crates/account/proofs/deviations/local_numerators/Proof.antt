@@ -20,7 +20,12 @@ abbrev μ-loop : tie.MeasureT-loop
 μ-loop n weights d locals₀ i₀ locals i = n - i
 
 -- d(i) times the weighted neighbours
-local : (c : tie.After-deviation Inv-loop μ-loop) → let b = c .before .before .before in let a = b .before .before .args in Is (r64 (at (a .d .now) (b .loop .i)) *ℤ r64 (c .before .neighbour-sum .result)) (local-of (weight-at (a .weights .now) (a .n)) (at (a .d .now)) (a .n) (b .loop .i)) 94371840000000000
+local :
+    (c : tie.After-deviation Inv-loop μ-loop) →
+    let b = c .before .before .before in
+    let a = b .before .before .args in
+    Is (r64 (at (a .d .now) (b .loop .i)) *ℤ r64 (c .before .neighbour-sum .result))
+    (local-of (weight-at (a .weights .now) (a .n)) (at (a .d .now)) (a .n) (b .loop .i)) 94371840000000000
 unfolding local-of row-of
 local c =
     let b = c .before .before .before in
@@ -68,7 +73,11 @@ same-length : tie.Need-same-length Inv-loop μ-loop
 same-length c = omega arith
 
 returns : tie.Need-returns Inv-loop μ-loop
-returns c = let b = c .before in let a = b .before .before .args in is-table (local-of (weight-at (a .weights .now) (a .n)) (at (a .d .now)) (a .n)) (a .n) (pos 0) (b .loop .locals) (b .loop .inv .1 .0) (λ k p. b .loop .inv .1 .1 k (omega arith))
+returns c =
+    let b = c .before in
+    let a = b .before .before .args in
+    is-table (local-of (weight-at (a .weights .now) (a .n)) (at (a .d .now)) (a .n)) (a .n) (pos 0) (b .loop .locals) (b .loop .inv .1 .0)
+    (λ k p. b .loop .inv .1 .1 k (omega arith))
 
 pub local-numerators-spec : {M : Type 1} → statement M
 local-numerators-spec =

@@ -2,7 +2,7 @@
 use mathlib.Core.Path.{_≡_, ap}
 use Prim.Native.Nat.{ℕ, _+_, _*_, _-_, _≤_}
 use native.Mathlib.Omega.{arith}
-use lib.IntN.{pos, _+ℤ_, _*ℤ_}
+use lib.IntN.{ℤ, pos, _+ℤ_, _*ℤ_}
 use lib.ListN.{getD}
 use mir.Syntax.{w64}
 use mir.Val.{toZ, ofZ}
@@ -24,20 +24,35 @@ abbrev μ-loop : tie.MeasureT-loop
 
 -- w(i,j) d(j), and a turn that adds it
 module _ (c : tie.After-deviation Inv-loop μ-loop) where
+  abbrev b : tie.At-loop Inv-loop μ-loop
+  b = c .before .before .before
+
   abbrev a : tie.Start Inv-loop μ-loop
-  a = c .before .before .before .before
+  a = b .before
 
-  abbrev j : ℕ
-  j = c .before .before .before .loop .j
+  abbrev weight : ℕ → ℕ
+  weight = weight-at (a .args .weights .now) (a .args .n) (a .args .i)
 
-  term : Is (toZ w64 (getD (a .args .weights .now) (a .args .i * a .args .n + j) 0) *ℤ r64 (at (a .args .d .now) j)) (pos (weight-at (a .args .weights .now) (a .args .n) (a .args .i) j) *ℤ at (a .args .d .now) j) 115200000
+  abbrev deviation : ℕ → ℤ
+  deviation = at (a .args .d .now)
+
+  -- the weight as the code casts it
+  abbrev cast : ℤ
+  cast = toZ w64 (getD (a .args .weights .now) (a .args .i * a .args .n + b .loop .j) 0)
+
+  term : Is (cast *ℤ r64 (deviation (b .loop .j))) (pos (weight (b .loop .j)) *ℤ deviation (b .loop .j)) 115200000
   unfolding weight-at
   term =
-      is-* (nat w64 (weight-at (a .args .weights .now) (a .args .n) (a .args .i) j) 9 (weight-le _ _ (a .pre .0) (a .args .i) j (a .pre .1 .1) (omega arith)) tt)
-      (rd w64 (val (at (a .args .d .now) j) 12800000 (a .pre .1 .0 .size j (omega arith))) tt)
+      is-* (nat w64 (weight (b .loop .j)) 9 (weight-le _ _ (a .pre .0) (a .args .i) (b .loop .j) (a .pre .1 .1) (omega arith)) tt)
+      (rd w64 (val (deviation (b .loop .j)) 12800000 (a .pre .1 .0 .size (b .loop .j) (omega arith))) tt)
 
-  turn : Is (toZ w64 (c .before .before .before .loop .acc) +ℤ r64 (toZ w64 (getD (a .args .weights .now) (a .args .i * a .args .n + j) 0) *ℤ r64 (at (a .args .d .now) j))) (sum (λ j. pos (weight-at (a .args .weights .now) (a .args .n) (a .args .i) j) *ℤ at (a .args .d .now) j) (j + 1)) 7372800000
-  turn = acc-more (neighbours-run _ _ (a .pre .0) _ (a .args .i) (a .pre .1 .0) (a .pre .1 .1)) j (c .before .before .before .loop .acc) (omega arith) (c .before .before .before .loop .inv .1) (rd w64 term tt)
+  turn :
+      Is (toZ w64 (b .loop .acc) +ℤ r64 (cast *ℤ r64 (deviation (b .loop .j))))
+      (sum (λ j. pos (weight j) *ℤ deviation j) (b .loop .j + 1)) 7372800000
+  turn =
+      acc-more (neighbours-run _ _ (a .pre .0) _ (a .args .i) (a .pre .1 .0) (a .pre .1 .1)) (b .loop .j) (b .loop .acc) (omega arith)
+      (b .loop .inv .1)
+      (rd w64 term tt)
 
 mul-row : tie.Need-mul-row Inv-loop μ-loop
 mul-row c = omega (arith, within (c .args .n) (c .args .i) (c .args .i) (c .pre .1 .1) (c .pre .1 .1), few (c .args .n) (c .pre .0 .zones))
@@ -46,13 +61,21 @@ loop-holds : tie.Need-loop-holds Inv-loop μ-loop
 loop-holds c = (omega arith, acc-none w64 _)
 
 add-weight : tie.Need-add-weight Inv-loop μ-loop
-add-weight c = let a = c .before .before in omega (arith, within (a .args .n) (a .args .i) (c .before .loop .j) (a .pre .1 .1) (omega arith), few (a .args .n) (a .pre .0 .zones))
+add-weight c =
+    let a = c .before .before in
+    omega (arith, within (a .args .n) (a .args .i) (c .before .loop .j) (a .pre .1 .1) (omega arith), few (a .args .n) (a .pre .0 .zones))
 
 shared-slice-read-weight : tie.Need-shared-slice-read-weight Inv-loop μ-loop
-shared-slice-read-weight c = let a = c .before .before .before in place _ _ (a .pre .0) (a .args .i) (c .before .before .loop .j) (a .pre .1 .1) (omega arith)
+shared-slice-read-weight c =
+    let a = c .before .before .before in
+    place _ _ (a .pre .0) (a .args .i) (c .before .before .loop .j) (a .pre .1 .1) (omega arith)
 
 cast-weight : tie.Need-cast-weight Inv-loop μ-loop
-cast-weight c = let b = c .before .before in let a = b .before in fits-le w64 _ 9 (a .pre .0 .light (a .args .i * a .args .n + b .loop .j) (within (a .args .n) (a .args .i) (b .loop .j) (a .pre .1 .1) (omega arith))) tt
+cast-weight c =
+    let b = c .before .before in
+    let a = b .before in
+    fits-le w64 _ 9
+    (a .pre .0 .light (a .args .i * a .args .n + b .loop .j) (within (a .args .n) (a .args .i) (b .loop .j) (a .pre .1 .1) (omega arith))) tt
 
 mul-deviation : tie.Need-mul-deviation Inv-loop μ-loop
 mul-deviation c = omega arith
@@ -77,7 +100,10 @@ loop-again c = (omega arith, ap (ofZ w64) (turn c .same))
 
 returns : tie.Need-returns Inv-loop μ-loop
 unfolding row-of
-returns c = let b = c .before in let a = b .before in acc-done (neighbours-run _ _ (a .pre .0) _ (a .args .i) (a .pre .1 .0) (a .pre .1 .1)) (b .loop .j) (b .loop .acc) (omega arith) (b .loop .inv .1)
+returns c =
+    let b = c .before in
+    let a = b .before in
+    acc-done (neighbours-run _ _ (a .pre .0) _ (a .args .i) (a .pre .1 .0) (a .pre .1 .1)) (b .loop .j) (b .loop .acc) (omega arith) (b .loop .inv .1)
 
 pub neighbour-sum-spec : {M : Type 1} → statement M
 neighbour-sum-spec =

@@ -20,11 +20,16 @@ abbrev μ-loop : tie.MeasureT-loop
 μ-loop n locals acc₀ i₀ acc i = n - i
 
 -- a turn adds one number more
-turn : (c : tie.After-acc Inv-loop μ-loop) → let b = c .before .before in let l = at (b .before .args .locals .now) in Is (toZ w64 (b .loop .acc) +ℤ r64 (l (b .loop .i))) (sum l (b .loop .i + 1)) 6039797760000000000
+turn :
+    (c : tie.After-acc Inv-loop μ-loop) →
+    let b = c .before .before in
+    let l = at (b .before .args .locals .now) in
+    Is (toZ w64 (b .loop .acc) +ℤ r64 (l (b .loop .i))) (sum l (b .loop .i + 1)) 6039797760000000000
 turn c =
     let b = c .before .before in
     let a = b .before in
-    acc-more (locals-run _ _ (a .pre .0) (a .pre .1)) (b .loop .i) (b .loop .acc) (omega arith) (b .loop .inv .1) (rd w64 (val (at (a .args .locals .now) (b .loop .i)) 94371840000000000 (a .pre .1 .size (b .loop .i) (omega arith))) tt)
+    acc-more (locals-run _ _ (a .pre .0) (a .pre .1)) (b .loop .i) (b .loop .acc) (omega arith) (b .loop .inv .1)
+    (rd w64 (val (at (a .args .locals .now) (b .loop .i)) 94371840000000000 (a .pre .1 .size (b .loop .i) (omega arith))) tt)
 
 loop-holds : tie.Need-loop-holds Inv-loop μ-loop
 loop-holds c = (omega arith, acc-none w64 _)
@@ -48,7 +53,10 @@ loop-again : tie.Need-loop-again Inv-loop μ-loop
 loop-again c = (omega arith, ap (ofZ w64) (turn c .same))
 
 returns : tie.Need-returns Inv-loop μ-loop
-returns c = let b = c .before in let a = b .before in acc-done (locals-run _ _ (a .pre .0) (a .pre .1)) (b .loop .i) (b .loop .acc) (omega arith) (b .loop .inv .1)
+returns c =
+    let b = c .before in
+    let a = b .before in
+    acc-done (locals-run _ _ (a .pre .0) (a .pre .1)) (b .loop .i) (b .loop .acc) (omega arith) (b .loop .inv .1)
 
 pub sum-of-spec : {M : Type 1} → statement M
 sum-of-spec =

@@ -21,11 +21,16 @@ abbrev μ-loop : tie.MeasureT-loop
 μ-loop n values acc₀ i₀ acc i = n - i
 
 -- a turn adds one value more
-turn : (c : tie.After-acc Inv-loop μ-loop) → let b = c .before .before in let x = at (b .before .args .values .now) in Is (toZ w64 (b .loop .acc) +ℤ r64 (r32 (x (b .loop .i)))) (sum x (b .loop .i + 1)) 6400000
+turn :
+    (c : tie.After-acc Inv-loop μ-loop) →
+    let b = c .before .before in
+    let x = at (b .before .args .values .now) in
+    Is (toZ w64 (b .loop .acc) +ℤ r64 (r32 (x (b .loop .i)))) (sum x (b .loop .i + 1)) 6400000
 turn c =
     let b = c .before .before in
     let a = b .before in
-    acc-more (total-runs _ _ (a .pre)) (b .loop .i) (b .loop .acc) (omega arith) (b .loop .inv .1) (rd w64 (value-is _ _ (a .pre) (b .loop .i) (omega arith)) tt)
+    acc-more (total-runs _ _ (a .pre)) (b .loop .i) (b .loop .acc) (omega arith) (b .loop .inv .1)
+    (rd w64 (value-is _ _ (a .pre) (b .loop .i) (omega arith)) tt)
 
 loop-holds : tie.Need-loop-holds Inv-loop μ-loop
 loop-holds c = (omega arith, acc-none w64 _)

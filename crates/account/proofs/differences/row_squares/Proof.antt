@@ -2,7 +2,7 @@
 use mathlib.Core.Path.{_≡_, ap}
 use Prim.Native.Nat.{ℕ, _+_, _*_, _-_, _≤_}
 use native.Mathlib.Omega.{arith}
-use lib.IntN.{pos, _+ℤ_, _-ℤ_, _*ℤ_}
+use lib.IntN.{ℤ, pos, _+ℤ_, _-ℤ_, _*ℤ_}
 use lib.ListN.{getD}
 use mir.Syntax.{w64}
 use mir.Val.{toZ, ofZ}
@@ -25,20 +25,35 @@ abbrev μ-loop : tie.MeasureT-loop
 
 -- w(i,j) (x(i) − x(j))², and a turn that adds it
 module _ (c : tie.After-squared-difference Inv-loop μ-loop) where
+  abbrev b : tie.At-loop Inv-loop μ-loop
+  b = c .before .before .before .before
+
   abbrev a : tie.Start Inv-loop μ-loop
-  a = c .before .before .before .before .before .before .before
+  a = b .before .before .before
 
-  abbrev j : ℕ
-  j = c .before .before .before .before .loop .j
+  abbrev weight : ℕ → ℕ
+  weight = weight-at (a .args .weights .now) (a .args .n) (a .args .i)
 
-  term : Is (toZ w64 (getD (a .args .weights .now) (a .args .i * a .args .n + j) 0) *ℤ r64 (c .squared-difference .result)) (pos (weight-at (a .args .weights .now) (a .args .n) (a .args .i) j) *ℤ square (at (a .args .values .now) (a .args .i) -ℤ at (a .args .values .now) j)) 360000000000
+  -- (x(i) − x(j))²
+  abbrev apart : ℕ → ℤ
+  apart j = square (at (a .args .values .now) (a .args .i) -ℤ at (a .args .values .now) j)
+
+  -- the weight as the code casts it
+  abbrev cast : ℤ
+  cast = toZ w64 (getD (a .args .weights .now) (a .args .i * a .args .n + b .loop .j) 0)
+
+  term : Is (cast *ℤ r64 (c .squared-difference .result)) (pos (weight (b .loop .j)) *ℤ apart (b .loop .j)) 360000000000
   unfolding weight-at
   term =
-      is-* (nat w64 (weight-at (a .args .weights .now) (a .args .n) (a .args .i) j) 9 (weight-le _ _ (a .pre .0 .weighted) (a .args .i) j (a .pre .1) (omega arith)) tt)
-      (rd w64 (difference-told _ _ (a .pre .0 .valued) (a .args .i) j (a .pre .1) (omega arith) (c .squared-difference .ensures)) tt)
+      is-* (nat w64 (weight (b .loop .j)) 9 (weight-le _ _ (a .pre .0 .weighted) (a .args .i) (b .loop .j) (a .pre .1) (omega arith)) tt)
+      (rd w64 (difference-told _ _ (a .pre .0 .valued) (a .args .i) (b .loop .j) (a .pre .1) (omega arith) (c .squared-difference .ensures)) tt)
 
-  turn : Is (toZ w64 (c .before .before .before .before .loop .acc) +ℤ r64 (toZ w64 (getD (a .args .weights .now) (a .args .i * a .args .n + j) 0) *ℤ r64 (c .squared-difference .result))) (sum (λ j. pos (weight-at (a .args .weights .now) (a .args .n) (a .args .i) j) *ℤ square (at (a .args .values .now) (a .args .i) -ℤ at (a .args .values .now) j)) (j + 1)) 23040000000000
-  turn = acc-more (row-squares-run _ _ _ (a .pre .0) (a .args .i) (a .pre .1)) j (c .before .before .before .before .loop .acc) (omega arith) (c .before .before .before .before .loop .inv .1) (rd w64 term tt)
+  turn :
+      Is (toZ w64 (b .loop .acc) +ℤ r64 (cast *ℤ r64 (c .squared-difference .result)))
+      (sum (λ j. pos (weight j) *ℤ apart j) (b .loop .j + 1)) 23040000000000
+  turn =
+      acc-more (row-squares-run _ _ _ (a .pre .0) (a .args .i) (a .pre .1)) (b .loop .j) (b .loop .acc) (omega arith) (b .loop .inv .1)
+      (rd w64 term tt)
 
 mul-a : tie.Need-mul-a Inv-loop μ-loop
 mul-a c = omega arith
@@ -47,19 +62,30 @@ shared-slice-copy-out-a : tie.Need-shared-slice-copy-out-a Inv-loop μ-loop
 shared-slice-copy-out-a c = omega arith
 
 mul-row : tie.Need-mul-row Inv-loop μ-loop
-mul-row c = let a = c .before .before in omega (arith, within (a .args .n) (a .args .i) (a .args .i) (a .pre .1) (a .pre .1), few (a .args .n) (a .pre .0 .valued .zones))
+mul-row c =
+    let a = c .before .before in
+    omega (arith, within (a .args .n) (a .args .i) (a .args .i) (a .pre .1) (a .pre .1), few (a .args .n) (a .pre .0 .valued .zones))
 
 loop-holds : tie.Need-loop-holds Inv-loop μ-loop
 loop-holds c = (omega arith, acc-none w64 _)
 
 add-weight : tie.Need-add-weight Inv-loop μ-loop
-add-weight c = let a = c .before .before .before .before in omega (arith, within (a .args .n) (a .args .i) (c .before .loop .j) (a .pre .1) (omega arith), few (a .args .n) (a .pre .0 .valued .zones))
+add-weight c =
+    let a = c .before .before .before .before in
+    omega (arith, within (a .args .n) (a .args .i) (c .before .loop .j) (a .pre .1) (omega arith), few (a .args .n) (a .pre .0 .valued .zones))
 
 shared-slice-read-weight : tie.Need-shared-slice-read-weight Inv-loop μ-loop
-shared-slice-read-weight c = let b = c .before .before in let a = b .before .before .before in place _ _ (a .pre .0 .weighted) (a .args .i) (b .loop .j) (a .pre .1) (omega arith)
+shared-slice-read-weight c =
+    let b = c .before .before in
+    let a = b .before .before .before in
+    place _ _ (a .pre .0 .weighted) (a .args .i) (b .loop .j) (a .pre .1) (omega arith)
 
 cast-weight : tie.Need-cast-weight Inv-loop μ-loop
-cast-weight c = let b = c .before .before in let a = b .before .before .before in fits-le w64 _ 9 (a .pre .0 .weighted .light (a .args .i * a .args .n + b .loop .j) (within (a .args .n) (a .args .i) (b .loop .j) (a .pre .1) (omega arith))) tt
+cast-weight c =
+    let b = c .before .before in
+    let a = b .before .before .before in
+    fits-le w64 _ 9
+    (a .pre .0 .weighted .light (a .args .i * a .args .n + b .loop .j) (within (a .args .n) (a .args .i) (b .loop .j) (a .pre .1) (omega arith))) tt
 
 mul-b : tie.Need-mul-b Inv-loop μ-loop
 mul-b c = omega arith
@@ -68,7 +94,10 @@ shared-slice-copy-out-b : tie.Need-shared-slice-copy-out-b Inv-loop μ-loop
 shared-slice-copy-out-b c = omega arith
 
 squared-difference-requires : tie.Need-squared-difference-requires Inv-loop μ-loop
-squared-difference-requires c κs = let b = c .before .before .before in let a = b .before .before .before in (read-le _ _ (a .pre .0 .valued) (a .args .i) (a .pre .1), read-le _ _ (a .pre .0 .valued) (b .loop .j) (omega arith))
+squared-difference-requires c κs =
+    let b = c .before .before .before in
+    let a = b .before .before .before in
+    (read-le _ _ (a .pre .0 .valued) (a .args .i) (a .pre .1), read-le _ _ (a .pre .0 .valued) (b .loop .j) (omega arith))
 
 mul-acc : tie.Need-mul-acc Inv-loop μ-loop
 mul-acc c = fit w64 (term c) tt
@@ -87,7 +116,10 @@ loop-again c = (omega arith, ap (ofZ w64) (turn c .same))
 
 returns : tie.Need-returns Inv-loop μ-loop
 unfolding row-of
-returns c = let b = c .before in let a = b .before .before .before in acc-done (row-squares-run _ _ _ (a .pre .0) (a .args .i) (a .pre .1)) (b .loop .j) (b .loop .acc) (omega arith) (b .loop .inv .1)
+returns c =
+    let b = c .before in
+    let a = b .before .before .before in
+    acc-done (row-squares-run _ _ _ (a .pre .0) (a .args .i) (a .pre .1)) (b .loop .j) (b .loop .acc) (omega arith) (b .loop .inv .1)
 
 pub row-squares-spec : {M : Type 1} → statement M
 row-squares-spec =

@@ -22,7 +22,11 @@ abbrev μ-loop : tie.MeasureT-loop
 μ-loop n values acc₀ j₀ acc j = n - j
 
 -- a turn adds what one zone more has with the zones before it
-turn : (c : tie.After-squares-before Inv-loop μ-loop) → let b = c .before .before in let x = at (b .before .args .values .now) in Is (toZ w64 (b .loop .acc) +ℤ r64 (c .squares-before .result)) (sum (λ j. sum (λ i. square (x i -ℤ x j)) j) (b .loop .j + 1)) 80640000000000
+turn :
+    (c : tie.After-squares-before Inv-loop μ-loop) →
+    let b = c .before .before in
+    let x = at (b .before .args .values .now) in
+    Is (toZ w64 (b .loop .acc) +ℤ r64 (c .squares-before .result)) (sum (λ j. sum (λ i. square (x i -ℤ x j)) j) (b .loop .j + 1)) 80640000000000
 turn c =
     let b = c .before .before in
     let a = b .before in

@@ -22,7 +22,13 @@ abbrev μ-loop : tie.MeasureT-loop
 μ-loop n values weights acc₀ i₀ acc i = n - i
 
 -- a turn adds one row more
-turn : (c : tie.After-row-squares Inv-loop μ-loop) → let b = c .before .before in let a = b .before .before .args in let x = at (a .values .now) in Is (toZ w64 (b .loop .acc) +ℤ r64 (c .row-squares .result)) (sum (λ i. row-of (weight-at (a .weights .now) (a .n)) (λ i j. square (x i -ℤ x j)) i (a .n)) (b .loop .i + 1)) 1474560000000000
+turn :
+    (c : tie.After-row-squares Inv-loop μ-loop) →
+    let b = c .before .before in
+    let a = b .before .before .args in
+    let x = at (a .values .now) in
+    Is (toZ w64 (b .loop .acc) +ℤ r64 (c .row-squares .result))
+    (sum (λ i. row-of (weight-at (a .weights .now) (a .n)) (λ i j. square (x i -ℤ x j)) i (a .n)) (b .loop .i + 1)) 1474560000000000
 unfolding row-of
 turn c =
     let b = c .before .before in

@@ -22,7 +22,12 @@ abbrev μ-loop : tie.MeasureT-loop
 μ-loop n values j b acc₀ i₀ acc i = j - i
 
 -- a turn adds one squared difference more
-turn : (c : tie.After-squared-difference Inv-loop μ-loop) → let b = c .before .before .before in let a = b .before .before in let x = at (a .args .values .now) in Is (toZ w64 (b .loop .acc) +ℤ r64 (c .squared-difference .result)) (sum (λ i. square (x i -ℤ x (a .args .j))) (b .loop .i + 1)) 2560000000000
+turn :
+    (c : tie.After-squared-difference Inv-loop μ-loop) →
+    let b = c .before .before .before in
+    let a = b .before .before in
+    let x = at (a .args .values .now) in
+    Is (toZ w64 (b .loop .acc) +ℤ r64 (c .squared-difference .result)) (sum (λ i. square (x i -ℤ x (a .args .j))) (b .loop .i + 1)) 2560000000000
 turn c =
     let b = c .before .before .before in
     let a = b .before .before in
@@ -45,7 +50,10 @@ shared-slice-copy-out-a : tie.Need-shared-slice-copy-out-a Inv-loop μ-loop
 shared-slice-copy-out-a c = omega arith
 
 squared-difference-requires : tie.Need-squared-difference-requires Inv-loop μ-loop
-squared-difference-requires c κs = let b = c .before .before in let a = b .before .before in (read-le _ _ (a .pre .0) (b .loop .i) (omega arith), read-le _ _ (a .pre .0) (a .args .j) (a .pre .1))
+squared-difference-requires c κs =
+    let b = c .before .before in
+    let a = b .before .before in
+    (read-le _ _ (a .pre .0) (b .loop .i) (omega arith), read-le _ _ (a .pre .0) (a .args .j) (a .pre .1))
 
 add-acc : tie.Need-add-acc Inv-loop μ-loop
 add-acc c = fit w64 (turn c) tt
@@ -60,7 +68,10 @@ loop-again : tie.Need-loop-again Inv-loop μ-loop
 loop-again c = (omega arith, ap (ofZ w64) (turn c .same))
 
 returns : tie.Need-returns Inv-loop μ-loop
-returns c = let b = c .before in let a = b .before .before in acc-done (before-runs _ _ (a .pre .0) (a .args .j) (a .pre .1)) (b .loop .i) (b .loop .acc) (omega arith) (b .loop .inv .1)
+returns c =
+    let b = c .before in
+    let a = b .before .before in
+    acc-done (before-runs _ _ (a .pre .0) (a .args .j) (a .pre .1)) (b .loop .i) (b .loop .acc) (omega arith) (b .loop .inv .1)
 
 pub squares-before-spec : {M : Type 1} → statement M
 squares-before-spec =

@@ -30,7 +30,10 @@ shared-slice-read-if1 c = omega arith
 
 returns : tie.Need-returns Inv-loop μ-loop
 unfolding any-above
-returns c = let b = c .before .before .before in let a = b .before .args in sym (some-hit (test (a .limit) (a .numbers .now)) (length (a .numbers .now)) (b .loop .i) (omega arith) (lt-ltb _ _ (c .if1 .taken)))
+returns c =
+    let b = c .before .before .before in
+    let a = b .before .args in
+    sym (some-hit (test (a .limit) (a .numbers .now)) (length (a .numbers .now)) (b .loop .i) (omega arith) (lt-ltb _ _ (c .if1 .taken)))
 
 add-i : tie.Need-add-i Inv-loop μ-loop
 add-i c = omega arith
@@ -39,11 +42,18 @@ loop-less : tie.Need-loop-less Inv-loop μ-loop
 loop-less c = omega arith
 
 loop-again : tie.Need-loop-again Inv-loop μ-loop
-loop-again c = let b = c .before .before .before in let a = b .before .args in (omega arith, some-more (test (a .limit) (a .numbers .now)) (b .loop .i) (b .loop .inv .1) (le-ltb _ _ (c .if1 .left)))
+loop-again c =
+    let b = c .before .before .before in
+    let a = b .before .args in
+    (omega arith, some-more (test (a .limit) (a .numbers .now)) (b .loop .i) (b .loop .inv .1) (le-ltb _ _ (c .if1 .left)))
 
 returns-2 : tie.Need-returns-2 Inv-loop μ-loop
 unfolding any-above
-returns-2 c = let b = c .before in let a = b .before .args in let e : b .loop .i ≡ length (a .numbers .now) = omega arith in sym (ap (some (test (a .limit) (a .numbers .now))) (sym e) ∙ b .loop .inv .1)
+returns-2 c =
+    let b = c .before in
+    let a = b .before .args in
+    let e : b .loop .i ≡ length (a .numbers .now) = omega arith in
+    sym (ap (some (test (a .limit) (a .numbers .now))) (sym e) ∙ b .loop .inv .1)
 
 pub any-above-spec : {M : Type 1} → statement M
 any-above-spec =

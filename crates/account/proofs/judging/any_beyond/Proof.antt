@@ -65,11 +65,17 @@ shared-slice-copy-out-x c = omega arith
 
 returns : tie.Need-returns Inv-loop μ-loop
 unfolding any-beyond
-returns c = let b = c .before .before .before in let x = b .before .args .values .now in sym (some-hit (test x) (length x) (b .loop .i) (omega arith) (high (at x (b .loop .i)) (c .before .x .given) (c .if1 .taken)))
+returns c =
+    let b = c .before .before .before in
+    let x = b .before .args .values .now in
+    sym (some-hit (test x) (length x) (b .loop .i) (omega arith) (high (at x (b .loop .i)) (c .before .x .given) (c .if1 .taken)))
 
 returns-2 : tie.Need-returns-2 Inv-loop μ-loop
 unfolding any-beyond
-returns-2 c = let b = c .before .before .before .before in let x = b .before .args .values .now in sym (some-hit (test x) (length x) (b .loop .i) (omega arith) (low (at x (b .loop .i)) (c .before .before .x .given) (c .if2 .taken)))
+returns-2 c =
+    let b = c .before .before .before .before in
+    let x = b .before .args .values .now in
+    sym (some-hit (test x) (length x) (b .loop .i) (omega arith) (low (at x (b .loop .i)) (c .before .before .x .given) (c .if2 .taken)))
 
 add-i : tie.Need-add-i Inv-loop μ-loop
 add-i c = omega arith
@@ -78,11 +84,18 @@ loop-less : tie.Need-loop-less Inv-loop μ-loop
 loop-less c = omega arith
 
 loop-again : tie.Need-loop-again Inv-loop μ-loop
-loop-again c = let b = c .before .before .before .before in let x = b .before .args .values .now in (omega arith, some-more (test x) (b .loop .i) (b .loop .inv .1) (neither (at x (b .loop .i)) (c .before .before .x .given) (c .before .if1 .left) (c .if2 .left)))
+loop-again c =
+    let b = c .before .before .before .before in
+    let x = b .before .args .values .now in
+    (omega arith, some-more (test x) (b .loop .i) (b .loop .inv .1) (neither (at x (b .loop .i)) (c .before .before .x .given) (c .before .if1 .left) (c .if2 .left)))
 
 returns-3 : tie.Need-returns-3 Inv-loop μ-loop
 unfolding any-beyond
-returns-3 c = let b = c .before in let x = b .before .args .values .now in let e : b .loop .i ≡ length x = omega arith in sym (ap (some (test x)) (sym e) ∙ b .loop .inv .1)
+returns-3 c =
+    let b = c .before in
+    let x = b .before .args .values .now in
+    let e : b .loop .i ≡ length x = omega arith in
+    sym (ap (some (test x)) (sym e) ∙ b .loop .inv .1)
 
 pub any-beyond-spec : {M : Type 1} → statement M
 any-beyond-spec =

@@ -28,17 +28,29 @@ loop-holds : tie.Need-loop-holds Inv-loop μ-loop
 loop-holds c = (omega arith, some-zero _)
 
 mul-place : tie.Need-mul-place Inv-loop μ-loop
-mul-place c = let b = c .before in let a = b .before in omega (arith, within (a .args .n) (b .loop .i) (b .loop .i) (omega arith) (omega arith), few (a .args .n) (a .pre .0))
+mul-place c =
+    let b = c .before in
+    let a = b .before in
+    omega (arith, within (a .args .n) (b .loop .i) (b .loop .i) (omega arith) (omega arith), few (a .args .n) (a .pre .0))
 
 add-place : tie.Need-add-place Inv-loop μ-loop
-add-place c = let b = c .before in let a = b .before in omega (arith, within (a .args .n) (b .loop .i) (b .loop .i) (omega arith) (omega arith), few (a .args .n) (a .pre .0))
+add-place c =
+    let b = c .before in
+    let a = b .before in
+    omega (arith, within (a .args .n) (b .loop .i) (b .loop .i) (omega arith) (omega arith), few (a .args .n) (a .pre .0))
 
 shared-slice-read-if1 : tie.Need-shared-slice-read-if1 Inv-loop μ-loop
-shared-slice-read-if1 c = let b = c .before .before in let a = b .before in omega (arith, within (a .args .n) (b .loop .i) (b .loop .i) (omega arith) (omega arith))
+shared-slice-read-if1 c =
+    let b = c .before .before in
+    let a = b .before in
+    omega (arith, within (a .args .n) (b .loop .i) (b .loop .i) (omega arith) (omega arith))
 
 returns : tie.Need-returns Inv-loop μ-loop
 unfolding any-on-diagonal weight-at
-returns c = let b = c .before .before .before in let a = b .before .args in sym (some-hit (test (a .n) (a .weights .now)) (a .n) (b .loop .i) (omega arith) (lt-ltb _ _ (c .if1 .taken)))
+returns c =
+    let b = c .before .before .before in
+    let a = b .before .args in
+    sym (some-hit (test (a .n) (a .weights .now)) (a .n) (b .loop .i) (omega arith) (lt-ltb _ _ (c .if1 .taken)))
 
 add-i : tie.Need-add-i Inv-loop μ-loop
 add-i c = omega arith
@@ -48,11 +60,18 @@ loop-less c = omega arith
 
 loop-again : tie.Need-loop-again Inv-loop μ-loop
 unfolding weight-at
-loop-again c = let b = c .before .before .before in let a = b .before .args in (omega arith, some-more (test (a .n) (a .weights .now)) (b .loop .i) (b .loop .inv .1) (le-ltb _ _ (c .if1 .left)))
+loop-again c =
+    let b = c .before .before .before in
+    let a = b .before .args in
+    (omega arith, some-more (test (a .n) (a .weights .now)) (b .loop .i) (b .loop .inv .1) (le-ltb _ _ (c .if1 .left)))
 
 returns-2 : tie.Need-returns-2 Inv-loop μ-loop
 unfolding any-on-diagonal
-returns-2 c = let b = c .before in let a = b .before .args in let e : b .loop .i ≡ a .n = omega arith in sym (ap (some (test (a .n) (a .weights .now))) (sym e) ∙ b .loop .inv .1)
+returns-2 c =
+    let b = c .before in
+    let a = b .before .args in
+    let e : b .loop .i ≡ a .n = omega arith in
+    sym (ap (some (test (a .n) (a .weights .now))) (sym e) ∙ b .loop .inv .1)
 
 pub any-on-diagonal-spec : {M : Type 1} → statement M
 any-on-diagonal-spec =

@@ -24,10 +24,14 @@ returns : tie.Need-returns
 returns c = let b = c .before .before in first-here (rest b) (sizes b) _ (c .before .judge-sizes .ensures) (c .if1 .taken)
 
 judge-job-requires : tie.Need-judge-job-requires
-judge-job-requires c κs = let f = fitting _ _ _ _ (sym (c .before .judge-sizes .ensures) ∙ c .if1 .left) in (f .zones, (f .values-fit, f .weights-fit))
+judge-job-requires c κs =
+    let f = fitting _ _ _ _ (sym (c .before .judge-sizes .ensures) ∙ c .if1 .left) in
+    (f .zones, (f .values-fit, f .weights-fit))
 
 returns-2 : tie.Need-returns-2
-returns-2 c = let b = c .before .before .before in c .judge-job .ensures ∙ first-next (rest b) 0 (sizes b) (tt, (tt, tt)) (sym (c .before .before .judge-sizes .ensures) ∙ c .before .if1 .left)
+returns-2 c =
+    let b = c .before .before .before in
+    c .judge-job .ensures ∙ first-next (rest b) 0 (sizes b) (tt, (tt, tt)) (sym (c .before .before .judge-sizes .ensures) ∙ c .before .if1 .left)
 
 pub judge-account-spec : {M : Type 1} → statement M
 judge-account-spec = tie.close (tie.spec judge-sizes-requires returns judge-job-requires returns-2)

@@ -26,7 +26,10 @@ holds4 c = sym (c .before .any-above .ensures) ∙ c .if2 .left
 holds5 : (c : tie.Else3) → let a = c .before .before .before .before .before .before .before .args in any-on-diagonal (a .n) (a .weights .now) ≡ false
 holds5 c = sym (c .before .any-on-diagonal .ensures) ∙ c .if3 .left
 
-holds6 : (c : tie.Else4) → let a = c .before .before .before .before .before .before .before .before .before .args in is-zero (weight-of (weight-at (a .weights .now) (a .n)) (a .n)) ≡ false
+holds6 :
+    (c : tie.Else4) →
+    let a = c .before .before .before .before .before .before .before .before .before .args in
+    is-zero (weight-of (weight-at (a .weights .now) (a .n)) (a .n)) ≡ false
 holds6 c = zero-no w64 (c .before .weight-sum .ensures) (c .if4 .left)
 
 -- and the lists that the sums are taken of
@@ -36,18 +39,27 @@ good-weights c = let a = c .before .before .before .before .before in weighted _
 good-values : (c : tie.Else1) → let a = c .before .before .before .args in Valued (a .values .now) (a .n)
 good-values c = let a = c .before .before .before in record { zones = a .pre .0; near = near 100000 _ _ (a .pre .1 .0) (holds3 c) }
 
-breaks6 : (c : tie.Then4) → let a = c .before .before .before .before .before .before .before .before .before .args in is-zero (weight-of (weight-at (a .weights .now) (a .n)) (a .n)) ≡ true
+breaks6 :
+    (c : tie.Then4) →
+    let a = c .before .before .before .before .before .before .before .before .before .args in
+    is-zero (weight-of (weight-at (a .weights .now) (a .n)) (a .n)) ≡ true
 breaks6 c =
     let w = good-weights (c .before .before .before .before) in
     zero-yes w64 (told _ 36864 (c .before .weight-sum .ensures) (weight-size _ _ (w .zones) (weight-le _ _ w))) tt (c .if4 .taken)
 
-breaks7 : (c : tie.Then5) → let a = c .before .before .before .before .before .before .before .before .before .before .before .args in is-zero (spread-of (at (a .values .now)) (a .n)) ≡ true
+breaks7 :
+    (c : tie.Then5) →
+    let a = c .before .before .before .before .before .before .before .before .before .before .before .args in
+    is-zero (spread-of (at (a .values .now)) (a .n)) ≡ true
 unfolding spread-of
 breaks7 c =
     let v = good-values (c .before .before .before .before .before .before .before .before) in
     zero-yes w64 (told _ 80640000000000 (c .before .spread .ensures) (spread-runs _ _ v .bound _ (N.le-refl _))) tt (c .if5 .taken)
 
-holds7 : (c : tie.Else5) → let a = c .before .before .before .before .before .before .before .before .before .before .before .args in is-zero (spread-of (at (a .values .now)) (a .n)) ≡ false
+holds7 :
+    (c : tie.Else5) →
+    let a = c .before .before .before .before .before .before .before .before .before .before .before .args in
+    is-zero (spread-of (at (a .values .now)) (a .n)) ≡ false
 holds7 c = zero-no w64 (c .before .spread .ensures) (c .if5 .left)
 
 any-beyond-requires : tie.Need-any-beyond-requires
@@ -69,25 +81,34 @@ any-on-diagonal-requires c κs = search needs
 
 returns-3 : tie.Need-returns-3
 unfolding job-rules
-returns-3 c = rw (holds3 (c .before .before .before .before), holds4 (c .before .before), sym (c .before .any-on-diagonal .ensures) ∙ c .if3 .taken) refl
+returns-3 c =
+    rw (holds3 (c .before .before .before .before), holds4 (c .before .before), sym (c .before .any-on-diagonal .ensures) ∙ c .if3 .taken) refl
 
 weight-sum-requires : tie.Need-weight-sum-requires
 weight-sum-requires c κs = good-weights (c .before .before)
 
 returns-4 : tie.Need-returns-4
 unfolding job-rules
-returns-4 c = rw (holds3 (c .before .before .before .before .before .before), holds4 (c .before .before .before .before), holds5 (c .before .before), breaks6 c) refl
+returns-4 c =
+    rw (holds3 (c .before .before .before .before .before .before), holds4 (c .before .before .before .before), holds5 (c .before .before), breaks6 c)
+    refl
 
 spread-requires : tie.Need-spread-requires
 spread-requires c κs = good-values (c .before .before .before .before .before .before)
 
 returns-5 : tie.Need-returns-5
 unfolding job-rules
-returns-5 c = rw (holds3 (c .before .before .before .before .before .before .before .before), holds4 (c .before .before .before .before .before .before), holds5 (c .before .before .before .before), holds6 (c .before .before), breaks7 c) refl
+returns-5 c =
+    rw
+    (holds3 (c .before .before .before .before .before .before .before .before), holds4 (c .before .before .before .before .before .before), holds5 (c .before .before .before .before), holds6 (c .before .before), breaks7 c)
+    refl
 
 returns-6 : tie.Need-returns-6
 unfolding job-rules
-returns-6 c = rw (holds3 (c .before .before .before .before .before .before .before .before), holds4 (c .before .before .before .before .before .before), holds5 (c .before .before .before .before), holds6 (c .before .before), holds7 c) refl
+returns-6 c =
+    rw
+    (holds3 (c .before .before .before .before .before .before .before .before), holds4 (c .before .before .before .before .before .before), holds5 (c .before .before .before .before), holds6 (c .before .before), holds7 c)
+    refl
 
 pub judge-job-spec : {M : Type 1} → statement M
 judge-job-spec =

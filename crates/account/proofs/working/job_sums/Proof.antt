@@ -19,11 +19,16 @@ use borrow.Author.Needs.{needs}
 use Rattle.account.proofs.working.job_sums.Statement.{statement}
 use Rattle.account.proofs.working.job_sums.Tie as tie
 
-parts : (f : ℕ → ℕ → ℕ) (x : ℕ → ℤ) (n : ℕ) (r : PairSums) → r ≡ pair-sums-of f x n → (r .weight ≡ weight-of f n) × (r .cross ≡ cross-of f (deviation-of x n) n) × (r .squares ≡ squares-of f x n)
+parts :
+    (f : ℕ → ℕ → ℕ) (x : ℕ → ℤ) (n : ℕ) (r : PairSums) → r ≡ pair-sums-of f x n →
+    (r .weight ≡ weight-of f n) × (r .cross ≡ cross-of f (deviation-of x n) n) × (r .squares ≡ squares-of f x n)
 unfolding pair-sums-of
 parts f x n r e = (ap (λ (s : PairSums). s .weight) e, ap (λ (s : PairSums). s .cross) e, ap (λ (s : PairSums). s .squares) e)
 
-same : (n : ℕ) (values : List ℤ) (weights : List ℕ) (s m w p g : ℤ) → s ≡ total-of (at values) n → m ≡ spread-of (at values) n → w ≡ weight-of (weight-at weights n) n → p ≡ cross-of (weight-at weights n) (deviation-of (at values) n) n → g ≡ squares-of (weight-at weights n) (at values) n →
+same :
+    (n : ℕ) (values : List ℤ) (weights : List ℕ) (s m w p g : ℤ) → s ≡ total-of (at values) n → m ≡ spread-of (at values) n →
+    w ≡ weight-of (weight-at weights n) n → p ≡ cross-of (weight-at weights n) (deviation-of (at values) n) n →
+    g ≡ squares-of (weight-at weights n) (at values) n →
     five (record { total = s; spread = m; weight = w; cross = p; squares = g }) ≡ job-figures n values weights
 unfolding job-figures
 same n values weights s m w p g e1 e2 e3 e4 e5 = rw (e1, e2, e3, e4, e5) refl
@@ -55,7 +60,9 @@ slice-aggregate-pair-sums : tie.Need-slice-aggregate-pair-sums
 slice-aggregate-pair-sums c = let b = c .before .before in front-length {A = ℤ} _ _ (expected b) _ (b .deviations .ensures) (as-long b)
 
 pair-sums-requires : tie.Need-pair-sums-requires
-pair-sums-requires c κs = let b = c .before .before .before in (a b .pre .0, (front {A = ℤ} _ _ (expected b) _ (b .deviations .ensures) (as-long b), a b .pre .1))
+pair-sums-requires c κs =
+    let b = c .before .before .before in
+    (a b .pre .0, (front {A = ℤ} _ _ (expected b) _ (b .deviations .ensures) (as-long b), a b .pre .1))
 
 total-requires : tie.Need-total-requires
 total-requires c κs = search needs

@@ -13,19 +13,29 @@ use borrow.Author.Needs.{needs}
 use Rattle.account.proofs.working.pair_sums.Statement.{statement}
 use Rattle.account.proofs.working.pair_sums.Tie as tie
 
-same : (f : ℕ → ℕ → ℕ) (x : ℕ → ℤ) (n : ℕ) (w p g : ℤ) → w ≡ weight-of f n → p ≡ cross-of f (deviation-of x n) n → g ≡ squares-of f x n → _≡_ {A = PairSums} (record { weight = w; cross = p; squares = g }) (pair-sums-of f x n)
+same :
+    (f : ℕ → ℕ → ℕ) (x : ℕ → ℤ) (n : ℕ) (w p g : ℤ) → w ≡ weight-of f n → p ≡ cross-of f (deviation-of x n) n → g ≡ squares-of f x n →
+    _≡_ {A = PairSums} (record { weight = w; cross = p; squares = g }) (pair-sums-of f x n)
 unfolding pair-sums-of
 same f x n w p g e1 e2 e3 = rw (e1, e2, e3) refl
 
 -- the lent list holds the local numerators of the job
-held : (c : tie.After-local-numerators) → let a = c .before .before .before .args in c .local-numerators .last .1 .1 .1 .0 ≡ job-locals (a .n) (a .values .now) (a .weights .now)
+held :
+    (c : tie.After-local-numerators) →
+    let a = c .before .before .before .args in
+    c .local-numerators .last .1 .1 .1 .0 ≡ job-locals (a .n) (a .values .now) (a .weights .now)
 held c = let a = c .before .before .before in locals-are _ _ _ (a .pre .0) _ _ (a .pre .1 .0) (c .local-numerators .ensures)
 
 local-numerators-requires : tie.Need-local-numerators-requires
-local-numerators-requires c κs = let a = c .before .before in let r = a .pre .0 in (r .weighted, (deviations-sized _ _ _ (r .valued) (a .pre .1 .0), a .pre .1 .1))
+local-numerators-requires c κs =
+    let a = c .before .before in
+    let r = a .pre .0 in
+    (r .weighted, (deviations-sized _ _ _ (r .valued) (a .pre .1 .0), a .pre .1 .1))
 
 sum-of-requires : tie.Need-sum-of-requires
-sum-of-requires c κs = let a = c .before .before .before .before .before in (a .pre .0 .valued .zones, locals-sized _ _ _ (a .pre .0) _ (held (c .before .before)))
+sum-of-requires c κs =
+    let a = c .before .before .before .before .before in
+    (a .pre .0 .valued .zones, locals-sized _ _ _ (a .pre .0) _ (held (c .before .before)))
 
 weight-sum-requires : tie.Need-weight-sum-requires
 weight-sum-requires c κs = search needs

@@ -21,11 +21,16 @@ abbrev μ-loop : tie.MeasureT-loop
 μ-loop n weights acc₀ k₀ acc k = length weights - k
 
 -- a turn adds one weight more
-turn : (c : tie.After-shared-slice-known Inv-loop μ-loop) → let b = c .before .before in let w = b .before .args .weights .now in Is (toZ w64 (b .loop .acc) +ℤ toZ w64 (getD w (b .loop .k) 0)) (sum (λ k. pos (getD w k 0)) (b .loop .k + 1)) 36864
+turn :
+    (c : tie.After-shared-slice-known Inv-loop μ-loop) →
+    let b = c .before .before in
+    let w = b .before .args .weights .now in
+    Is (toZ w64 (b .loop .acc) +ℤ toZ w64 (getD w (b .loop .k) 0)) (sum (λ k. pos (getD w k 0)) (b .loop .k + 1)) 36864
 turn c =
     let b = c .before .before in
     let a = b .before in
-    acc-more (weight-runs _ _ (a .pre)) (b .loop .k) (b .loop .acc) (omega arith) (b .loop .inv .1) (nat w64 (getD (a .args .weights .now) (b .loop .k) 0) 9 (a .pre .light (b .loop .k) (omega arith)) tt)
+    acc-more (weight-runs _ _ (a .pre)) (b .loop .k) (b .loop .acc) (omega arith) (b .loop .inv .1)
+    (nat w64 (getD (a .args .weights .now) (b .loop .k) 0) 9 (a .pre .light (b .loop .k) (omega arith)) tt)
 
 loop-holds : tie.Need-loop-holds Inv-loop μ-loop
 loop-holds c = (omega arith, acc-none w64 _)
@@ -49,7 +54,10 @@ loop-again : tie.Need-loop-again Inv-loop μ-loop
 loop-again c = (omega arith, ap (ofZ w64) (turn c .same))
 
 returns : tie.Need-returns Inv-loop μ-loop
-returns c = let b = c .before in let a = b .before in acc-done (weight-runs _ _ (a .pre)) (b .loop .k) (b .loop .acc) (omega arith) (b .loop .inv .1) ∙ flat-weight _ _ (a .pre)
+returns c =
+    let b = c .before in
+    let a = b .before in
+    acc-done (weight-runs _ _ (a .pre)) (b .loop .k) (b .loop .acc) (omega arith) (b .loop .inv .1) ∙ flat-weight _ _ (a .pre)
 
 pub weight-sum-spec : {M : Type 1} → statement M
 weight-sum-spec =
