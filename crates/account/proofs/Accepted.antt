@@ -1,46 +1,27 @@
 -- What a job is like in which no rule is broken. Assumes nothing.
-use mathlib.Core.Path.{_≡_, refl, subst}
-use mathlib.Core.Bool.{Bool, true, false, not, _||_}
+use mathlib.Core.Path.{_≡_}
+use mathlib.Core.Bool.{false}
 use mathlib.Core.List.{List, [], _∷_}
 use Prim.Native.Nat.{ℕ, _*_, _≤_, _<_}
 use native.Mathlib.Omega.{arith}
-use borrow.Author.Tests.{ltb-false, eqb-true, not-false}
-use lib.Dec.{T, ltb, eqb}
+use borrow.Author.Tests.{ltb-false}
+use lib.Dec.{ltb}
 use lib.IntN.{ℤ, natAbs}
-use lib.ListN.{length, getD}
+use lib.ListN.{length}
 use Rattle.whole.specs.Integer.{is-zero}
-use Rattle.whole.specs.Rules.{first-broken}
-use Rattle.whole.proofs.Rules.{holds, first-none}
-use Rattle.whole.proofs.Search.{some-none}
+use Rattle.whole.specs.Rules.{first-broken, outside, misfits, size-rules}
+use Rattle.whole.proofs.Rules.{holds, first-none, in-range, fits}
+use Rattle.whole.proofs.Search.{some-none, none-beyond, none-above}
 use Rattle.whole.proofs.Size.{some-size}
-use Rattle.account.specs.Measures.{at, weight-of, spread-of, weight-at}
-use Rattle.account.specs.Refusals.{outside, misfits, any-beyond, any-above, any-on-diagonal, size-rules, job-rules, account-lengths, account-rules, account-refusal}
+use Rattle.whole.specs.Table.{at}
+use Rattle.whole.specs.Search.{any-beyond, any-above}
+use Rattle.account.specs.Measures.{weight-of, spread-of, weight-at}
+use Rattle.account.specs.Refusals.{any-on-diagonal, job-rules, account-lengths, account-rules, account-refusal}
 use Rattle.account.specs.Steps.{Sized, Weighted, Job}
 
 -- ---- what a rule that holds tells
-neither : (a b : Bool) → (a || b) ≡ false → (a ≡ false) × (b ≡ false)
-neither false b e = (refl, e)
-neither true b e = absurd (subst T e tt)
-
-pub in-range : (lowest highest n : ℕ) → outside lowest highest n ≡ false → (lowest ≤ n) × (n ≤ highest)
-in-range lowest highest n e = let f = neither (ltb n lowest) (ltb highest n) e in (ltb-false n lowest (f .0), ltb-false highest n (f .1))
-
--- the first of some lengths is as it must be, and so are the others
-pub fits : (found wanted : ℕ) (others : List (ℕ × ℕ)) → misfits ((found, wanted) ∷ others) ≡ false → (found ≡ wanted) × (misfits others ≡ false)
-fits found wanted others e =
-    let f = neither (not (eqb found wanted)) (misfits others) e in
-    (eqb-true found wanted (not-false (eqb found wanted) (f .0)), f .1)
-
 pub near : (limit : ℕ) (numbers : List ℤ) (n : ℕ) → length numbers ≡ n → any-beyond limit numbers ≡ false → Sized limit numbers n
-unfolding any-beyond
-near limit numbers n l e = record {
-  count = l;
-  size = λ k h. ltb-false limit (natAbs (at numbers k)) (some-none (λ k. ltb limit (natAbs (at numbers k))) (length numbers) k e (omega arith));
-}
-
-pub none-above : (limit : ℕ) (numbers : List ℕ) → any-above limit numbers ≡ false → (k : ℕ) → k < length numbers → getD numbers k 0 ≤ limit
-unfolding any-above
-none-above limit numbers e k h = ltb-false limit (getD numbers k 0) (some-none (λ k. ltb limit (getD numbers k 0)) (length numbers) k e h)
+near limit numbers n l e = record { count = l; size = λ k h. none-beyond limit numbers e k (omega arith) }
 
 pub weighted : (weights : List ℕ) (n : ℕ) → n ≤ 64 → length weights ≡ n * n → any-above 9 weights ≡ false → Weighted weights n
 weighted weights n zones l e = record { zones = zones; count = l; light = λ k h. none-above 9 weights e k (omega arith) }

@@ -5,11 +5,11 @@ use Prim.Native.Nat.{ℕ}
 use native.Mathlib.Nat as N
 use lib.IntN.{ℤ, pos}
 use Rattle.whole.specs.Sum.{sum}
-use Rattle.whole.specs.Table.{table}
+use Rattle.whole.specs.Table.{table, at}
 use Rattle.whole.proofs.Machine.{Is, told}
 use Rattle.whole.proofs.Sum.{sum-cong}
 use Rattle.whole.proofs.Table.{table-at, table-cong}
-use Rattle.account.specs.Measures.{at, total-of, deviation-of, spread-of, weight-of, cross-of, squares-of, local-of, weight-at}
+use Rattle.account.specs.Measures.{total-of, deviation-of, spread-of, weight-of, cross-of, squares-of, local-of, weight-at}
 use Rattle.account.specs.Answers.{job-locals}
 use Rattle.account.specs.Steps.{Sized, Valued, Weighted, Job}
 use Rattle.account.proofs.Adding.{local-cong, locals-sum}

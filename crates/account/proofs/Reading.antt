@@ -9,12 +9,12 @@ use lib.ListN.{length, getD}
 use mir.Syntax.{w32}
 use Rattle.whole.specs.Integer.{square}
 use Rattle.whole.specs.Sum.{sum}
-use Rattle.whole.specs.Table.{table}
-use Rattle.whole.proofs.Lent.{within}
+use Rattle.whole.specs.Table.{table, at}
+use Rattle.whole.proofs.Lists.{within}
 use Rattle.whole.proofs.Machine.{Is, val, told, rd, r32}
 use Rattle.whole.proofs.Sum.{sum-cong, sum-rows}
 use Rattle.whole.proofs.Table.{table-length, table-at}
-use Rattle.account.specs.Measures.{at, row-of, pairs-of, weight-of, weight-at}
+use Rattle.account.specs.Measures.{row-of, pairs-of, weight-of, weight-at}
 use Rattle.account.specs.Steps.{Sized, Valued, Weighted}
 use Rattle.account.proofs.Sizes.{square-size}
 

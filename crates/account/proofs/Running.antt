@@ -9,7 +9,8 @@ use Rattle.whole.specs.Integer.{square}
 use Rattle.whole.specs.Sum.{sum}
 use Rattle.whole.proofs.Accumulate.{Bounded}
 use Rattle.whole.proofs.SumSize.{sum-size}
-use Rattle.account.specs.Measures.{at, row-of, weight-at}
+use Rattle.whole.specs.Table.{at}
+use Rattle.account.specs.Measures.{row-of, weight-at}
 use Rattle.account.specs.Steps.{Sized, Valued, Weighted, Job}
 use Rattle.account.proofs.Sizes.{total-size, before-size, spread-size, square-size, row-size, rows-size}
 use Rattle.account.proofs.Reading.{few, weight-le}

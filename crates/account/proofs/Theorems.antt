@@ -17,7 +17,8 @@ use Rattle.whole.proofs.Rules.{Applies, first-least, first-applies}
 use Rattle.whole.proofs.Size.{size-*-le, square-zero, square-above}
 use Rattle.whole.proofs.Sum.{sum-cong, sum-none}
 use Rattle.whole.proofs.SumSize.{sum-above, terms-zero}
-use Rattle.account.specs.Measures.{at, total-of, deviation-of, spread-of, weight-of, cross-of, squares-of, local-of, weight-at}
+use Rattle.whole.specs.Table.{at}
+use Rattle.account.specs.Measures.{total-of, deviation-of, spread-of, weight-of, cross-of, squares-of, local-of, weight-at}
 use Rattle.account.specs.Limits.{Limits}
 use Rattle.account.specs.Refusals.{job-rules, account-rules, account-refusal}
 use Rattle.account.specs.Answers.{number-of, figures-of, job-figures, job-locals, account-figures, account-locals}

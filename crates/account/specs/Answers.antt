@@ -3,8 +3,8 @@ use mathlib.Core.List.{List, [], _∷_}
 use Prim.Native.Nat.{ℕ}
 use lib.IntN.{ℤ}
 use Rattle.whole.specs.Rules.{unless-refused}
-use Rattle.whole.specs.Table.{table}
-use Rattle.account.specs.Measures.{at, total-of, deviation-of, spread-of, weight-of, cross-of, squares-of, local-of, weight-at}
+use Rattle.whole.specs.Table.{table, at}
+use Rattle.account.specs.Measures.{total-of, deviation-of, spread-of, weight-of, cross-of, squares-of, local-of, weight-at}
 use Rattle.account.specs.Refusals.{account-refusal}
 use Rattle.account.specs.declared.Sums.{Sums}
 use Rattle.account.specs.declared.Answer.{Answer}

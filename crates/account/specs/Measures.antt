@@ -7,10 +7,6 @@ use lib.ListN.{getD}
 use Rattle.whole.specs.Integer.{square}
 use Rattle.whole.specs.Sum.{sum}
 
--- the k-th number of a list
-abbrev pub at : List ℤ → ℕ → ℤ
-at numbers k = getD numbers k (pos 0)
-
 -- ---- of the values x of n zones
 
 -- S: the sum of x

@@ -1,44 +1,22 @@
 -- The rules that a job must keep, with their numbers, in the order of document 01's "Causes of refusal". The call is refused with the
 -- number of the first that is broken: the least that applies, and once 1 or 2 applies nothing further is judged. Assumes nothing.
-use mathlib.Core.Bool.{Bool, false, not, _||_}
+use mathlib.Core.Bool.{Bool}
 use mathlib.Core.List.{List, [], _∷_, _++_}
 use Prim.Native.Nat.{ℕ, _*_}
-use lib.Dec.{ltb, eqb}
-use lib.IntN.{ℤ, natAbs}
-use lib.ListN.{length, getD}
+use lib.Dec.{ltb}
+use lib.IntN.{ℤ}
+use lib.ListN.{length}
 use Rattle.whole.specs.Integer.{is-zero}
-use Rattle.whole.specs.Rules.{Rule, first-broken}
-use Rattle.whole.specs.Search.{some}
-use Rattle.account.specs.Measures.{at, weight-of, spread-of, weight-at}
+use Rattle.whole.specs.Rules.{Rule, first-broken, size-rules}
+use Rattle.whole.specs.Search.{some, any-beyond, any-above}
+use Rattle.whole.specs.Table.{at}
+use Rattle.account.specs.Measures.{weight-of, spread-of, weight-at}
 
--- ---- what a rule looks for
-
--- n is outside the range
-abbrev pub outside : ℕ → ℕ → ℕ → Bool
-outside lowest highest n = ltb n lowest || ltb highest n
-
--- a list has another length than it must: each pair is a list's length and the length that it must have
-abbrev pub misfits : List (ℕ × ℕ) → Bool
-misfits [] = false
-misfits (one ∷ others) = not (eqb (one .0) (one .1)) || misfits others
-
--- a number of the list is beyond the limit in size
-unfoldable pub any-beyond : ℕ → List ℤ → Bool
-any-beyond limit numbers = some (λ k. ltb limit (natAbs (at numbers k))) (length numbers)
-
--- a number of the list is above the limit
-unfoldable pub any-above : ℕ → List ℕ → Bool
-any-above limit numbers = some (λ k. ltb limit (getD numbers k 0)) (length numbers)
+-- ---- the rules
 
 -- a weight stands on the diagonal
 unfoldable pub any-on-diagonal : ℕ → List ℕ → Bool
 any-on-diagonal n weights = some (λ i. ltb 0 (weight-at weights n i i)) n
-
--- ---- the rules
-
--- 1 and 2: n, and the exact length of each lent list
-abbrev pub size-rules : ℕ → List (ℕ × ℕ) → List Rule
-size-rules n lengths = (outside 2 64 n, 1) ∷ (misfits lengths, 2) ∷ []
 
 -- 3 to 7: the values, the weights, W and M
 unfoldable pub job-rules : ℕ → List ℤ → List ℕ → List Rule

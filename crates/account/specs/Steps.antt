@@ -4,7 +4,8 @@ use mathlib.Core.List.{List}
 use Prim.Native.Nat.{ℕ, _*_, _≤_, _<_}
 use lib.IntN.{ℤ, natAbs}
 use lib.ListN.{length, getD}
-use Rattle.account.specs.Measures.{at, deviation-of, weight-of, cross-of, squares-of}
+use Rattle.whole.specs.Table.{at}
+use Rattle.account.specs.Measures.{deviation-of, weight-of, cross-of, squares-of}
 use Rattle.account.specs.declared.working.PairSums.{PairSums}
 
 -- n numbers, each at most b in size

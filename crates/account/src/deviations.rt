@@ -3,8 +3,8 @@ ghost use mathlib.Core.Path.{_≡_};
 ghost use Prim.Native.Nat.{_≤_, _<_};
 ghost use lib.ListN.{length};
 ghost use Rattle.whole.specs.Sum.{sum};
-ghost use Rattle.whole.specs.Table.{table};
-ghost use Rattle.account.specs.Measures.{at, total-of, deviation-of, row-of, local-of, weight-at};
+ghost use Rattle.whole.specs.Table.{table, at};
+ghost use Rattle.account.specs.Measures.{total-of, deviation-of, row-of, local-of, weight-at};
 ghost use Rattle.account.specs.Steps.{Sized, Valued, Weighted};
 
 // S.

@@ -4,7 +4,8 @@ ghost use Prim.Native.Nat.{_≤_, _<_};
 ghost use lib.IntN.{natAbs, _-ℤ_};
 ghost use Rattle.whole.specs.Integer.{square};
 ghost use Rattle.whole.specs.Sum.{sum};
-ghost use Rattle.account.specs.Measures.{at, spread-of, row-of, squares-of, weight-at};
+ghost use Rattle.whole.specs.Table.{at};
+ghost use Rattle.account.specs.Measures.{spread-of, row-of, squares-of, weight-at};
 ghost use Rattle.account.specs.Steps.{Valued, Job};
 
 // The squared difference of two values.

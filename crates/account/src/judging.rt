@@ -5,8 +5,9 @@ ghost use mathlib.Core.Path.{_≡_};
 ghost use mathlib.Core.List.{_++_};
 ghost use Prim.Native.Nat.{_*_, _≤_};
 ghost use lib.ListN.{length};
-ghost use Rattle.whole.specs.Rules.{first-broken};
-ghost use Rattle.account.specs.Refusals.{any-beyond, any-above, any-on-diagonal, size-rules, job-rules, account-lengths};
+ghost use Rattle.whole.specs.Rules.{first-broken, size-rules};
+ghost use Rattle.whole.specs.Search.{any-beyond, any-above};
+ghost use Rattle.account.specs.Refusals.{any-on-diagonal, job-rules, account-lengths};
 
 // Whether some value is beyond 100,000 in size.
 pub fn any_beyond(values: &[i32]) -> bool

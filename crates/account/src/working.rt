@@ -4,8 +4,8 @@ use crate::deviations;
 use crate::differences;
 ghost use mathlib.Core.Path.{_≡_};
 ghost use lib.ListN.{length};
-ghost use Rattle.whole.specs.Table.{table};
-ghost use Rattle.account.specs.Measures.{at, deviation-of, weight-of, weight-at};
+ghost use Rattle.whole.specs.Table.{table, at};
+ghost use Rattle.account.specs.Measures.{deviation-of, weight-of, weight-at};
 ghost use Rattle.account.specs.Answers.{five, job-figures, job-locals};
 ghost use Rattle.account.specs.Steps.{Weighted, Job, pair-sums-of};
 

@@ -10,4 +10,4 @@ pub mod Rules
 pub mod Machine
 pub mod Sign
 pub mod Accumulate
-pub mod Lent
+pub mod Lists

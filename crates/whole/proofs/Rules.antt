@@ -1,13 +1,14 @@
 -- Laws of `first-broken`: what a judge that tests rule by rule has shown, and that its answer is the least number that applies.
 -- Assumes nothing.
 use mathlib.Core.Path.{_≡_, refl, sym, subst}
-use mathlib.Core.Bool.{Bool, true, false, cond}
+use mathlib.Core.Bool.{Bool, true, false, not, cond, _||_}
 use mathlib.Core.List.{List, [], _∷_, _++_}
 use mathlib.Core.Logic.{_⊎_, inl, inr, ⊎-elim}
 use Prim.Native.Nat.{ℕ, suc, _≤_, _<_}
 use native.Mathlib.Omega.{arith}
-use lib.Dec.{T, ltb, ltb→lt}
-use Rattle.whole.specs.Rules.{Rule, first-broken}
+use borrow.Author.Tests.{ltb-false, eqb-true, not-false}
+use lib.Dec.{T, ltb, ltb→lt, eqb}
+use Rattle.whole.specs.Rules.{Rule, first-broken, outside, misfits}
 
 -- ---- one rule and the rest: the number is 0 only where the rule holds and none of the rest is broken
 pub holds : (b : Bool) (k r : ℕ) → cond b (suc k) r ≡ 0 → (b ≡ false) × (r ≡ 0)
@@ -59,3 +60,17 @@ pub first-applies : (rules : List Rule) → (first-broken rules ≡ 0 → ⊥) �
 first-applies [] f = absurd (f refl)
 first-applies ((true, l) ∷ rules) f = inl (refl, refl)
 first-applies ((false, l) ∷ rules) f = inr (first-applies rules f)
+
+-- ---- what the first two rules tell where they hold
+neither : (a b : Bool) → (a || b) ≡ false → (a ≡ false) × (b ≡ false)
+neither false b e = (refl, e)
+neither true b e = absurd (subst T e tt)
+
+pub in-range : (lowest highest n : ℕ) → outside lowest highest n ≡ false → (lowest ≤ n) × (n ≤ highest)
+in-range lowest highest n e = let f = neither (ltb n lowest) (ltb highest n) e in (ltb-false n lowest (f .0), ltb-false highest n (f .1))
+
+-- the first of some lengths is as it must be, and so are the others
+pub fits : (found wanted : ℕ) (others : List (ℕ × ℕ)) → misfits ((found, wanted) ∷ others) ≡ false → (found ≡ wanted) × (misfits others ≡ false)
+fits found wanted others e =
+    let f = neither (not (eqb found wanted)) (misfits others) e in
+    (eqb-true found wanted (not-false (eqb found wanted) (f .0)), f .1)

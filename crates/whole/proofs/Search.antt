@@ -1,11 +1,17 @@
 -- Laws of `some`, as a searching loop uses them. Assumes nothing.
 use mathlib.Core.Path.{_≡_, refl, sym, ap, _∙_}
 use mathlib.Core.Bool.{Bool, true, false, _||_}
-use Prim.Native.Nat.{ℕ, zero, suc, _+_, _<_}
+use mathlib.Core.List.{List}
+use Prim.Native.Nat.{ℕ, zero, suc, _+_, _≤_, _<_}
 use native.Mathlib.Numerals.{add-one}
 use native.Mathlib.Decide.{ℕ-discrete}
 use native.Mathlib.Omega.{arith}
-use Rattle.whole.specs.Search.{some}
+use borrow.Author.Tests.{ltb-false}
+use lib.Dec.{ltb}
+use lib.IntN.{ℤ, natAbs}
+use lib.ListN.{length, getD}
+use Rattle.whole.specs.Search.{some, any-beyond, any-above}
+use Rattle.whole.specs.Table.{at}
 
 module _ (test : ℕ → Bool) where
   -- before the first
@@ -19,7 +25,7 @@ module _ (test : ℕ → Bool) where
   some-more n p q = ap (some test) (add-one n) ∙ rw (p, q) refl
 
   -- one that passes
-  pub some-hit : (n k : ℕ) → k < n → test k ≡ true → some test n ≡ true
+  some-hit : (n k : ℕ) → k < n → test k ≡ true → some test n ≡ true
   unfolding some
   some-hit zero k h e = let z : ⊥ = omega arith in absurd z
   some-hit (suc n) k h e = pick (ℕ-discrete k n) (λ (q : k < n). some-hit n k q e)
@@ -39,3 +45,19 @@ module _ (test : ℕ → Bool) where
       go : (b : Bool) → test k ≡ b → b ≡ false
       go false e = refl
       go true e = sym (some-hit n k h e) ∙ p
+
+  -- a loop that has found one, and one that has passed all n
+  pub some-found : (n k : ℕ) → k < n → test k ≡ true → true ≡ some test n
+  some-found n k h e = sym (some-hit n k h e)
+
+  pub some-done : (i n : ℕ) → i ≡ n → some test i ≡ false → false ≡ some test n
+  some-done i n l e = sym (ap (some test) (sym l) ∙ e)
+
+-- ---- where no number of a list is beyond the limit, and where none is above it
+pub none-beyond : (limit : ℕ) (numbers : List ℤ) → any-beyond limit numbers ≡ false → (k : ℕ) → k < length numbers → natAbs (at numbers k) ≤ limit
+unfolding any-beyond
+none-beyond limit numbers e k h = ltb-false limit (natAbs (at numbers k)) (some-none (λ k. ltb limit (natAbs (at numbers k))) (length numbers) k e h)
+
+pub none-above : (limit : ℕ) (numbers : List ℕ) → any-above limit numbers ≡ false → (k : ℕ) → k < length numbers → getD numbers k 0 ≤ limit
+unfolding any-above
+none-above limit numbers e k h = ltb-false limit (getD numbers k 0) (some-none (λ k. ltb limit (getD numbers k 0)) (length numbers) k e h)

@@ -1,8 +1,8 @@
 -- Numbered rules, the refusal that they lead to, and what a refusal leaves. Assumes nothing.
-use mathlib.Core.Bool.{Bool, cond}
+use mathlib.Core.Bool.{Bool, false, not, cond, _||_}
 use mathlib.Core.List.{List, [], _∷_}
 use Prim.Native.Nat.{ℕ}
-use lib.Dec.{eqb}
+use lib.Dec.{ltb, eqb}
 
 -- a rule: whether it is broken, and its number
 abbrev pub Rule : Type 0
@@ -16,3 +16,18 @@ first-broken (rule ∷ rules) = cond (rule .0) (rule .1) (first-broken rules)
 -- `worked` where nothing is refused, and `kept` where the call is refused
 abbrev pub unless-refused : {A : Type 0} → ℕ → A → A → A
 unless-refused refusal worked kept = cond (eqb refusal 0) worked kept
+
+-- ---- the first two rules of document 01, which every call that is lent lists has
+
+-- n is outside the range
+abbrev pub outside : ℕ → ℕ → ℕ → Bool
+outside lowest highest n = ltb n lowest || ltb highest n
+
+-- a list has another length than it must: each pair is a list's length and the length that it must have
+abbrev pub misfits : List (ℕ × ℕ) → Bool
+misfits [] = false
+misfits (one ∷ others) = not (eqb (one .0) (one .1)) || misfits others
+
+-- 1 and 2: n outside 2 to 64, and a lent list not of its exact length
+abbrev pub size-rules : ℕ → List (ℕ × ℕ) → List Rule
+size-rules n lengths = (outside 2 64 n, 1) ∷ (misfits lengths, 2) ∷ []

@@ -4,7 +4,7 @@ use native.Mathlib.Nat as N
 use lib.IntN.{ℤ}
 use lib.ListN.{length}
 use lib.Seq.{length-take-le}
-use Rattle.whole.proofs.Lent.{front-le, front-length}
+use Rattle.whole.proofs.Lists.{front-le, front-length}
 use borrow.Author.Needs.{needs}
 use Rattle.vectors.proofs.work.Statement.{statement}
 use Rattle.vectors.proofs.work.Tie as tie

@@ -9,7 +9,8 @@ use mir.Syntax.{w64}
 use mir.Val.{toZ}
 use Rattle.whole.proofs.Machine.{Is, nat, told, rd, is--, is-*, fit, fits-le, r32, r64}
 use Rattle.whole.proofs.Table.{is-table, stored}
-use Rattle.account.specs.Measures.{at, total-of, deviation-of}
+use Rattle.whole.specs.Table.{at}
+use Rattle.account.specs.Measures.{total-of, deviation-of}
 use Rattle.account.proofs.Reading.{value-is}
 use Rattle.account.proofs.Running.{total-runs}
 use Rattle.account.proofs.deviations.deviations.Statement.{statement}

@@ -8,7 +8,8 @@ use lib.ListN.{length, length-set}
 use mir.Syntax.{w64}
 use Rattle.whole.proofs.Machine.{Is, val, told, rd, is-*, fit, r64}
 use Rattle.whole.proofs.Table.{is-table, stored}
-use Rattle.account.specs.Measures.{at, row-of, local-of, weight-at}
+use Rattle.whole.specs.Table.{at}
+use Rattle.account.specs.Measures.{row-of, local-of, weight-at}
 use Rattle.account.proofs.Running.{neighbours-run}
 use Rattle.account.proofs.deviations.local_numerators.Statement.{statement}
 use Rattle.account.proofs.deviations.local_numerators.Tie as tie

@@ -8,7 +8,7 @@ use mir.Val.{toZ, ofZ}
 use Rattle.whole.specs.Sum.{sum}
 use Rattle.whole.proofs.Accumulate.{acc-none, acc-more, acc-done}
 use Rattle.whole.proofs.Machine.{Is, val, rd, fit, r64}
-use Rattle.account.specs.Measures.{at}
+use Rattle.whole.specs.Table.{at}
 use Rattle.account.proofs.Running.{locals-run}
 use Rattle.account.proofs.deviations.sum_of.Statement.{statement}
 use Rattle.account.proofs.deviations.sum_of.Tie as tie

@@ -8,7 +8,8 @@ use mir.Val.{toZ, ofZ}
 use Rattle.whole.specs.Sum.{sum}
 use Rattle.whole.proofs.Accumulate.{acc-none, acc-more, acc-done}
 use Rattle.whole.proofs.Machine.{Is, rd, fit, r32, r64}
-use Rattle.account.specs.Measures.{at, total-of}
+use Rattle.whole.specs.Table.{at}
+use Rattle.account.specs.Measures.{total-of}
 use Rattle.account.proofs.Reading.{value-is}
 use Rattle.account.proofs.Running.{total-runs}
 use Rattle.account.proofs.deviations.total.Statement.{statement}

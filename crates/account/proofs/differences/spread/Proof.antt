@@ -10,7 +10,8 @@ use Rattle.whole.specs.Integer.{square}
 use Rattle.whole.specs.Sum.{sum}
 use Rattle.whole.proofs.Accumulate.{acc-none, acc-more, acc-done}
 use Rattle.whole.proofs.Machine.{Is, told, rd, fit, r64}
-use Rattle.account.specs.Measures.{at, spread-of}
+use Rattle.whole.specs.Table.{at}
+use Rattle.account.specs.Measures.{spread-of}
 use Rattle.account.proofs.Running.{before-runs, spread-runs}
 use Rattle.account.proofs.differences.spread.Statement.{statement}
 use Rattle.account.proofs.differences.spread.Tie as tie

@@ -10,7 +10,8 @@ use Rattle.whole.specs.Integer.{square}
 use Rattle.whole.specs.Sum.{sum}
 use Rattle.whole.proofs.Accumulate.{acc-none, acc-more, acc-done}
 use Rattle.whole.proofs.Machine.{Is, told, rd, fit, r64}
-use Rattle.account.specs.Measures.{at, row-of, pairs-of, squares-of, weight-at}
+use Rattle.whole.specs.Table.{at}
+use Rattle.account.specs.Measures.{row-of, pairs-of, squares-of, weight-at}
 use Rattle.account.proofs.Running.{row-squares-run, squares-run}
 use Rattle.account.proofs.differences.squares.Statement.{statement}
 use Rattle.account.proofs.differences.squares.Tie as tie

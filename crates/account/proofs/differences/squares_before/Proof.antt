@@ -9,7 +9,7 @@ use Rattle.whole.specs.Integer.{square}
 use Rattle.whole.specs.Sum.{sum}
 use Rattle.whole.proofs.Accumulate.{acc-none, acc-more, acc-done}
 use Rattle.whole.proofs.Machine.{Is, rd, fit, r64}
-use Rattle.account.specs.Measures.{at}
+use Rattle.whole.specs.Table.{at}
 use Rattle.account.proofs.Reading.{read-le, difference-told}
 use Rattle.account.proofs.Running.{before-runs}
 use Rattle.account.proofs.differences.squares_before.Statement.{statement}

@@ -1,5 +1,5 @@
 -- `any_above` meets its contract. The loop's invariant: no number passed is above the limit. Assumes nothing.
-use mathlib.Core.Path.{_≡_, sym, ap, _∙_}
+use mathlib.Core.Path.{_≡_}
 use mathlib.Core.Bool.{Bool, false}
 use mathlib.Core.List.{List}
 use Prim.Native.Nat.{ℕ, _-_, _≤_}
@@ -7,9 +7,8 @@ use native.Mathlib.Omega.{arith}
 use borrow.Author.Tests.{lt-ltb, le-ltb}
 use lib.Dec.{ltb}
 use lib.ListN.{length, getD}
-use Rattle.whole.specs.Search.{some}
-use Rattle.whole.proofs.Search.{some-zero, some-more, some-hit}
-use Rattle.account.specs.Refusals.{any-above}
+use Rattle.whole.specs.Search.{some, any-above}
+use Rattle.whole.proofs.Search.{some-zero, some-more, some-found, some-done}
 use Rattle.account.proofs.judging.any_above.Statement.{statement}
 use Rattle.account.proofs.judging.any_above.Tie as tie
 
@@ -33,7 +32,7 @@ unfolding any-above
 returns c =
     let b = c .before .before .before in
     let a = b .before .args in
-    sym (some-hit (test (a .limit) (a .numbers .now)) (length (a .numbers .now)) (b .loop .i) (omega arith) (lt-ltb _ _ (c .if1 .taken)))
+    some-found (test (a .limit) (a .numbers .now)) (length (a .numbers .now)) (b .loop .i) (omega arith) (lt-ltb _ _ (c .if1 .taken))
 
 add-i : tie.Need-add-i Inv-loop μ-loop
 add-i c = omega arith
@@ -52,8 +51,7 @@ unfolding any-above
 returns-2 c =
     let b = c .before in
     let a = b .before .args in
-    let e : b .loop .i ≡ length (a .numbers .now) = omega arith in
-    sym (ap (some (test (a .limit) (a .numbers .now))) (sym e) ∙ b .loop .inv .1)
+    some-done (test (a .limit) (a .numbers .now)) (b .loop .i) _ (omega arith) (b .loop .inv .1)
 
 pub any-above-spec : {M : Type 1} → statement M
 any-above-spec =

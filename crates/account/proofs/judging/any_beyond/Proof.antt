@@ -11,11 +11,10 @@ use lib.ListN.{length}
 use lib.Signed.{ltZ, mag}
 use mir.Syntax.{w32}
 use mir.ValLaws.{toZ-ofZ}
-use Rattle.whole.specs.Search.{some}
+use Rattle.whole.specs.Search.{some, any-beyond}
 use Rattle.whole.proofs.Machine.{r32}
-use Rattle.whole.proofs.Search.{some-zero, some-more, some-hit}
-use Rattle.account.specs.Measures.{at}
-use Rattle.account.specs.Refusals.{any-beyond}
+use Rattle.whole.proofs.Search.{some-zero, some-more, some-found, some-done}
+use Rattle.whole.specs.Table.{at}
 use Rattle.account.proofs.judging.any_beyond.Statement.{statement}
 use Rattle.account.proofs.judging.any_beyond.Tie as tie
 
@@ -68,14 +67,14 @@ unfolding any-beyond
 returns c =
     let b = c .before .before .before in
     let x = b .before .args .values .now in
-    sym (some-hit (test x) (length x) (b .loop .i) (omega arith) (high (at x (b .loop .i)) (c .before .x .given) (c .if1 .taken)))
+    some-found (test x) (length x) (b .loop .i) (omega arith) (high (at x (b .loop .i)) (c .before .x .given) (c .if1 .taken))
 
 returns-2 : tie.Need-returns-2 Inv-loop μ-loop
 unfolding any-beyond
 returns-2 c =
     let b = c .before .before .before .before in
     let x = b .before .args .values .now in
-    sym (some-hit (test x) (length x) (b .loop .i) (omega arith) (low (at x (b .loop .i)) (c .before .before .x .given) (c .if2 .taken)))
+    some-found (test x) (length x) (b .loop .i) (omega arith) (low (at x (b .loop .i)) (c .before .before .x .given) (c .if2 .taken))
 
 add-i : tie.Need-add-i Inv-loop μ-loop
 add-i c = omega arith
@@ -94,8 +93,7 @@ unfolding any-beyond
 returns-3 c =
     let b = c .before in
     let x = b .before .args .values .now in
-    let e : b .loop .i ≡ length x = omega arith in
-    sym (ap (some (test x)) (sym e) ∙ b .loop .inv .1)
+    some-done (test x) (b .loop .i) _ (omega arith) (b .loop .inv .1)
 
 pub any-beyond-spec : {M : Type 1} → statement M
 any-beyond-spec =

@@ -1,5 +1,5 @@
 -- `any_on_diagonal` meets its contract. The loop's invariant: no weight passed stands on the diagonal. Assumes nothing.
-use mathlib.Core.Path.{_≡_, sym, ap, _∙_}
+use mathlib.Core.Path.{_≡_}
 use mathlib.Core.Bool.{Bool, false}
 use mathlib.Core.List.{List}
 use Prim.Native.Nat.{ℕ, _-_, _≤_}
@@ -7,8 +7,8 @@ use native.Mathlib.Omega.{arith}
 use borrow.Author.Tests.{lt-ltb, le-ltb}
 use lib.Dec.{ltb}
 use Rattle.whole.specs.Search.{some}
-use Rattle.whole.proofs.Lent.{within}
-use Rattle.whole.proofs.Search.{some-zero, some-more, some-hit}
+use Rattle.whole.proofs.Lists.{within}
+use Rattle.whole.proofs.Search.{some-zero, some-more, some-found, some-done}
 use Rattle.account.specs.Measures.{weight-at}
 use Rattle.account.specs.Refusals.{any-on-diagonal}
 use Rattle.account.proofs.Reading.{few}
@@ -50,7 +50,7 @@ unfolding any-on-diagonal weight-at
 returns c =
     let b = c .before .before .before in
     let a = b .before .args in
-    sym (some-hit (test (a .n) (a .weights .now)) (a .n) (b .loop .i) (omega arith) (lt-ltb _ _ (c .if1 .taken)))
+    some-found (test (a .n) (a .weights .now)) (a .n) (b .loop .i) (omega arith) (lt-ltb _ _ (c .if1 .taken))
 
 add-i : tie.Need-add-i Inv-loop μ-loop
 add-i c = omega arith
@@ -70,8 +70,7 @@ unfolding any-on-diagonal
 returns-2 c =
     let b = c .before in
     let a = b .before .args in
-    let e : b .loop .i ≡ a .n = omega arith in
-    sym (ap (some (test (a .n) (a .weights .now))) (sym e) ∙ b .loop .inv .1)
+    some-done (test (a .n) (a .weights .now)) (b .loop .i) _ (omega arith) (b .loop .inv .1)
 
 pub any-on-diagonal-spec : {M : Type 1} → statement M
 any-on-diagonal-spec =

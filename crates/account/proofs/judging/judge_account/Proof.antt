@@ -2,9 +2,9 @@
 use mathlib.Core.Path.{sym, _∙_}
 use mathlib.Core.List.{List}
 use lib.ListN.{length}
-use Rattle.whole.specs.Rules.{Rule}
+use Rattle.whole.specs.Rules.{Rule, size-rules}
 use Rattle.whole.proofs.Rules.{first-here, first-next}
-use Rattle.account.specs.Refusals.{size-rules, job-rules, account-lengths}
+use Rattle.account.specs.Refusals.{job-rules, account-lengths}
 use Rattle.account.proofs.Accepted.{fitting}
 use Rattle.account.proofs.judging.judge_account.Statement.{statement}
 use Rattle.account.proofs.judging.judge_account.Tie as tie

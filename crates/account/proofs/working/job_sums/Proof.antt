@@ -6,11 +6,11 @@ use lib.IntN.{ℤ}
 use lib.ListN.{length}
 use lib.Seq.{length-take-le}
 use mir.Syntax.{w64}
-use Rattle.whole.specs.Table.{table}
-use Rattle.whole.proofs.Lent.{front, front-le, front-length}
+use Rattle.whole.specs.Table.{table, at}
+use Rattle.whole.proofs.Lists.{front, front-le, front-length}
 use Rattle.whole.proofs.Machine.{rd}
 use Rattle.whole.proofs.Table.{table-length}
-use Rattle.account.specs.Measures.{at, total-of, deviation-of, spread-of, weight-of, cross-of, squares-of, weight-at}
+use Rattle.account.specs.Measures.{total-of, deviation-of, spread-of, weight-of, cross-of, squares-of, weight-at}
 use Rattle.account.specs.Answers.{five, job-figures}
 use Rattle.account.specs.Steps.{pair-sums-of}
 use Rattle.account.specs.declared.working.PairSums.{PairSums}

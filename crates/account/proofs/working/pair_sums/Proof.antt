@@ -4,7 +4,8 @@ use Prim.Native.Nat.{ℕ}
 use lib.IntN.{ℤ}
 use mir.Syntax.{w64}
 use Rattle.whole.proofs.Machine.{rd}
-use Rattle.account.specs.Measures.{at, deviation-of, weight-of, cross-of, squares-of, weight-at}
+use Rattle.whole.specs.Table.{at}
+use Rattle.account.specs.Measures.{deviation-of, weight-of, cross-of, squares-of, weight-at}
 use Rattle.account.specs.Answers.{job-locals}
 use Rattle.account.specs.Steps.{pair-sums-of}
 use Rattle.account.specs.declared.working.PairSums.{PairSums}
