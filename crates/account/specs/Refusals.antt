@@ -12,7 +12,7 @@ use Rattle.whole.specs.Search.{some, any-beyond, any-above}
 use Rattle.whole.specs.Table.{at}
 use Rattle.account.specs.Measures.{weight-of, spread-of, weight-at}
 
--- ---- the rules
+-- ---- a job's own rules
 
 -- a weight stands on the diagonal
 unfoldable pub any-on-diagonal : ℕ → List ℕ → Bool
