@@ -24,10 +24,10 @@ def main():
         print('\n'.join(rows()))
         return
     text = (ROOT / 'docs' / 'TRUST.md').read_text().splitlines()
-    lacking = [row for row in rows() if row not in text]
-    for row in lacking:
-        print(f'meaning: docs/TRUST.md lacks the row {row}')
-    if lacking:
+    listed = [line for line in text if line.startswith(('| crates/', '| together '))]
+    for row in sorted(set(rows()) ^ set(listed)):
+        print(f"meaning: docs/TRUST.md {'lacks' if row in rows() else 'still has'} the row {row}")
+    if listed != rows():
         sys.exit(1)
     print(f'meaning: {len(rows()) - 1} files, as docs/TRUST.md lists them')
 

@@ -10,10 +10,11 @@ use lib.Dec.{le→leb}
 use lib.IntN.{ℤ, pos, natAbs, _-ℤ_, _*ℤ_, +ℤ-invr}
 use lib.Signed.{_≤ℤ_}
 use Rattle.whole.specs.Integer.{square}
+use Rattle.whole.specs.Rules.{Applies}
 use Rattle.whole.specs.Sum.{sum}
 use Rattle.whole.proofs.Integer.{equal-of-diff}
 use Rattle.whole.proofs.Pairs.{deviations-squared}
-use Rattle.whole.proofs.Rules.{Applies, first-least, first-applies}
+use Rattle.whole.proofs.Rules.{first-least, first-applies}
 use Rattle.whole.proofs.Size.{size-*-le, square-zero, square-above}
 use Rattle.whole.proofs.Sum.{sum-cong, sum-none}
 use Rattle.whole.proofs.SumSize.{sum-above, terms-zero}

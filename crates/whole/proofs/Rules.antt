@@ -3,12 +3,12 @@
 use mathlib.Core.Path.{_≡_, refl, sym, subst}
 use mathlib.Core.Bool.{Bool, true, false, not, cond, _||_}
 use mathlib.Core.List.{List, [], _∷_, _++_}
-use mathlib.Core.Logic.{_⊎_, inl, inr, ⊎-elim}
+use mathlib.Core.Logic.{inl, inr, ⊎-elim}
 use Prim.Native.Nat.{ℕ, suc, _≤_, _<_}
 use native.Mathlib.Omega.{arith}
 use borrow.Author.Tests.{ltb-false, eqb-true, not-false}
 use lib.Dec.{T, ltb, ltb→lt, eqb}
-use Rattle.whole.specs.Rules.{Rule, first-broken, outside, misfits}
+use Rattle.whole.specs.Rules.{Rule, first-broken, Applies, outside, misfits}
 
 -- ---- one rule and the rest: the number is 0 only where the rule holds and none of the rest is broken
 pub holds : (b : Bool) (k r : ℕ) → cond b (suc k) r ≡ 0 → (b ≡ false) × (r ≡ 0)
@@ -42,11 +42,6 @@ module _ (rest : List Rule) where
   first-none k ((false, m) ∷ rules) g e = first-none m rules (g .1) e
 
 -- ---- the least number that applies
--- a rule with the number m is broken
-abbrev pub Applies : ℕ → List Rule → Type 0
-Applies m [] = ⊥
-Applies m (rule ∷ rules) = ((rule .0 ≡ true) × (rule .1 ≡ m)) ⊎ Applies m rules
-
 above : (k m : ℕ) (rules : List Rule) → Rising k rules → Applies m rules → k < m
 above k m (rule ∷ rules) g a =
     let h = ltb→lt k (rule .1) (g .0) in

@@ -1,6 +1,8 @@
 -- Numbered rules, the refusal that they lead to, and what a refusal leaves. Assumes nothing.
-use mathlib.Core.Bool.{Bool, false, not, cond, _||_}
+use mathlib.Core.Path.{_≡_}
+use mathlib.Core.Bool.{Bool, true, false, not, cond, _||_}
 use mathlib.Core.List.{List, [], _∷_}
+use mathlib.Core.Logic.{_⊎_}
 use Prim.Native.Nat.{ℕ}
 use lib.Dec.{ltb, eqb}
 
@@ -12,6 +14,11 @@ Rule = Bool × ℕ
 abbrev pub first-broken : List Rule → ℕ
 first-broken [] = 0
 first-broken (rule ∷ rules) = cond (rule .0) (rule .1) (first-broken rules)
+
+-- the number applies: a rule with that number is broken
+abbrev pub Applies : ℕ → List Rule → Type 0
+Applies number [] = ⊥
+Applies number (rule ∷ rules) = ((rule .0 ≡ true) × (rule .1 ≡ number)) ⊎ Applies number rules
 
 -- `worked` where nothing is refused, and `kept` where the call is refused
 abbrev pub unless-refused : {A : Type 0} → ℕ → A → A → A
