@@ -70,8 +70,8 @@ module _ (x : ℕ → ℤ) (n : ℕ) where
   unfolding spread-of
   zero-when-equal same =
       sum-cong _ _ n
-      (λ j p. sum-cong _ _ j (λ i q. ap (λ z. square (z -ℤ x j)) (same i j (omega arith) p) ∙ ap (λ z. z *ℤ z) (+ℤ-invr (x j))) ∙ sum-none j) ∙
-      sum-none n
+      (λ j p. sum-cong _ _ j (λ i q. ap (λ z. square (z -ℤ x j)) (same i j (omega arith) p) ∙ ap (λ z. z *ℤ z) (+ℤ-invr (x j))) ∙ sum-none j)
+      ∙ sum-none n
 
 -- ---- every numerator and divisor is at most 6 × 10^18, whatever weights of at most 9 are counted off the diagonal
 pub within-limits :

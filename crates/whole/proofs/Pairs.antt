@@ -56,8 +56,8 @@ module _ (f : ℕ → ℤ) where
   unfolding sum
   pairs-sum zero = refl
   pairs-sum (suc n) =
-      ap (λ z. z +ℤ sum (λ i. square (f i -ℤ f n)) n) (pairs-sum n) ∙ ap (λ z. (pos n *ℤ squares n -ℤ square (sum f n)) +ℤ z) (to-one (f n) n) ∙
-      one-more n (squares n) (sum f n) (f n)
+      ap (λ z. z +ℤ sum (λ i. square (f i -ℤ f n)) n) (pairs-sum n) ∙ ap (λ z. (pos n *ℤ squares n -ℤ square (sum f n)) +ℤ z) (to-one (f n) n)
+      ∙ one-more n (squares n) (sum f n) (f n)
 
   pub deviations-squared : (n : ℕ) → sum (λ k. square (pos n *ℤ f k -ℤ sum f n)) n ≡ pos n *ℤ sum (λ j. sum (λ i. square (f i -ℤ f j)) j) n
   deviations-squared n =
