@@ -62,8 +62,8 @@ pub accepted :
     (n : ℕ) (values : List ℤ) (weights : List ℕ) (locals : List ℤ) → account-refusal n values weights locals ≡ 0 → Accepted n values weights locals
 unfolding account-refusal account-rules job-rules
 accepted n values weights locals e =
-    let both =
-    first-none (job-rules n values weights) 0 (size-rules n (account-lengths n (length values) (length weights) (length locals))) (tt, (tt, tt)) e in
+    let sizes = size-rules n (account-lengths n (length values) (length weights) (length locals)) in
+    let both = first-none (job-rules n values weights) 0 sizes (tt, (tt, tt)) e in
     let f = fitting n (length values) (length weights) (length locals) (both .0) in
     let e3 = holds (any-beyond 100000 values) 2 _ (both .1) in
     let e4 = holds (any-above 9 weights) 3 _ (e3 .1) in

@@ -1,8 +1,7 @@
--- What an answer of the account says, and that it says all: an answer is known by its number and its figures. Assumes nothing.
-use mathlib.Core.Path.{_≡_, refl, sym, ap, _∙_}
+-- The account's two ways out, and what its contract promises of each. Assumes nothing.
+use mathlib.Core.Path.{_≡_, refl, sym, _∙_}
 use mathlib.Core.List.{List}
 use Prim.Native.Nat.{ℕ}
-use native.Mathlib.Omega.{arith}
 use borrow.Author.Tests.{eq-eqb, ne-eqb}
 use lib.IntN.{ℤ}
 use Rattle.account.specs.Refusals.{account-refusal}
@@ -10,21 +9,6 @@ use Rattle.account.specs.Answers.{number-of, figures-of, job-figures, jo
 use Rattle.account.specs.declared.Sums.{Sums}
 use Rattle.account.specs.declared.Answer.{Answer}
 use Rattle.account.specs.declared.Answer.the-variants.{Refused, Accounted}
-
-sums-same :
-    (a b c d e a′ b′ c′ d′ e′ : ℤ) → a ≡ a′ → b ≡ b′ → c ≡ c′ → d ≡ d′ → e ≡ e′ →
-    _≡_ {A =
-    Sums} (record { total = a; spread = b; weight = c; cross = d; squares = e }) (record
-    { total = a′; spread = b′; weight = c′; cross = d′; squares = e′ })
-sums-same a b c d e a′ b′ c′ d′ e′ p q r s t = rw (p, q, r, s, t) refl
-
--- two answers that say the same are the same
-pub answer-unique : (a b : Answer) → number-of a ≡ number-of b → figures-of a ≡ figures-of b → a ≡ b
-unfolding number-of figures-of
-answer-unique (Refused k) (Refused l) e f = ap Refused e
-answer-unique (Refused k) (Accounted t) e f = let z : _≡_ {A = ℕ} 0 1 = cc in absurd (omega arith)
-answer-unique (Accounted s) (Refused l) e f = let z : _≡_ {A = ℕ} 0 1 = cc in absurd (omega arith)
-answer-unique (Accounted s) (Accounted t) e f = ap Accounted (sums-same _ _ _ _ _ _ _ _ _ _ (cc) (cc) (cc) (cc) (cc))
 
 module _ (n : ℕ) (values : List ℤ) (weights : List ℕ) (locals : List ℤ) where
   -- what the call promises of its answer r and of the list that it leaves
@@ -41,7 +25,10 @@ module _ (n : ℕ) (values : List ℤ) (weights : List ℕ) (locals : List ℤ) 
 
   -- the sums, and the local numerators
   pub accounted :
-      (sums : Sums) (left : List ℤ) → account-refusal n values weights locals ≡ 0 → figures-of (Accounted sums) ≡ job-figures n values weights →
-      left ≡ job-locals n values weights → Promised (Accounted sums) left
+      (sums : Sums) (left : List ℤ) →
+      account-refusal n values weights locals ≡ 0 →
+      figures-of (Accounted sums) ≡ job-figures n values weights →
+      left ≡ job-locals n values weights →
+      Promised (Accounted sums) left
   unfolding number-of account-figures account-locals
   accounted sums left z e g = let q = eq-eqb (account-refusal n values weights locals) 0 z in (sym z, (rw q e, rw q g))

@@ -23,10 +23,11 @@ use Rattle.account.specs.Measures.{total-of, deviation-of, spread-of, we
 use Rattle.account.specs.Limits.{Limits}
 use Rattle.account.specs.Refusals.{job-rules, account-rules, account-refusal}
 use Rattle.account.specs.Answers.{number-of, figures-of, job-figures, job-locals, account-figures, account-locals}
+use Rattle.account.specs.declared.Sums.{Sums}
 use Rattle.account.specs.declared.Answer.{Answer}
+use Rattle.account.specs.declared.Answer.the-variants.{Refused, Accounted}
 use Rattle.account.proofs.Accepted.{accepted}
 use Rattle.account.proofs.Adding as adding
-use Rattle.account.proofs.Answered as answered
 use Rattle.account.proofs.Locals.{locals-cross}
 use Rattle.account.proofs.Reading.{weight-le}
 use Rattle.account.proofs.Sizes.{deviation-size, spread-of-size, weight-sharp, squares-sharp, local-sharp, cross-sharp}
@@ -85,17 +86,13 @@ within-limits f x n zones light clear near =
     let w = weight-sharp f n zones light clear in
     let m = spread-of-size x n zones near in
     let g = squares-sharp f n zones light clear x near in
+    let pairs : (n - 1) * n ≤ 4032 = N.mul-le-mul {n₂ = 63} {m₂ = 64} (omega arith) zones in
+    let twice = size-*-le (pos 2) (weight-of f n) 2 36288 (N.le-refl 2) w in
     record {
       moran-numerator = omega (arith, cross-sharp f n zones light clear (deviation-of x n) d);
       moran-divisor = omega (arith, size-*-le (weight-of f n) (spread-of x n) 36288 80640000000000 w m);
-      geary-numerator =
-          omega (
-            arith,
-            size-*-le (pos ((n - 1) * n)) (squares-of f x n) 4032 1451520000000000 (N.mul-le-mul {n₂ =
-                63} {m₂ = 64} (omega arith) zones) g,
-          );
-      geary-divisor =
-          omega (arith, size-*-le (pos 2 *ℤ weight-of f n) (spread-of x n) 72576 80640000000000 (size-*-le (pos 2) (weight-of f n) 2 36288 (N.le-refl 2) w) m);
+      geary-numerator = omega (arith, size-*-le (pos ((n - 1) * n)) (squares-of f x n) 4032 1451520000000000 pairs g);
+      geary-divisor = omega (arith, size-*-le (pos 2 *ℤ weight-of f n) (spread-of x n) 72576 80640000000000 twice m);
       local-numerator = λ i h. omega (arith, local-sharp f n zones light clear (deviation-of x n) d i h);
       local-divisor = omega arith;
     }
@@ -129,5 +126,15 @@ module _ (n : ℕ) (values : List ℤ) (weights : List ℕ) (locals : List ℤ) 
   refusal-least number = first-least 0 number (account-rules n values weights locals) (tt, (tt, (tt, (tt, (tt, (tt, (tt, tt)))))))
 
 -- ---- an answer is known by its number and its figures, so that the contract leaves no second answer open
+made : (s m w p g : ℤ) → Sums
+made s m w p g = record { total = s; spread = m; weight = w; cross = p; squares = g }
+
+same : (s m w p g s′ m′ w′ p′ g′ : ℤ) → s ≡ s′ → m ≡ m′ → w ≡ w′ → p ≡ p′ → g ≡ g′ → made s m w p g ≡ made s′ m′ w′ p′ g′
+same s m w p g s′ m′ w′ p′ g′ e1 e2 e3 e4 e5 = cc
+
 pub answer-unique : (a b : Answer) → number-of a ≡ number-of b → figures-of a ≡ figures-of b → a ≡ b
-answer-unique = answered.answer-unique
+unfolding number-of figures-of made
+answer-unique (Refused k) (Refused l) e f = ap Refused e
+answer-unique (Refused k) (Accounted t) e f = let z : _≡_ {A = ℕ} 0 1 = cc in absurd (omega arith)
+answer-unique (Accounted s) (Refused l) e f = let z : _≡_ {A = ℕ} 0 1 = cc in absurd (omega arith)
+answer-unique (Accounted s) (Accounted t) e f = ap Accounted (same _ _ _ _ _ _ _ _ _ _ (cc) (cc) (cc) (cc) (cc))

@@ -18,13 +18,19 @@ pub +-swap : (a b c d : ℤ) → (a +ℤ b) +ℤ (c +ℤ d) ≡ (a +ℤ c) +ℤ 
 *-dist-r : (m n k : ℤ) → (m +ℤ n) *ℤ k ≡ m *ℤ k +ℤ n *ℤ k
 *-dist-r m (pos zero) k = ap (λ x. x *ℤ k) (+ℤ-idr m) ∙ sym (ap (λ x. m *ℤ k +ℤ x) (zero-*ℤ k) ∙ +ℤ-idr (m *ℤ k))
 *-dist-r m (pos (suc n)) k =
-    ap (λ x. x *ℤ k) (+ℤ-sucℤ m (pos n)) ∙ sucℤ-*ℤ (m +ℤ pos n) k ∙ ap (λ x. x +ℤ k) (*-dist-r m (pos n) k) ∙ +ℤ-assoc (m *ℤ k) (pos n *ℤ k) k ∙ ap
-    (λ x. m *ℤ k +ℤ x) (sym (sucℤ-*ℤ (pos n) k))
+    ap (λ x. x *ℤ k) (+ℤ-sucℤ m (pos n))
+    ∙ sucℤ-*ℤ (m +ℤ pos n) k
+    ∙ ap (λ x. x +ℤ k) (*-dist-r m (pos n) k)
+    ∙ +ℤ-assoc (m *ℤ k) (pos n *ℤ k) k
+    ∙ ap (λ x. m *ℤ k +ℤ x) (sym (sucℤ-*ℤ (pos n) k))
 *-dist-r m (negsuc zero) k =
     ap (λ x. x *ℤ k) (-ℤ-one m) ∙ predℤ-*ℤ m k ∙ ap (λ x. m *ℤ k +ℤ x) (sym (predℤ-*ℤ (pos zero) k ∙ ap (λ x. x -ℤ k) (zero-*ℤ k) ∙ +ℤ-idl (negℤ k)))
 *-dist-r m (negsuc (suc n)) k =
-    ap (λ x. x *ℤ k) (+ℤ-predℤ m (negsuc n)) ∙ predℤ-*ℤ (m +ℤ negsuc n) k ∙ ap (λ x. x -ℤ k) (*-dist-r m (negsuc n) k) ∙ +ℤ-assoc (m *ℤ k)
-    (negsuc n *ℤ k) (negℤ k) ∙ ap (λ x. m *ℤ k +ℤ x) (sym (predℤ-*ℤ (negsuc n) k))
+    ap (λ x. x *ℤ k) (+ℤ-predℤ m (negsuc n))
+    ∙ predℤ-*ℤ (m +ℤ negsuc n) k
+    ∙ ap (λ x. x -ℤ k) (*-dist-r m (negsuc n) k)
+    ∙ +ℤ-assoc (m *ℤ k) (negsuc n *ℤ k) (negℤ k)
+    ∙ ap (λ x. m *ℤ k +ℤ x) (sym (predℤ-*ℤ (negsuc n) k))
 
 pub *-dist-l : (k m n : ℤ) → k *ℤ (m +ℤ n) ≡ k *ℤ m +ℤ k *ℤ n
 *-dist-l k m n = *ℤ-comm k (m +ℤ n) ∙ *-dist-r m n k ∙ ap (λ x. x +ℤ n *ℤ k) (*ℤ-comm m k) ∙ ap (λ x. k *ℤ m +ℤ x) (*ℤ-comm n k)
@@ -40,7 +46,7 @@ neg-* m k = neg-unique (m *ℤ k) (negℤ m *ℤ k) (sym (*-dist-r m (negℤ m) 
 *-neg : (m k : ℤ) → m *ℤ negℤ k ≡ negℤ (m *ℤ k)
 *-neg m k = *ℤ-comm m (negℤ k) ∙ neg-* k m ∙ ap negℤ (*ℤ-comm k m)
 
--- ---- a difference of two naturals. Shut, so that the laws below are all that a proof sees of it, but for its size
+-- ---- a difference of two naturals. It stays shut where an identity is proved, so that `simp` sees only the laws below
 unfoldable pub diff : ℕ → ℕ → ℤ
 diff a b = pos a -ℤ pos b
 
