@@ -6,7 +6,6 @@ use native.Mathlib.Nat as N
 use native.Mathlib.Decide.{decLt, ℕ-discrete}
 use native.Mathlib.Omega.{arith}
 use borrow.Author.Tests.{eq-eqb}
-use lib.Dec.{le→leb}
 use lib.IntN.{ℤ, pos, natAbs, _-ℤ_, _*ℤ_, +ℤ-invr}
 use lib.Signed.{_≤ℤ_}
 use Rattle.whole.specs.Integer.{square}
@@ -15,7 +14,7 @@ use Rattle.whole.specs.Sum.{sum}
 use Rattle.whole.proofs.Integer.{equal-of-diff}
 use Rattle.whole.proofs.Pairs.{deviations-squared}
 use Rattle.whole.proofs.Rules.{first-least, first-applies}
-use Rattle.whole.proofs.Size.{size-*-le, square-zero, square-above}
+use Rattle.whole.proofs.Size.{size-*-le, square-zero, square-above, one-of}
 use Rattle.whole.proofs.Sum.{sum-cong, sum-none}
 use Rattle.whole.proofs.SumSize.{sum-above, terms-zero}
 use Rattle.whole.specs.Table.{at}
@@ -104,9 +103,6 @@ module _ (n : ℕ) (values : List ℤ) (weights : List ℕ) (locals : List ℤ) 
       let a = accepted n values weights locals taken in
       let v = a .job .valued in
       within-limits (weight-at weights n) (at values) n (v .zones) (weight-le weights n (a .job .weighted)) (a .clear) (v .near .size)
-
-  one-of : (z : ℤ) → z ≡ pos (natAbs z) → 1 ≤ natAbs z → pos 1 ≤ℤ z
-  one-of z e h = rw e (record { le = le→leb 1 (natAbs z) h })
 
   pub weight-one : pos 1 ≤ℤ weight-of (weight-at weights n) n
   weight-one = one-of _ (adding.weight-above (weight-at weights n) n) (accepted n values weights locals taken .weighty)

@@ -56,11 +56,12 @@ first-applies [] f = absurd (f refl)
 first-applies ((true, l) ∷ rules) f = inl (refl, refl)
 first-applies ((false, l) ∷ rules) f = inr (first-applies rules f)
 
--- ---- what the first two rules tell where they hold
-neither : (a b : Bool) → (a || b) ≡ false → (a ≡ false) × (b ≡ false)
+-- ---- a rule of two tests holds where neither passes
+pub neither : (a b : Bool) → (a || b) ≡ false → (a ≡ false) × (b ≡ false)
 neither false b e = (refl, e)
 neither true b e = absurd (subst T e tt)
 
+-- ---- what the first two rules tell where they hold
 pub in-range : (lowest highest n : ℕ) → outside lowest highest n ≡ false → (lowest ≤ n) × (n ≤ highest)
 in-range lowest highest n e = let f = neither (ltb n lowest) (ltb highest n) e in (ltb-false n lowest (f .0), ltb-false highest n (f .1))
 

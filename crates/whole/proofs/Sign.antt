@@ -11,10 +11,19 @@ use lib.Signed.{ltZ, nonNeg}
 use mir.Syntax.{w64}
 use mir.Val.{Fits, SFits}
 use mir.ValLaws.{toZ-ofZ}
+use Rattle.whole.specs.Integer.{below-zero}
 use Rattle.whole.proofs.Machine.{r64}
 
 double : (a : ℕ) → a < 2 ^ 63 → a + 1 < 2 ^ 64
 double a q = omega arith
+
+-- the code's test of the sign
+pub sign-read : (z : ℤ) → SFits w64 z → ltZ (r64 z) (pos 0) ≡ below-zero z
+sign-read z f = ap (λ (y : ℤ). ltZ y (pos 0)) (toZ-ofZ w64 z f) ∙ go z
+  where
+    go : (z : ℤ) → ltZ z (pos 0) ≡ below-zero z
+    go (pos a) = leb·suc-zero a
+    go (negsuc a) = refl
 
 -- what the code reads of z where z is not below 0: its size
 pub not-below : (z : ℤ) → SFits w64 z → ltZ (r64 z) (pos 0) ≡ false → T (nonNeg (r64 z)) × Fits w64 (natAbs (r64 z))

@@ -5,12 +5,12 @@ use Prim.Native.Nat.{ℕ, zero, suc, _+_, _*_, _-_, _≤_, _<_, _^_}
 use native.Mathlib.Nat as N
 use native.Mathlib.Omega.{arith}
 use borrow.Author.Tests.{eqb-false}
-use lib.Dec.{ltb}
+use lib.Dec.{ltb, leb→le, le→leb}
 use lib.IntN.{ℤ, pos, negsuc, negℤ, natAbs, _+ℤ_, _-ℤ_, _*ℤ_}
-use lib.Signed.{mag}
+use lib.Signed.{mag, _≤ℤ_}
 use mir.Syntax.{Width}
 use mir.Val.{SFits, hbits}
-use Rattle.whole.specs.Integer.{square, is-zero}
+use Rattle.whole.specs.Integer.{square, is-zero, below-zero}
 use Rattle.whole.proofs.Integer.{diff, diff-of, diff-+, plus-part, minus-part}
 
 -- ---- of a sum
@@ -78,6 +78,31 @@ pub +-above : (a b : ℤ) → a ≡ pos (natAbs a) → b ≡ pos (natAbs b) → 
 
 pub *-above : (a b : ℤ) → a ≡ pos (natAbs a) → b ≡ pos (natAbs b) → a *ℤ b ≡ pos (natAbs (a *ℤ b))
 *-above a b p q = rw (p, q) refl
+
+-- ---- at least 1
+pub one-above : (z : ℤ) → pos 1 ≤ℤ z → z ≡ pos (natAbs z)
+one-above (pos n) h = refl
+one-above (negsuc n) h = absurd (h .le)
+
+pub one-some : (z : ℤ) → pos 1 ≤ℤ z → 1 ≤ natAbs z
+one-some (pos n) h = leb→le 1 n (h .le)
+one-some (negsuc n) h = absurd (h .le)
+
+pub one-of : (z : ℤ) → z ≡ pos (natAbs z) → 1 ≤ natAbs z → pos 1 ≤ℤ z
+one-of z e h = rw e (record { le = le→leb 1 (natAbs z) h })
+
+pub one-* : (a b : ℤ) → pos 1 ≤ℤ a → pos 1 ≤ℤ b → pos 1 ≤ℤ (a *ℤ b)
+one-* a b h k = one-of (a *ℤ b) (*-above a b (one-above a h) (one-above b k)) (rw (size-* a b) (N.mul-pos (one-some a h) (one-some b k)))
+
+-- ---- the sign of a product by such a number
+below-neg : (n : ℕ) → 0 < n → below-zero (negℤ (pos n)) ≡ true
+below-neg zero h = absurd (N.lt-irrefl 0 h)
+below-neg (suc n) h = refl
+
+pub sign-* : (p q : ℤ) → pos 1 ≤ℤ q → below-zero (p *ℤ q) ≡ below-zero p
+sign-* (pos a) (pos n) h = refl
+sign-* (negsuc a) (pos n) h = below-neg (suc a * n) (N.mul-pos (N.zero-lt-suc a) (leb→le 1 n (h .le)))
+sign-* p (negsuc n) h = absurd (h .le)
 
 -- ---- a size below half the width's power fits
 mag-le : (a : ℤ) → mag a ≤ natAbs a

@@ -38,3 +38,9 @@ misfits (one ∷ others) = not (eqb (one .0) (one .1)) || misfits others
 -- 1 and 2: n outside 2 to 64, and a lent list not of its exact length
 abbrev pub size-rules : ℕ → List (ℕ × ℕ) → List Rule
 size-rules n lengths = (outside 2 64 n, 1) ∷ (misfits lengths, 2) ∷ []
+
+-- ---- the limit that the account's numbers keep and part 2 judges by
+
+-- 6×10^18, which no numerator and no divisor exceeds in size
+abbrev pub ratio-limit : ℕ
+ratio-limit = 6000000000000000000

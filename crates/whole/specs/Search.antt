@@ -3,8 +3,9 @@ use mathlib.Core.Bool.{Bool, false, _||_}
 use mathlib.Core.List.{List}
 use Prim.Native.Nat.{ℕ, zero, suc}
 use lib.Dec.{ltb}
-use lib.IntN.{ℤ, natAbs}
+use lib.IntN.{ℤ}
 use lib.ListN.{length, getD}
+use Rattle.whole.specs.Integer.{beyond}
 use Rattle.whole.specs.Table.{at}
 
 -- whether some number below n passes the test
@@ -14,7 +15,7 @@ some test (suc n) = some test n || test n
 
 -- a number of the list is beyond the limit in size
 unfoldable pub any-beyond : ℕ → List ℤ → Bool
-any-beyond limit numbers = some (λ k. ltb limit (natAbs (at numbers k))) (length numbers)
+any-beyond limit numbers = some (λ k. beyond limit (at numbers k)) (length numbers)
 
 -- a number of the list is above the limit
 unfoldable pub any-above : ℕ → List ℕ → Bool

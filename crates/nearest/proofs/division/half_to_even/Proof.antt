@@ -1,0 +1,40 @@
+-- `half_to_even` meets its contract: it takes the case that the kit's `compare` names. Assumes nothing.
+use mathlib.Core.Path.{_≡_, sym, ap, _∙_}
+use Prim.Native.Nat.{_*_, _<_}
+use native.Mathlib.Numerals.{add-one}
+use native.Mathlib.Omega.{arith}
+use borrow.Author.Needs.{needs}
+use lib.Ieee.{nearest}
+use Rattle.nearest.proofs.Compare.{compare-lt, compare-eq, compare-gt}
+use Rattle.nearest.proofs.division.half_to_even.Statement.{statement}
+use Rattle.nearest.proofs.division.half_to_even.Tie as tie
+
+add-twice : tie.Need-add-twice
+add-twice c = search needs
+
+add-result : tie.Need-add-result
+add-result c = search needs
+
+add-result-2 : tie.Need-add-result-2
+add-result-2 c = search needs
+
+returns : tie.Need-returns
+returns c =
+    let a = c .before .args in
+    let h : a .rest * 2 < a .divisor = omega arith in
+    sym (ap (nearest (a .whole)) (compare-lt (a .rest * 2) (a .divisor) h))
+
+returns-2 : tie.Need-returns-2
+returns-2 c =
+    let a = c .before .before .args in
+    let h : a .divisor < a .rest * 2 = omega arith in
+    add-one (a .whole) ∙ sym (ap (nearest (a .whole)) (compare-gt (a .rest * 2) (a .divisor) h))
+
+returns-3 : tie.Need-returns-3
+returns-3 c =
+    let a = c .before .before .args in
+    let h : a .rest * 2 ≡ a .divisor = omega arith in
+    sym (ap (nearest (a .whole)) (compare-eq (a .rest * 2) (a .divisor) h))
+
+pub half-to-even-spec : {M : Type 1} → statement M
+half-to-even-spec = tie.close (tie.spec add-twice add-result add-result-2 returns returns-2 returns-3)
