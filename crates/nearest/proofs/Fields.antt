@@ -1,12 +1,12 @@
 -- The bits of a finite float say the value that the kit's `ofBits` gives them. Assumes nothing.
 use mathlib.Core.Path.{_≡_, sym, _∙_, subst}
 use mathlib.Core.Logic.{inl, inr}
-use mathlib.Core.Bool.{Bool, true, false, cond}
+use mathlib.Core.Bool.{Bool, true, false, not, cond}
 use Prim.Native.Nat.{ℕ, zero, suc, _+_, _*_, _^_, _≤_, _<_}
-use native.Mathlib.Nat.{eq-or-lt-of-le, mul-one, mod-lt, div-lt-iff-lt-mul, eq-of-mul-eq-mul-right}
+use native.Mathlib.Nat.{lt-irrefl, eq-or-lt-of-le, mul-one, mod-lt, div-lt-iff-lt-mul, eq-of-mul-eq-mul-right}
 use native.Mathlib.Omega.{arith}
 use lib.Dec.{T, eqb, eqb→eq}
-use lib.Ieee.{Float, nan, inf, fin, binary64, down, odd, ofBits, ofFields, toBits, fits}
+use lib.Ieee.{Float, nan, inf, fin, binary64, down, odd, ofBits, ofFields, toBits, fits, isNan}
 use lib.Ieee.Bits.{ofBits-toBits, toBits-lt}
 use lib.Ieee.Exact.{HasValue, odd-sign}
 use lib.Ieee.Fits.{down-pos}
@@ -69,3 +69,10 @@ read x s a f v =
     let F = bits-finite b s a (2 ^ 1074) (toBits-lt binary64 x f) u in
     let same = same-value (ofBits binary64 b) (negative b) s (size-of b) a (2 ^ 1074) (bits-value b (F .1)) u in
     record { finite = F; sign = same .0; size = same .1 }
+
+-- ---- a float whose bits are finite is no NaN
+pub finite-number : (x : Float) → Finite (toBits binary64 x) → T (not (isNan x))
+unfolding isNan toBits
+finite-number nan h = absurd (lt-irrefl 2047 (h .1))
+finite-number (inf s) h = tt
+finite-number (fin s m e) h = tt

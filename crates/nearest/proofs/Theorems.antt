@@ -4,7 +4,7 @@ use mathlib.Core.Bool.{Bool, false, not}
 use Prim.Native.Nat.{ℕ, zero, suc, _+_, _-_, _*_, _≤_, _<_}
 use native.Mathlib.Omega.{arith}
 use lib.Dec.{T}
-use lib.Ieee.{binary64, round, neg, ofBits, toBits, isNan}
+use lib.Ieee.{Float, binary64, round, neg, ofBits, toBits, isNan}
 use lib.Ieee.Bits.{ofBits-toBits}
 use lib.Ieee.Fits.{round-fits}
 use lib.Ieee.Scale.{round-same}
@@ -17,11 +17,12 @@ use Rattle.whole.proofs.Integer.{*-assoc, *-left-comm}
 use Rattle.whole.proofs.Size.{size-*, one-above, one-some, one-*, sign-*}
 use Rattle.nearest.specs.Bits.{negative, Finite, size-of}
 use Rattle.nearest.specs.Nearest.{gap, IsNearest}
-use Rattle.nearest.specs.Answers.{number-of, figures-of, nearest-refusal, nearest-float}
+use Rattle.nearest.specs.Answers.{number-of, figures-of, NearestIn, nearest-refusal, nearest-float}
 use Rattle.nearest.specs.declared.Answer.{Answer}
 use Rattle.nearest.specs.declared.Answer.the-variants.{Refused, Rounded}
 use Rattle.nearest.proofs.Accepted as accepted
 use Rattle.nearest.proofs.Answered as answered
+use Rattle.nearest.proofs.Fields.{finite-number}
 use Rattle.nearest.proofs.Neighbours as neighbours
 use Rattle.nearest.proofs.NearestFloat.{zero-round}
 use Rattle.nearest.proofs.Signed.{neg-neg, neg-round, round-number}
@@ -90,6 +91,9 @@ plain-zero q h = sym (zero-round (natAbs q) (one-some q h))
 pub not-nan : (p q : ℤ) → T (not (isNan (nearest-float p q)))
 unfolding nearest-float
 not-nan p q = round-number binary64 (below-zero p) (natAbs p) (natAbs q)
+
+pub answered-not-nan : (p q : ℤ) (r : Answer) (x : Float) → NearestIn p q r → r ≡ Rounded x → T (not (isNan x))
+answered-not-nan p q r x h e = finite-number x (subst (NearestIn p q) e h .finite)
 
 pub read-back : (p q : ℤ) → ofBits binary64 (toBits binary64 (nearest-float p q)) ≡ nearest-float p q
 unfolding nearest-float

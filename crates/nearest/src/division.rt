@@ -1,7 +1,6 @@
-// The integer long division: a quotient of 53 binary digits, and its rounding.
+// The integer long division, to a quotient of 53 binary digits.
 ghost use mathlib.Core.Path.{_≡_};
-ghost use Prim.Native.Nat.{_+_, _*_, _^_, _≤_, _<_, compare};
-ghost use lib.Ieee.{nearest};
+ghost use Prim.Native.Nat.{_+_, _*_, _^_, _≤_, _<_};
 ghost use Rattle.nearest.specs.Steps.{Widened, Divided};
 
 // What is divided by: q, doubled some times.
@@ -80,21 +79,4 @@ pub fn long_division(a: u64, divisor: u64) -> Quotient
         x = next_digit(x, divisor);
     }
     x
-}
-
-// The whole part or the next number, whichever is nearer; at a tie the even one.
-pub fn half_to_even(whole: u64, rest: u64, divisor: u64) -> u64
-    requires { ⌜ rest < divisor ⌝ }
-    requires { ⌜ divisor < 2 ^ 63 ⌝ }
-    requires { ⌜ whole < 2 ^ 53 ⌝ }
-    ensures { λ m. ⌜ m ≡ nearest whole (compare (rest * 2) divisor) ⌝ }
-{
-    let twice = rest + rest;
-    if twice < divisor {
-        whole
-    } else if divisor < twice {
-        whole + 1
-    } else {
-        whole + whole % 2
-    }
 }

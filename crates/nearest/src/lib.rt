@@ -1,5 +1,6 @@
-// Part 2: p over q, both whole, as the nearest 64-bit float. The only place of the project where anything is rounded.
+// Part 2: p over q, both whole, as the nearest 64-bit float. Nothing else in the project rounds.
 mod division;
+mod rounding;
 mod scaling;
 mod signs;
 
@@ -41,7 +42,7 @@ fn ratio(a: u64, q: u64) -> f64
 {
     let by = division::widened(q);
     let x = division::long_division(a, by.divisor);
-    let m = division::half_to_even(x.whole, x.rest, by.divisor);
+    let m = rounding::half_to_even(x.whole, x.rest, by.divisor);
     scaling::scaled(m, by.doublings, x.halvings)
 }
 

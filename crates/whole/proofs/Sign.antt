@@ -2,20 +2,30 @@
 use mathlib.Core.Path.{_≡_, refl, sym, ap, _∙_, subst}
 use mathlib.Core.Bool.{true, false, true≢false, false≢true}
 use Prim.Native.Nat.{ℕ, zero, suc, _+_, _<_, _^_}
-use native.Mathlib.Nat.{le-of-lt, lt-of-lt-of-le, lt-suc-self}
+use native.Mathlib.Nat as N
 use native.Mathlib.Numerals.{add-one}
 use native.Mathlib.Omega.{arith}
+use borrow.Author.Needs.{sfits-of}
 use lib.Dec.{T, leb·suc-zero}
 use lib.IntN.{ℤ, pos, negsuc, sucℤ, _+ℤ_, _-ℤ_, natAbs, +ℤ-idl, +ℤ-one}
 use lib.Signed.{ltZ, nonNeg}
-use mir.Syntax.{w64}
-use mir.Val.{Fits, SFits}
+use mir.Facts.{toZ-pos}
+use mir.Syntax.{Width, w64}
+use mir.Val.{Fits, SFits, hbits, toZ}
 use mir.ValLaws.{toZ-ofZ}
 use Rattle.whole.specs.Integer.{below-zero}
 use Rattle.whole.proofs.Machine.{r64}
 
 double : (a : ℕ) → a < 2 ^ 63 → a + 1 < 2 ^ 64
 double a q = omega arith
+
+-- what the code makes of k for the number k below -1
+minus-more : (k : ℕ) → negsuc 0 -ℤ pos k ≡ negsuc k
+minus-more zero = refl
+minus-more (suc k) = ap negsuc (ap suc (N.zero-add k))
+
+pub one-below : (w : Width) (k : ℕ) → k < 2 ^ hbits w → SFits w (negsuc 0 -ℤ toZ w k)
+one-below w k l = subst (SFits w) (sym (ap (λ (z : ℤ). negsuc 0 -ℤ z) (toZ-pos w l) ∙ minus-more k)) (sfits-of l)
 
 -- the code's test of the sign
 pub sign-read : (z : ℤ) → SFits w64 z → ltZ (r64 z) (pos 0) ≡ below-zero z
@@ -47,7 +57,7 @@ pub record Turned (z : ℤ) : Type 0 where
 
 next-fits : (a : ℕ) → a < 2 ^ 63 → SFits w64 (sucℤ (negsuc a))
 next-fits zero h = record { sfits = h }
-next-fits (suc a) h = record { sfits = lt-of-lt-of-le (lt-suc-self a) (le-of-lt h) }
+next-fits (suc a) h = record { sfits = N.lt-of-lt-of-le (N.lt-suc-self a) (N.le-of-lt h) }
 
 flipped : (a : ℕ) → pos 0 -ℤ sucℤ (negsuc a) ≡ pos a
 flipped zero = refl

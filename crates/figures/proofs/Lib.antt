@@ -1,0 +1,2 @@
+-- That the table is right.
+pub mod Computed
