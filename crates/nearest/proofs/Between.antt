@@ -21,7 +21,8 @@ module _ (t w k : ℕ) (T : t < 2 ^ 52) (W : 2 ^ 52 ≤ w) where
   -- in a field whose steps are 2^x, for an x below k
   finer : (x : ℕ) → x < k → (2 ^ 52 + t) * 2 ^ x ≤ w * 2 ^ k
   finer x h =
-      le-trans (le-of-lt (shl-lt 53 x carried)) (le-trans (pow-mono (next x h)) (le-trans (le-of-eq (pow-add 2 52 k)) (mul-le-mul-right (2 ^ k) W)))
+      le-trans (le-of-lt (shl-lt 53 x carried))
+      (le-trans (pow-mono (next x h)) (le-trans (le-of-eq (pow-add 2 52 k)) (mul-le-mul-right (2 ^ k) W)))
     where
       carried : 2 ^ 52 + t < 2 ^ 53
       carried = omega arith

@@ -43,7 +43,9 @@ fields-finite s x t u a c v e = go (eqb t 0) (subst (λ (z : ℕ). HasValue (ofF
 
 bits-finite : (b : ℕ) (u : Bool) (a c : ℕ) → b < 2 ^ 64 → HasValue (ofBits binary64 b) u a c → Finite b
 unfolding ofBits
-bits-finite b u a c h v = (h, small (field b) (div-lt-iff-lt-mul (pow-pos 52) .1 (mod-lt b (pow-pos 63))) (fields-finite (negative b) (field b) (digits b) u a c v))
+bits-finite b u a c h v =
+    let within : field b < 2048 = div-lt-iff-lt-mul (pow-pos 52) .1 (mod-lt b (pow-pos 63)) in
+    (h, small (field b) within (fields-finite (negative b) (field b) (digits b) u a c v))
   where
     at-most : (x : ℕ) → x < 2048 → x ≤ 2047
     at-most x l = omega arith
@@ -65,7 +67,7 @@ pub record Read (b : ℕ) (s : Bool) (a : ℕ) : Type 0 where
 pub read : (x : Float) (s : Bool) (a : ℕ) → T (fits binary64 x) → HasValue x s a (2 ^ 1074) → Read (toBits binary64 x) s a
 read x s a f v =
     let b = toBits binary64 x in
-    let u : HasValue (ofBits binary64 b) s a (2 ^ 1074) = subst (λ (z : Float). HasValue z s a (2 ^ 1074)) (sym (ofBits-toBits binary64 x f)) v in
+    let u : HasValue (ofBits binary64 b) s a (2 ^ 1074) = rw (ofBits-toBits binary64 x f) v in
     let F = bits-finite b s a (2 ^ 1074) (toBits-lt binary64 x f) u in
     let same = same-value (ofBits binary64 b) (negative b) s (size-of b) a (2 ^ 1074) (bits-value b (F .1)) u in
     record { finite = F; sign = same .0; size = same .1 }

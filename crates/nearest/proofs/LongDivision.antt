@@ -36,6 +36,10 @@ module _ (f : Format) (a q j k w r : ℕ) (Q : 0 < q) (split : w * (q * 2 ^ j) +
   m : ℕ
   m = nearest w (compare (r * 2) (q * 2 ^ j))
 
+  scaled-divisor : q * 2 ^ j * 2 ^ (low f - k) ≡ q * 2 ^ dropped
+  unfolding dropped
+  scaled-divisor = N.mul-assoc q (2 ^ j) (2 ^ (low f - k)) ∙ ap (λ (z : ℕ). q * z) (sym (pow-add 2 j (low f - k)))
+
   n-is : n ≡ w * (q * 2 ^ dropped) + r * 2 ^ (low f - k)
   unfolding n dropped
   n-is =
@@ -47,14 +51,10 @@ module _ (f : Format) (a q j k w r : ℕ) (Q : 0 < q) (split : w * (q * 2 ^ j) +
       ∙ ap (λ (z : ℕ). z * 2 ^ c) (sym split)
       ∙ N.add-mul (w * (q * 2 ^ j)) r (2 ^ c)
       ∙ ap (λ (z : ℕ). z + r * 2 ^ c)
-      (N.mul-assoc w (q * 2 ^ j) (2 ^ c) ∙ ap (λ (z : ℕ). w * z) (N.mul-assoc q (2 ^ j) (2 ^ c) ∙ ap (λ (z : ℕ). q * z) (sym (pow-add 2 j c))))
+      (N.mul-assoc w (q * 2 ^ j) (2 ^ c) ∙ ap (λ (z : ℕ). w * z) scaled-divisor)
 
   rest-lt : r * 2 ^ (low f - k) < q * 2 ^ dropped
-  unfolding dropped
-  rest-lt =
-      let c = low f - k in
-      N.lt-of-lt-of-le (N.mul-lt-mul-of-pos-right over (pow-pos c))
-      (N.le-of-eq (N.mul-assoc q (2 ^ j) (2 ^ c) ∙ ap (λ (z : ℕ). q * z) (sym (pow-add 2 j c))))
+  rest-lt = N.lt-of-lt-of-le (N.mul-lt-mul-of-pos-right over (pow-pos (low f - k))) (N.le-of-eq scaled-divisor)
 
   whole-is : n / q / 2 ^ dropped ≡ w
   whole-is = N.div-div-eq-div-mul n q (2 ^ dropped) ∙ ap (λ (z : ℕ). z / (q * 2 ^ dropped)) n-is ∙ digits-div w rest-lt
@@ -62,11 +62,11 @@ module _ (f : Format) (a q j k w r : ℕ) (Q : 0 < q) (split : w * (q * 2 ^ j) +
   dropped-is : size (n / q) - prec f ≡ dropped
   dropped-is =
       let b = dropped in
-      let below : n / q < 2 ^ (prec f + b) =
-      N.lt-of-lt-of-le (N.div-lt-iff-lt-mul (pow-pos b) .0 (N.lt-of-le-of-lt (N.le-of-eq whole-is) most)) (N.le-of-eq (sym (pow-add 2 (prec f) b))) in
-      let from : 2 ^ (prec f - 1 + b) ≤ n / q =
-      N.le-trans (N.le-of-eq (pow-add 2 (prec f - 1) b)) (N.le-div-iff-mul-le (pow-pos b) .0 (N.le-trans least (N.le-of-eq (sym whole-is)))) in
-      drop-at (prec f) b (size (n / q)) (two-le-pos (prec f) (two f)) (size-le (n / q) (prec f + b) below) (size-gt (n / q) (prec f - 1 + b) from)
+      let below : n / q < 2 ^ (prec f + b) = rw (pow-add 2 (prec f) b) (N.div-lt-iff-lt-mul (pow-pos b) .0 (rw whole-is most)) in
+      let from : 2 ^ (prec f - 1 + b) ≤ n / q = rw (pow-add 2 (prec f - 1) b) (N.le-div-iff-mul-le (pow-pos b) .0 (rw whole-is least)) in
+      drop-at (prec f) b (size (n / q)) (two-le-pos (prec f) (two f))
+      (size-le (n / q) (prec f + b) below)
+      (size-gt (n / q) (prec f - 1 + b) from)
 
   kept-is : closest n (q * 2 ^ dropped) ≡ m
   unfolding n dropped m
@@ -93,7 +93,9 @@ module _ (f : Format) (a q j k w r : ℕ) (Q : 0 < q) (split : w * (q * 2 ^ j) +
   unfolding dropped
   round-value s J =
       let under : m * 2 ^ dropped < 2 ^ (low f + suc (emax f)) =
-      N.lt-of-le-of-lt (N.le-trans (N.mul-le-mul-right (2 ^ dropped) m-top) (N.le-of-eq (sym (pow-add 2 (prec f) dropped)))) (pow-lt (room (prec f) j k (low f) (emax f) J K)) in
+      N.lt-of-le-of-lt
+      (N.le-trans (N.mul-le-mul-right (2 ^ dropped) m-top) (N.le-of-eq (sym (pow-add 2 (prec f) dropped))))
+      (pow-lt (room (prec f) j k (low f) (emax f) J K)) in
       rw (round-units s) (units-val f s m dropped under)
 
   -- and so is what the code builds
@@ -102,5 +104,7 @@ module _ (f : Format) (a q j k w r : ℕ) (Q : 0 < q) (split : w * (q * 2 ^ j) +
   built s J =
       let x = round f s (m * 2 ^ j) (2 ^ k) in
       value-unique f x (round f s a q) s (m * 2 ^ dropped) (round-fits f s (m * 2 ^ j) (2 ^ k)) (round-fits f s a q)
-      (rescale x s (m * 2 ^ j) (2 ^ k) (m * 2 ^ dropped) (2 ^ low f) (pow-pos k) (sym (in-steps m j k (low f) K)) (exact f m j k m-top J K s))
+      (rescale x s (m * 2 ^ j) (2 ^ k) (m * 2 ^ dropped) (2 ^ low f) (pow-pos k)
+      (sym (in-steps m j k (low f) K))
+      (exact f m j k m-top J K s))
       (round-value s J)

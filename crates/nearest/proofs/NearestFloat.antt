@@ -58,7 +58,8 @@ module _ (p : ℤ) (q : ℕ) (Q : 0 < q) (x : Rounded (natAbs p) q) (b : ℕ) (i
       let out = none-between (field other) (digits other) (x .w) (x .k) (N.mod-lt other (pow-pos 52)) (x .least) in
       let same = nearer n q (x .w) (x .k) (x .r) (x .m) (x .split) (x .over) (x .taken) (size-of other) out in
       let cross = across n q (x .w) (x .k) (x .r) (x .m) (x .split) (x .over) (x .taken) (size-of other * q) in
-      rw (far, distance-is p q other) (any-signs (negative other) (below-zero p) (size-of other * q) n (apart (x .m * 2 ^ x .k * q) n) same cross)
+      rw (far, distance-is p q other)
+      (any-signs (negative other) (below-zero p) (size-of other * q) n (apart (x .m * 2 ^ x .k * q) n) same cross)
 
   -- ---- its form
   value-at : (m k : ℕ) → x .m * 2 ^ x .k ≡ m * 2 ^ k → value-of b ≡ signed (below-zero p) (m * 2 ^ k)
@@ -80,8 +81,8 @@ module _ (p : ℤ) (q : ℕ) (Q : 0 < q) (x : Rounded (natAbs p) q) (b : ℕ) (i
   module _ (L : 2 ^ 52 ≤ x .m) (H : x .m < 2 ^ 53) where
     outward : size-of b * q ≤ n → Half (distance p (pos q) b) (gap b * q) (x .m)
     outward o =
-        let g : gap b * q ≡ u = ap (λ (z : ℕ). z * q) (gap-outward b (x .m) (x .k) (is .finite) (is .size) L H) ∙ N.mul-comm (2 ^ x .k) q in
-        rw g
+        let g = gap-outward b (x .m) (x .k) (is .finite) (is .size) L H in
+        rw (g, N.mul-comm (2 ^ x .k) q)
         (⊎-elim
         (λ (d : Down (x .m) (x .w) (x .r) u). short (distance p (pos q) b) (x .r) u (x .m) (short-by d) (d .near) (d .tie))
         (λ (d : Up (x .m) (x .w) (x .r) u). absurd (never (size-of b * q) n u (x .r) (x .over) (up-at d) o))
@@ -90,8 +91,8 @@ module _ (p : ℤ) (q : ℕ) (Q : 0 < q) (x : Rounded (natAbs p) q) (b : ℕ) (i
     inward-up : Up (x .m) (x .w) (x .r) u → Half (distance p (pos q) b) (gap (b - 1) * q) (x .m)
     inward-up d =
         let l : 2 ^ 52 < x .m = N.lt-of-le-of-lt (x .least) (N.le-of-eq (sym (d .taken))) in
-        let g : gap (b - 1) * q ≡ u = ap (λ (z : ℕ). z * q) (gap-inward b (x .m) (x .k) (is .finite) (is .size) l H) ∙ N.mul-comm (2 ^ x .k) q in
-        rw g (past (distance p (pos q) b) (x .r) u (x .m) (x .over) (past-by d) (d .near) (d .tie))
+        let g = gap-inward b (x .m) (x .k) (is .finite) (is .size) l H in
+        rw (g, N.mul-comm (2 ^ x .k) q) (past (distance p (pos q) b) (x .r) u (x .m) (x .over) (past-by d) (d .near) (d .tie))
 
     inward-down : Down (x .m) (x .w) (x .r) u → n ≤ size-of b * q → Half (distance p (pos q) b) (gap (b - 1) * q) (x .m)
     inward-down d i =
@@ -118,7 +119,11 @@ module _ (p : ℤ) (q : ℕ) (Q : 0 < q) (x : Rounded (natAbs p) q) (b : ℕ) (i
         ∙ ap (λ (z : ℕ). 2 ^ 52 * z) (N.mul-comm 2 (2 ^ x .k) ∙ sym (N.pow-suc 2 (x .k)))
 
     only-up : Up (x .m) (x .w) (x .r) u
-    only-up = ⊎-elim (λ (d : Down (x .m) (x .w) (x .r) u). absurd (no (x .m) (x .w) E (d .taken) (x .most))) (λ (d : Up (x .m) (x .w) (x .r) u). d) (x .taken)
+    only-up =
+        ⊎-elim
+        (λ (d : Down (x .m) (x .w) (x .r) u). absurd (no (x .m) (x .w) E (d .taken) (x .most)))
+        (λ (d : Up (x .m) (x .w) (x .r) u). d)
+        (x .taken)
       where
         no : (m w : ℕ) → m ≡ 2 ^ 53 → m ≡ w → w < 2 ^ 53 → ⊥
         no m w e f l = omega arith

@@ -60,7 +60,8 @@ module _ (a q : ℕ) (A : 0 < a) (A' : a < 2 ^ 63) (Q : 0 < q) (Q' : q < 2 ^ 63)
   least : 2 ^ 52 ≤ w
   unfolding w k
   least =
-      let h : 2 ^ 52 * 2 ^ k ≤ n / q = N.le-trans (N.le-of-eq (sym (pow-add 2 52 k))) (size-reaches (n / q) (52 + k) (used (size (n / q)) enough)) in
+      let h : 2 ^ 52 * 2 ^ k ≤ n / q =
+      N.le-trans (N.le-of-eq (sym (pow-add 2 52 k))) (size-reaches (n / q) (52 + k) (used (size (n / q)) enough)) in
       subst (λ (x : ℕ). 2 ^ 52 ≤ x) (N.div-div-eq-div-mul n q (2 ^ k)) (N.le-div-iff-mul-le (pow-pos k) .1 h)
     where
       used : (z : ℕ) → 53 ≤ z → 52 + (z - 53) < z
@@ -69,7 +70,9 @@ module _ (a q : ℕ) (A : 0 < a) (A' : a < 2 ^ 63) (Q : 0 < q) (Q' : q < 2 ^ 63)
   -- a / q is below 2^63
   dropped-le : k ≤ 1084
   unfolding k n
-  dropped-le = cut (size (n / q)) (size-le (n / q) 1137 (N.lt-of-le-of-lt (N.div-le-self n q) (N.lt-of-lt-of-le (N.mul-lt-mul-of-pos-right A' (pow-pos 1074)) (lit≤ tt))))
+  dropped-le =
+      let h : n < 2 ^ 1137 = N.lt-of-lt-of-le (N.mul-lt-mul-of-pos-right A' (pow-pos 1074)) (lit≤ tt) in
+      cut (size (n / q)) (size-le (n / q) 1137 (N.lt-of-le-of-lt (N.div-le-self n q) h))
     where
       cut : (z : ℕ) → z ≤ 1137 → z - 53 ≤ 1084
       cut z h = omega arith
@@ -82,7 +85,8 @@ module _ (a q : ℕ) (A : 0 < a) (A' : a < 2 ^ 63) (Q : 0 < q) (Q' : q < 2 ^ 63)
   unfolding m w r k n
   value s =
       subst (λ (z : Float). HasValue z s (m * 2 ^ k) (2 ^ 1074)) (sym (round-is binary64 s a q))
-      (units-val binary64 s m k (N.lt-of-le-of-lt (N.le-trans (N.mul-le-mul-right (2 ^ k) top) (N.le-of-eq (sym (pow-add 2 53 k)))) (pow-lt (room k dropped-le))))
+      (units-val binary64 s m k
+      (N.lt-of-le-of-lt (N.le-trans (N.mul-le-mul-right (2 ^ k) top) (N.le-of-eq (sym (pow-add 2 53 k)))) (pow-lt (room k dropped-le))))
     where
       room : (b : ℕ) → b ≤ 1084 → 53 + b < 2098
       room b h = omega arith

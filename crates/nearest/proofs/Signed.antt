@@ -21,7 +21,9 @@ neg-units : (f : Format) (q k : ℕ) → neg (units f false q k) ≡ units f tru
 unfolding units neg
 neg-units f q k = go (ltb (q * 2 ^ k) (2 ^ (low f + suc (emax f))))
   where
-    go : (b : Bool) → neg (cond b (odd (suc (prec f)) false q k (low f)) (inf false)) ≡ cond b (odd (suc (prec f)) true q k (low f)) (inf true)
+    go :
+        (b : Bool) →
+        neg (cond b (odd (suc (prec f)) false q k (low f)) (inf false)) ≡ cond b (odd (suc (prec f)) true q k (low f)) (inf true)
     go true = neg-odd (suc (prec f)) q k (low f)
     go false = refl
 
@@ -60,7 +62,9 @@ module _ (p q : ℤ) where
   with-sign s x t e = e ∙ ap (λ (b : Bool). round binary64 b (natAbs p) (natAbs q)) (sym t)
 
   pub at-zero : 0 < natAbs q → natAbs p ≡ 0 → ofBits binary64 0 ≡ nearest-float p q
-  at-zero Q z = with-sign false (ofBits binary64 0) (plus p z) (zero-round (natAbs q) Q ∙ ap (λ (n : ℕ). round binary64 false n (natAbs q)) (sym z))
+  at-zero Q z =
+      with-sign false (ofBits binary64 0) (plus p z)
+      (zero-round (natAbs q) Q ∙ ap (λ (n : ℕ). round binary64 false n (natAbs q)) (sym z))
     where
       plus : (p : ℤ) → natAbs p ≡ 0 → below-zero p ≡ false
       plus (pos n) e = refl

@@ -17,7 +17,7 @@ use Rattle.whole.proofs.Integer.{*-assoc, *-left-comm}
 use Rattle.whole.proofs.Size.{size-*, one-above, one-some, one-*, sign-*}
 use Rattle.nearest.specs.Bits.{negative, Finite, size-of}
 use Rattle.nearest.specs.Nearest.{gap, IsNearest}
-use Rattle.nearest.specs.Answers.{number-of, figures-of, NearestIn, nearest-refusal, nearest-float}
+use Rattle.nearest.specs.Answers.{number-of, figures-of, NearestIn, nearest-refusal, nearest-float, nearest-figures}
 use Rattle.nearest.specs.declared.Answer.{Answer}
 use Rattle.nearest.specs.declared.Answer.the-variants.{Refused, Rounded}
 use Rattle.nearest.proofs.Accepted as accepted
@@ -106,3 +106,11 @@ answer-unique (Refused k) (Refused l) e f = ap Refused e
 answer-unique (Refused k) (Rounded y) e f = let z : _≡_ {A = ℕ} 0 1 = ap length f in absurd (omega arith)
 answer-unique (Rounded x) (Refused l) e f = let z : _≡_ {A = ℕ} 1 0 = ap length f in absurd (omega arith)
 answer-unique (Rounded x) (Rounded y) e f = ap Rounded (cc)
+
+-- so that where nothing is refused, the answer is the nearest float
+pub answer-rounded :
+    (p q : ℤ) → nearest-refusal p q ≡ 0 → (r : Answer) → number-of r ≡ nearest-refusal p q → figures-of r ≡ nearest-figures p q →
+    r ≡ Rounded (nearest-float p q)
+answer-rounded p q taken r n f =
+    let s = answered.rounded p q (nearest-float p q) taken refl in
+    answer-unique r (Rounded (nearest-float p q)) (n ∙ sym (s .0)) (f ∙ sym (s .1 .0))

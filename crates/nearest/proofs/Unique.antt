@@ -94,7 +94,7 @@ module _ (p : ℤ) (q : ℕ) (Q : 0 < q) where
     neighbour = next-bits b c B (C .0) (sign-is c g ∙ sym (sign-is b f)) (N.le-antisymm reached (none-above b c B less))
       where
         reached : size-of c ≤ size-of (b + 1)
-        reached = N.le-of-mul-le-mul-right (N.le-trans (within (size-of b * q) (size-of c * q) d (gap b * q) (middle .twice) (out .0)) (N.le-of-eq (sym next-times))) Q
+        reached = N.le-of-mul-le-mul-right (rw next-times (within (size-of b * q) (size-of c * q) d (gap b * q) (middle .twice) (out .0))) Q
 
     -- both are at a tie
     tie : 2 * d ≡ gap b * q
@@ -112,8 +112,10 @@ module _ (p : ℤ) (q : ℕ) (Q : 0 < q) where
         no : (b c : ℕ) → c ≡ b + 1 → b % 2 ≡ 0 → c % 2 ≡ 0 → ⊥
         no b c e h k = omega arith
 
-  one-form : (b c : ℕ) → IsNearest p (pos q) b → IsNearest p (pos q) c → Formed p (pos q) b → Formed p (pos q) c → b ≡ c
-  one-form b c B C f g =
+  one-form : (b c : ℕ) → IsNearest p (pos q) b → IsNearest p (pos q) c → (p ≡ pos 0 → ⊥) → b ≡ c
+  one-form b c B C some =
+      let f = B .formed some in
+      let g = C .formed some in
       let e : distance p (pos q) b ≡ distance p (pos q) c = N.le-antisymm (B .best c (C .finite)) (C .best b (B .finite)) in
       let no = clash b c (B .finite) (C .finite) f g e in
       let no' = clash c b (C .finite) (B .finite) g f (sym e) in
@@ -123,5 +125,5 @@ module _ (p : ℤ) (q : ℕ) (Q : 0 < q) where
 
 pub one-nearest : (p : ℤ) (q : ℕ) → 0 < q → (b c : ℕ) → IsNearest p (pos q) b → IsNearest p (pos q) c → b ≡ c
 one-nearest (pos zero) q Q b c B C = B .zero refl ∙ sym (C .zero refl)
-one-nearest (pos (suc a)) q Q b c B C = one-form (pos (suc a)) q Q b c B C (B .formed (λ e. N.suc-ne-zero a (ap natAbs e))) (C .formed (λ e. N.suc-ne-zero a (ap natAbs e)))
-one-nearest (negsuc a) q Q b c B C = one-form (negsuc a) q Q b c B C (B .formed (λ e. N.suc-ne-zero a (ap natAbs e))) (C .formed (λ e. N.suc-ne-zero a (ap natAbs e)))
+one-nearest (pos (suc a)) q Q b c B C = one-form (pos (suc a)) q Q b c B C (λ e. N.suc-ne-zero a (ap natAbs e))
+one-nearest (negsuc a) q Q b c B C = one-form (negsuc a) q Q b c B C (λ e. N.suc-ne-zero a (ap natAbs e))

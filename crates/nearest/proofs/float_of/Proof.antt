@@ -23,14 +23,19 @@ p-size c = let a = c .before in c .size .ensures ∙ ap natAbs (toZ-ofZ w64 (a .
 q-size : (c : tie.After-size2) → c .size2 .result ≡ natAbs (c .before .before .before .args .q)
 q-size c = let a = c .before .before .before in c .size2 .ensures ∙ ap natAbs (toZ-ofZ w64 (a .args .q) (a .fits .q))
 
-ratio-is : (c : tie.After-ratio) → let a = c .before .before .before .before .args in c .ratio .result ≡ round binary64 false (natAbs (a .p)) (natAbs (a .q))
+ratio-is :
+    (c : tie.After-ratio) →
+    let a = c .before .before .before .before .args in
+    c .ratio .result ≡ round binary64 false (natAbs (a .p)) (natAbs (a .q))
 ratio-is c =
     c .ratio .ensures
     ∙ ap (λ (z : ℕ). round binary64 false z (c .before .size2 .result)) (p-size (c .before .before .before))
     ∙ ap (λ (z : ℕ). round binary64 false (natAbs (c .before .before .before .before .args .p)) z) (q-size (c .before))
 
 sign-is : (c : tie.After-is-below-zero) → c .is-below-zero .result ≡ below-zero (c .before .before .before .before .before .args .p)
-sign-is c = let a = c .before .before .before .before .before in c .is-below-zero .ensures ∙ ap below-zero (toZ-ofZ w64 (a .args .p) (a .fits .p))
+sign-is c =
+    let a = c .before .before .before .before .before in
+    c .is-below-zero .ensures ∙ ap below-zero (toZ-ofZ w64 (a .args .p) (a .fits .p))
 
 -- ---- the needs
 size-requires : tie.Need-size-requires
@@ -39,7 +44,8 @@ size-requires c κs = search needs
 returns : tie.Need-returns
 returns c =
     let a = c .before .before in
-    at-zero (a .args .p) (a .args .q) (one-some (a .args .q) (accepted (a .args .p) (a .args .q) (a .pre) .one)) (sym (p-size (c .before)) ∙ c .if1 .taken)
+    let g = accepted (a .args .p) (a .args .q) (a .pre) in
+    at-zero (a .args .p) (a .args .q) (one-some (a .args .q) (g .one)) (sym (p-size (c .before)) ∙ c .if1 .taken)
 
 size-requires-2 : tie.Need-size-requires-2
 size-requires-2 c κs = search needs
@@ -50,7 +56,8 @@ ratio-requires c κs =
     let g = accepted (a .args .p) (a .args .q) (a .pre) in
     let e = p-size (c .before .before) in
     let f = q-size c in
-    (above (c .before .before .size .result) (c .before .if1 .left), (under _ _ e (g .p-near), (rw f (one-some (a .args .q) (g .one)), under _ _ f (g .q-near))))
+    let some = above (c .before .before .size .result) (c .before .if1 .left) in
+    (some, (under _ _ e (g .p-near), (rw f (one-some (a .args .q) (g .one)), under _ _ f (g .q-near))))
   where
     above : (a : ℕ) → (a ≡ 0 → ⊥) → 0 < a
     above a h = omega arith

@@ -1,6 +1,7 @@
 -- `judge` meets its contract. Assumes nothing.
 use mathlib.Core.Path.{_≡_, sym, ap, _∙_}
 use mathlib.Core.Bool.{false}
+use native.Mathlib.Omega.{arith}
 use borrow.Author.Needs.{needs}
 use borrow.Author.Tests.{lt-ltb, le-ltb}
 use lib.Dec.{ltb}
@@ -22,7 +23,7 @@ p-size : (c : tie.After-size) → c .size .result ≡ natAbs (c .before .before 
 p-size c = let a = c .before .before in c .size .ensures ∙ ap natAbs (toZ-ofZ w64 (a .args .p) (a .fits .p))
 
 p-near : (c : tie.Else2) → beyond ratio-limit (c .before .before .before .args .p) ≡ false
-p-near c = ap (ltb ratio-limit) (sym (p-size (c .before))) ∙ le-ltb ratio-limit (c .before .size .result) (c .if2 .left)
+p-near c = ap (ltb ratio-limit) (sym (p-size (c .before))) ∙ le-ltb ratio-limit (c .before .size .result) (omega arith)
 
 q-size : (c : tie.After-size2) → c .size2 .result ≡ natAbs (c .before .before .before .before .args .q)
 q-size c = let a = c .before .before .before .before in c .size2 .ensures ∙ ap natAbs (toZ-ofZ w64 (a .args .q) (a .fits .q))
@@ -40,7 +41,7 @@ returns-2 : tie.Need-returns-2
 returns-2 c =
     let a = c .before .before .before .args in
     p-beyond (a .p) (a .q) (from-one (c .before .before))
-    (ap (ltb ratio-limit) (sym (p-size (c .before))) ∙ lt-ltb ratio-limit (c .before .size .result) (c .if2 .taken))
+    (ap (ltb ratio-limit) (sym (p-size (c .before))) ∙ lt-ltb ratio-limit (c .before .size .result) (omega arith))
 
 size-requires-2 : tie.Need-size-requires-2
 size-requires-2 c κs = search needs
@@ -50,14 +51,14 @@ returns-3 c =
     let b = c .before in
     let a = b .before .before .before .before .args in
     q-beyond (a .p) (a .q) (from-one (b .before .before .before)) (p-near (b .before))
-    (ap (ltb ratio-limit) (sym (q-size b)) ∙ lt-ltb ratio-limit (b .size2 .result) (c .if3 .taken))
+    (ap (ltb ratio-limit) (sym (q-size b)) ∙ lt-ltb ratio-limit (b .size2 .result) (omega arith))
 
 returns-4 : tie.Need-returns-4
 returns-4 c =
     let b = c .before in
     let a = b .before .before .before .before .args in
     let-in (a .p) (a .q) (from-one (b .before .before .before)) (p-near (b .before))
-    (ap (ltb ratio-limit) (sym (q-size b)) ∙ le-ltb ratio-limit (b .size2 .result) (c .if3 .left))
+    (ap (ltb ratio-limit) (sym (q-size b)) ∙ le-ltb ratio-limit (b .size2 .result) (omega arith))
 
 pub judge-spec : {M : Type 1} → statement M
 judge-spec =

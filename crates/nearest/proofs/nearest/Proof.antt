@@ -10,7 +10,9 @@ use Rattle.nearest.proofs.nearest.Tie as tie
 
 -- what the judge found
 found : (c : tie.After-judge) → let a = c .before .args in c .judge .result ≡ nearest-refusal (a .p) (a .q)
-found c = let a = c .before in c .judge .ensures ∙ ap₂ nearest-refusal (toZ-ofZ w64 (a .args .p) (a .fits .p)) (toZ-ofZ w64 (a .args .q) (a .fits .q))
+found c =
+    let a = c .before in
+    c .judge .ensures ∙ ap₂ nearest-refusal (toZ-ofZ w64 (a .args .p) (a .fits .p)) (toZ-ofZ w64 (a .args .q) (a .fits .q))
 
 judge-requires : tie.Need-judge-requires
 judge-requires c κs = search needs

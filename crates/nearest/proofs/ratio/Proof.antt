@@ -54,7 +54,8 @@ returns c =
     let x = c .before .before .long-division in
     let m = c .before .half-to-even in
     c .scaled .ensures
-    ∙ joined (s .args .a) (s .args .q) (by .result .divisor) (by .result .doublings) (x .result .whole) (x .result .rest) (x .result .halvings) (m .result)
+    ∙ joined (s .args .a) (s .args .q) (by .result .divisor) (by .result .doublings)
+    (x .result .whole) (x .result .rest) (x .result .halvings) (m .result)
     (s .pre .1 .1 .0) (by .ensures) (x .ensures) (m .ensures)
 
 pub ratio-spec : {M : Type 1} → statement M

@@ -12,13 +12,17 @@ use Rattle.nearest.proofs.division.long_division.Statement.{statement}
 use Rattle.nearest.proofs.division.long_division.Tie as tie
 
 abbrev Inv-loop : tie.InvT-loop
-Inv-loop a divisor x₀ x = (x .whole * divisor + x .rest ≡ a * 2 ^ x .halvings) × (x .rest < divisor) × (x .whole < 2 ^ 53) × (x .halvings ≤ 115)
+Inv-loop a divisor x₀ x =
+    (x .whole * divisor + x .rest ≡ a * 2 ^ x .halvings)
+    × (x .rest < divisor)
+    × (x .whole < 2 ^ 53)
+    × (x .halvings ≤ 115)
 
 abbrev μ-loop : tie.MeasureT-loop
 μ-loop a divisor x₀ x = 116 - x .halvings
 
 at-least : (a k : ℕ) → 0 < a → 2 ^ k ≤ a * 2 ^ k
-at-least a k A = N.le-trans (N.le-of-eq (sym (N.mul-one (2 ^ k)))) (N.le-trans (N.mul-le-mul-left (2 ^ k) A) (N.le-of-eq (N.mul-comm (2 ^ k) a)))
+at-least a k A = rw (N.mul-comm a (2 ^ k)) (N.le-mul-of-pos-right (2 ^ k) A)
 
 few : (a d w r k : ℕ) → 0 < a → d < 2 ^ 63 → w * d + r ≡ a * 2 ^ k → r < d → w < 2 ^ 52 → k < 115
 few a d w r k A D e R W =
@@ -55,7 +59,9 @@ loop-again c =
     let s = c .before .before .before .before in
     let l = c .before .before .before .loop in
     let e = c .next-digit .ensures in
-    let K = few (s .args .a) (s .args .divisor) (l .x .whole) (l .x .rest) (l .x .halvings) (s .pre .0) (s .pre .1 .1 .1) (l .inv .0) (l .inv .1) (c .before .if1 .taken) in (
+    let K =
+    few (s .args .a) (s .args .divisor) (l .x .whole) (l .x .rest) (l .x .halvings)
+    (s .pre .0) (s .pre .1 .1 .1) (l .inv .0) (l .inv .1) (c .before .if1 .taken) in (
       e .0 ∙ ap (λ (z : ℕ). z * 2) (l .inv .0) ∙ doubled (s .args .a) (l .x .halvings) (c .next-digit .result .halvings) (e .1 .1 .1),
       e .1 .0,
       e .1 .1 .0,

@@ -32,7 +32,8 @@ loop-holds : tie.Need-loop-holds Inv-loop μ-loop
 loop-holds c =
     let a = c .before .before .args in
     let p = c .before .before .pre in
-    (ap (mul binary64 (ofInt binary64 (pos (a .m)))) (c .doubled .ensures) ∙ cast binary64 (a .m) (a .doublings) (p .0) (p .1 .0), omega arith)
+    let e = ap (mul binary64 (ofInt binary64 (pos (a .m)))) (c .doubled .ensures) in
+    (e ∙ cast binary64 (a .m) (a .doublings) (p .0) (p .1 .0), omega arith)
 
 add-i : tie.Need-add-i Inv-loop μ-loop
 add-i c = search needs
