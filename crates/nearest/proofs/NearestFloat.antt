@@ -18,11 +18,11 @@ use Rattle.nearest.proofs.Between.{Down, Up, none-between, down-short, 
 use Rattle.nearest.proofs.Distance.{apart, signed-apart, distance-is, one-sign, any-signs}
 use Rattle.nearest.proofs.Fields.{Read, read}
 use Rattle.nearest.proofs.Neighbours.{gap-outward, gap-inward, gap-some, gap-least}
-use Rattle.nearest.proofs.Rounded.{Rounded, rounded}
+use Rattle.nearest.proofs.Rounded.{Kept, kept}
 
--- ---- half of a gap. x is the float's size and n that of p / q, r of the gap u is left over, all multiplied out by q
+-- ---- half of a gap. x is the float's size and n that of p / q, and r of the gap u is left over, all multiplied out by q
 
--- the float is short of p / q by r, on the side of p / q
+-- the float is short of p / q by r
 short : (far r u m : ℕ) → far ≡ r → r * 2 ≤ u → (r * 2 ≡ u → m % 2 ≡ 0) → Half far u m
 short far r u m e h t = (omega arith, λ f. t (omega arith))
 
@@ -30,14 +30,15 @@ short far r u m e h t = (omega arith, λ f. t (omega arith))
 past : (far r u m : ℕ) → r < u → far ≡ u - r → u ≤ r * 2 → (r * 2 ≡ u → m % 2 ≡ 0) → Half far u m
 past far r u m l e h t = (omega arith, λ f. t (omega arith))
 
--- it is not short of p / q, so it is equal to it
+-- it would be short by r, but is not short: so r is 0
 equal : (x n r far u m : ℕ) → n ≡ x + r → n ≤ x → far ≡ r → 0 < u → Half far u m
 equal x n r far u m e h f k = (omega arith, λ t. absurd (omega arith))
 
+-- it is past p / q, so it is not short of it
 never : (x n u r : ℕ) → r < u → x ≡ n + (u - r) → x ≤ n → ⊥
 never x n u r l e h = omega arith
 
-module _ (p : ℤ) (q : ℕ) (Q : 0 < q) (x : Rounded (natAbs p) q) (b : ℕ) (is : Read b (below-zero p) (x .m * 2 ^ x .k)) where
+module _ (p : ℤ) (q : ℕ) (Q : 0 < q) (x : Kept (natAbs p) q) (b : ℕ) (is : Read b (below-zero p) (x .m * 2 ^ x .k)) where
   -- what p / q is, and how much a step of m is, multiplied out
   abbrev n : ℕ
   n = natAbs p * 2 ^ 1074
@@ -169,7 +170,7 @@ some-nearest :
     IsNearest p (pos q) (toBits binary64 (round binary64 (below-zero p) (natAbs p) q))
 some-nearest p q P P' Q Q' =
     let s = below-zero p in
-    let x = rounded (natAbs p) q P P' Q Q' in
+    let x = kept (natAbs p) q P P' Q Q' in
     let y = round binary64 s (natAbs p) q in
     nearest-bits p q Q x (toBits binary64 y) (read y s (x .m * 2 ^ x .k) (round-fits binary64 s (natAbs p) q) (x .value s)) P
 

@@ -15,7 +15,8 @@ use lib.Ieee.Scale.{normal-of-fraction}
 use lib.Pow.{pow-add, pow-pos, pow-lt}
 use Rattle.nearest.proofs.Between.{Down, Up, one-taken}
 
-pub record Rounded (a q : ℕ) : Type 0 where
+pub record Kept (a q : ℕ) : Type 0 where
+  -- the whole part in units of 2^k, what is left over, and which whole number is taken
   pub w : ℕ
   pub k : ℕ
   pub r : ℕ
@@ -91,9 +92,9 @@ module _ (a q : ℕ) (A : 0 < a) (A' : a < 2 ^ 63) (Q : 0 < q) (Q' : q < 2 ^ 63)
       room : (b : ℕ) → b ≤ 1084 → 53 + b < 2098
       room b h = omega arith
 
-  pub rounded : Rounded a q
+  pub kept : Kept a q
   unfolding m w r n
-  rounded = record {
+  kept = record {
     w = w;
     k = k;
     r = r;

@@ -1,5 +1,5 @@
--- A 64-bit float read by its 64 bits, as a number b: the highest bit is its sign, the next 11 are the field of its exponent and the last
--- 52 its digits. Assumes nothing.
+-- A 64-bit float read by its 64 bits, as a number b: the highest bit is the sign, the next 11 are the field of the exponent and the last
+-- 52 the digits. Assumes nothing.
 use mathlib.Core.Bool.{Bool, true, false}
 use Prim.Native.Nat.{ℕ, zero, suc, _+_, _*_, _/_, _%_, _^_, _<_}
 use lib.Dec.{leb}
@@ -21,8 +21,8 @@ digits b = b % 2 ^ 52
 abbrev pub Finite : ℕ → Type 0
 Finite b = (b < 2 ^ 64) × (field b < 2047)
 
--- How many steps of 2^-1074 a field and digits stand for. In the field 0 it is the digits alone; in the next a 1 stands before them, and
--- each field after it doubles the steps.
+-- How many steps of 2^-1074 a field and digits stand for: in the field 0 as many as the digits say. From the field 1 on a leading 1
+-- stands before the digits, and each further field doubles the steps.
 abbrev pub steps : ℕ → ℕ → ℕ
 steps zero t = t
 steps (suc x) t = (2 ^ 52 + t) * 2 ^ x

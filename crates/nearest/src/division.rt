@@ -3,13 +3,19 @@ ghost use mathlib.Core.Path.{_≡_};
 ghost use Prim.Native.Nat.{_+_, _*_, _^_, _≤_, _<_};
 ghost use Rattle.nearest.specs.Steps.{Widened, Divided};
 
+// 2^52, the least number of 53 binary digits.
+const LEAST: u64 = 4503599627370496;
+
+// 2^53: what is below it can be doubled ten times and stays below 2^63.
+const ROOM: u64 = 9007199254740992;
+
 // What is divided by: q, doubled some times.
 pub struct Divisor {
     pub divisor: u64,
     pub doublings: u64,
 }
 
-// A quotient: its whole part and the rest, of a number that was doubled so often.
+// A quotient's whole part and rest. What was divided had been doubled some times, and so often must the quotient be halved.
 pub struct Quotient {
     pub whole: u64,
     pub rest: u64,
@@ -22,7 +28,7 @@ pub fn widened(q: u64) -> Divisor
     requires { ⌜ q < 2 ^ 63 ⌝ }
     ensures { λ r. ⌜ Widened q (r .divisor) (r .doublings) ⌝ }
 {
-    if q < 9007199254740992 {
+    if q < ROOM {
         Divisor {
             divisor: q * 1024,
             doublings: 10,
@@ -75,7 +81,7 @@ pub fn long_division(a: u64, divisor: u64) -> Quotient
         rest: a % divisor,
         halvings: 0,
     };
-    while x.whole < 4503599627370496 {
+    while x.whole < LEAST {
         x = next_digit(x, divisor);
     }
     x

@@ -16,6 +16,9 @@ pub enum Answer {
     Rounded(f64),
 }
 
+// What p and q may be in size.
+const LIMIT: u64 = 6000000000000000000;
+
 // 18 where the divisor is below 1 or a number is too large, otherwise 0.
 fn judge(p: i64, q: i64) -> u8
     ensures { λ r. ⌜ r ≡ nearest-refusal p q ⌝ }
@@ -23,10 +26,10 @@ fn judge(p: i64, q: i64) -> u8
     if q < 1 {
         return 18;
     }
-    if signs::size(p) > 6000000000000000000 {
+    if signs::size(p) > LIMIT {
         return 18;
     }
-    if signs::size(q) > 6000000000000000000 {
+    if signs::size(q) > LIMIT {
         return 18;
     }
     0
@@ -59,6 +62,7 @@ fn float_of(p: i64, q: i64) -> f64
     if signs::is_below_zero(p) { -x } else { x }
 }
 
+// The nearest float to p over q: at a tie the even one, and +0 for 0.
 pub fn nearest(p: i64, q: i64) -> Answer
     ensures number { λ r. ⌜ number-of r ≡ nearest-refusal p q ⌝ }
     ensures figures { λ r. ⌜ figures-of r ≡ nearest-figures p q ⌝ }
