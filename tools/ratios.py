@@ -73,28 +73,29 @@ def at_random(rng):
         yield signed(rng, any_size(rng)), any_size(rng)
 
 
+def around(rng, p):
+    """p over a power of 2, by numbers with a common factor, and the two ratios next to it."""
+    common = rng.randint(1, LIMIT // p)
+    power = 2**rng.randint(0, (LIMIT // common).bit_length() - 1)
+    for off in (0, -1, 1):
+        yield signed(rng, p * common + off), common * power
+
+
+def digits_53(rng, edge):
+    """A number of 53 binary digits, often one at the ends."""
+    return rng.choice((2**52, 2**52 + 1, 2**53 - 2, 2**53 - 1)) if edge else rng.randint(2**52, 2**53 - 1)
+
+
 def ties(rng):
-    """m + 1/2 units of the last place, for an m of 53 digits, by numbers with a common factor; and the ratios next to it."""
+    """Halfway between two floats, and next to it."""
     for count in range(18000):
-        if count % 6 == 0:
-            m = rng.choice((2**52, 2**52 + 1, 2**53 - 2, 2**53 - 1))
-        else:
-            m = rng.randint(2**52, 2**53 - 1)
-        p = 2 * m + 1
-        common = rng.randint(1, LIMIT // p)
-        power = 2**rng.randint(0, (LIMIT // common).bit_length() - 1)
-        for off in (0, -1, 1):
-            yield signed(rng, p * common + off), common * power
+        yield from around(rng, 2 * digits_53(rng, count % 6 == 0) + 1)
 
 
 def exact(rng):
-    """m units of the last place, and the ratios next to it, on both sides of a power of 2 too."""
+    """At a float, and next to it: at a power of 2 the two sides differ."""
     for count in range(4000):
-        m = 2**52 if count % 4 == 0 else rng.randint(2**52, 2**53 - 1)
-        common = rng.randint(1, LIMIT // m)
-        power = 2**rng.randint(0, (LIMIT // common).bit_length() - 1)
-        for off in (0, -1, 1):
-            yield signed(rng, m * common + off), common * power
+        yield from around(rng, digits_53(rng, count % 4 == 0))
 
 
 def powers(rng):

@@ -32,7 +32,7 @@ unfolding right
 all-right [] = true
 all-right (row ∷ rows) = right row && all-right rows
 
--- (g) to (j)
+-- (g) and (h), two ties; (i), below 0; (j)
 unfoldable pub published : List Row
 published =
     ratio (pos 9007199254740993) (pos 1) (number (pos 9007199254740992))

@@ -1,19 +1,17 @@
 -- The call's two ways out, and what its contract promises of each. Assumes nothing.
 use mathlib.Core.Path.{_≡_, refl, sym, ap, _∙_, subst}
 use mathlib.Core.List.{[], _∷_}
-use Prim.Native.Nat.{ℕ, _^_, _≤_, _<_}
-use native.Mathlib.Omega.{arith}
+use Prim.Native.Nat.{ℕ}
 use borrow.Author.Tests.{eq-eqb, ne-eqb}
 use lib.Ieee.{Float, binary64, round, toBits}
 use lib.IntN.{ℤ, natAbs}
 use Rattle.whole.specs.Integer.{below-zero}
-use Rattle.whole.specs.Rules.{ratio-limit}
 use Rattle.whole.proofs.Size.{one-above, one-some}
 use Rattle.nearest.specs.Answers.{number-of, figures-of, NearestIn, nearest-refusal, nearest-float, nearest-figures}
 use Rattle.nearest.specs.Nearest.{IsNearest}
 use Rattle.nearest.specs.declared.Answer.{Answer}
 use Rattle.nearest.specs.declared.Answer.the-variants.{Refused, Rounded}
-use Rattle.nearest.proofs.Accepted.{accepted}
+use Rattle.nearest.proofs.Accepted.{accepted, under}
 use Rattle.nearest.proofs.NearestFloat.{round-nearest}
 
 -- the float of numbers that are let in is the nearest
@@ -23,9 +21,6 @@ float-nearest p q z =
     let a = accepted p q z in
     subst (λ (z : ℤ). IsNearest p z (toBits binary64 (round binary64 (below-zero p) (natAbs p) (natAbs q)))) (sym (one-above q (a .one)))
     (round-nearest p (natAbs q) (under (natAbs p) (a .p-near)) (one-some q (a .one)) (under (natAbs q) (a .q-near)))
-  where
-    under : (a : ℕ) → a ≤ ratio-limit → a < 2 ^ 63
-    under a h = omega arith
 
 module _ (p q : ℤ) where
   -- what the call promises of its answer

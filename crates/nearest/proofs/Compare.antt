@@ -1,5 +1,5 @@
 -- What the comparison of two numbers says. Assumes nothing.
-use mathlib.Core.Path.{_≡_, refl, sym, subst}
+use mathlib.Core.Path.{_≡_, refl, subst}
 use mathlib.Core.Logic.{_⊎_, inl, inr}
 use mathlib.Core.Bool.{Bool, true, false, not}
 use Prim.Native.Nat.{ℕ, _≤_, _<_, compare, Ordering, Ordering·lt, Ordering·eq, Ordering·gt}
@@ -28,32 +28,17 @@ cmp a b = go (compare a b) (leb→le a b) (nleb→lt a b) (eqb→eq a b) (λ (e 
     go Ordering·eq h k e n = e tt
     go Ordering·gt h k e n = k tt
 
-not-both : (a b : ℕ) → a < b → a ≡ b → ⊥
-not-both a b h e = omega arith
-
-not-cross : (a b : ℕ) → a < b → b < a → ⊥
-not-cross a b h e = omega arith
-
-pub compare-lt : (a b : ℕ) → a < b → compare a b ≡ Ordering·lt
-compare-lt a b h = go (compare a b) (cmp a b)
+-- the order that holds is the one that `compare` gives
+pub compare-is : (a b : ℕ) (o : Ordering) → Cmp o a b → compare a b ≡ o
+compare-is a b o h = go (compare a b) o (cmp a b) h
   where
-    go : (o : Ordering) → Cmp o a b → o ≡ Ordering·lt
-    go Ordering·lt x = refl
-    go Ordering·eq x = absurd (not-both a b h x)
-    go Ordering·gt x = absurd (not-cross a b h x)
-
-pub compare-eq : (a b : ℕ) → a ≡ b → compare a b ≡ Ordering·eq
-compare-eq a b h = go (compare a b) (cmp a b)
-  where
-    go : (o : Ordering) → Cmp o a b → o ≡ Ordering·eq
-    go Ordering·lt x = absurd (not-both a b x h)
-    go Ordering·eq x = refl
-    go Ordering·gt x = absurd (not-both b a x (sym h))
-
-pub compare-gt : (a b : ℕ) → b < a → compare a b ≡ Ordering·gt
-compare-gt a b h = go (compare a b) (cmp a b)
-  where
-    go : (o : Ordering) → Cmp o a b → o ≡ Ordering·gt
-    go Ordering·lt x = absurd (not-cross a b x h)
-    go Ordering·eq x = absurd (not-both b a h (sym x))
-    go Ordering·gt x = refl
+    go : (c o : Ordering) → Cmp c a b → Cmp o a b → c ≡ o
+    go Ordering·lt Ordering·lt h k = refl
+    go Ordering·eq Ordering·eq h k = refl
+    go Ordering·gt Ordering·gt h k = refl
+    go Ordering·lt Ordering·eq h k = absurd (omega arith)
+    go Ordering·lt Ordering·gt h k = absurd (omega arith)
+    go Ordering·eq Ordering·lt h k = absurd (omega arith)
+    go Ordering·eq Ordering·gt h k = absurd (omega arith)
+    go Ordering·gt Ordering·lt h k = absurd (omega arith)
+    go Ordering·gt Ordering·eq h k = absurd (omega arith)

@@ -131,11 +131,7 @@ module _ (p : ℤ) (q : ℕ) (Q : 0 < q) (x : Kept (natAbs p) q) (b : ℕ) (is :
 
     gap-at : gap (b - 1) * q ≡ u
     gap-at =
-        ap (λ (z : ℕ). z * q) (gap-least b (suc (x .k)) (is .finite) (is .size ∙ doubled) ∙ ap (λ (z : ℕ). 2 ^ z) (back (x .k)))
-        ∙ N.mul-comm (2 ^ x .k) q
-      where
-        back : (k : ℕ) → suc k - 1 ≡ k
-        back k = omega arith
+        ap (λ (z : ℕ). z * q) (gap-least b (x .k) (is .finite) (is .size ∙ doubled)) ∙ N.mul-comm (2 ^ x .k) q
 
     large : Formed p (pos q) b
     large = record {

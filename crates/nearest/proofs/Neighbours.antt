@@ -109,12 +109,12 @@ order : (b c : ℕ) → size-of b < size-of c → b % 2 ^ 63 < c % 2 ^ 63
 order b c h = bits-less (b % 2 ^ 63) (c % 2 ^ 63) (omega (arith, h, size-is b, size-is c))
 
 -- a float larger in size than another is as large as the next or larger
-pub none-above : (b v : ℕ) → Finite b → size-of b < size-of v → size-of (b + 1) ≤ size-of v
-none-above b v F h = omega (arith, not-less (suc (b % 2 ^ 63)) (v % 2 ^ 63) (order b v h), after b F, size-is v)
+pub neighbour-outward : (b v : ℕ) → Finite b → size-of b < size-of v → size-of (b + 1) ≤ size-of v
+neighbour-outward b v F h = omega (arith, not-less (suc (b % 2 ^ 63)) (v % 2 ^ 63) (order b v h), after b F, size-is v)
 
 -- a float smaller in size than another is as small as the one before or smaller
-pub none-below : (b v : ℕ) → Finite b → size-of v < size-of b → size-of v ≤ size-of (b - 1)
-none-below b v F h = omega (arith, not-less (v % 2 ^ 63) ((b - 1) % 2 ^ 63) (before b v (order v b h)), size-is v, size-is (b - 1))
+pub neighbour-inward : (b v : ℕ) → Finite b → size-of v < size-of b → size-of v ≤ size-of (b - 1)
+neighbour-inward b v F h = omega (arith, not-less (v % 2 ^ 63) ((b - 1) % 2 ^ 63) (before b v (order v b h)), size-is v, size-is (b - 1))
   where
     before : (b v : ℕ) → v % 2 ^ 63 < b % 2 ^ 63 → v % 2 ^ 63 ≤ (b - 1) % 2 ^ 63
     before b v h = omega arith
@@ -191,11 +191,13 @@ gap-inward b m k F e l r =
 pub gap-some : (b m k : ℕ) → Finite b → size-of b ≡ m * 2 ^ k → 2 ^ 52 ≤ m → m < 2 ^ 53 → 0 < gap (b - 1)
 gap-some b m k F e l r = gap-above (b - 1) (finite-before b k F (parts b m k e l r .0))
 
-pub gap-least : (b k : ℕ) → Finite b → size-of b ≡ 2 ^ 52 * 2 ^ k → gap (b - 1) ≡ 2 ^ (k - 1)
+pub gap-least : (b k : ℕ) → Finite b → size-of b ≡ 2 ^ 52 * 2 ^ suc k → gap (b - 1) ≡ 2 ^ k
 gap-least b k F e =
-    let p = parts b (2 ^ 52) k e (lit≤ tt) (lit< tt) in
+    let p = parts b (2 ^ 52) (suc k) e (lit≤ tt) (lit< tt) in
     let none : digits b ≡ 0 = same (digits b) (p .1) in
-    gap-is (b - 1) (finite-before b k F (p .0)) ∙ ap (λ (z : ℕ). 2 ^ (z - 1)) (field-less b k (p .0) none)
+    gap-is (b - 1) (finite-before b (suc k) F (p .0))
+    ∙ ap (λ (z : ℕ). 2 ^ (z - 1)) (field-less b (suc k) (p .0) none)
+    ∙ less-one k
   where
     same : (d : ℕ) → 2 ^ 52 + d ≡ 2 ^ 52 → d ≡ 0
     same d f = omega arith

@@ -1,60 +1,59 @@
 -- What the buyer asks for by name, and the laws for callers, over the definitions of Bits, Nearest and Answers. Assumes nothing.
 use mathlib.Core.Path.{_≡_, refl, sym, ap, _∙_, subst}
 use mathlib.Core.Bool.{Bool, false, not}
-use Prim.Native.Nat.{ℕ, zero, suc, _+_, _-_, _*_, _≤_, _<_}
+use Prim.Native.Nat.{ℕ, zero, suc, _*_, _≤_}
 use native.Mathlib.Omega.{arith}
-use lib.Dec.{T}
+use borrow.Author.Tests.{le-ltb}
+use lib.Dec.{T, leb→le}
 use lib.Ieee.{Float, binary64, round, neg, ofBits, toBits, isNan}
 use lib.Ieee.Bits.{ofBits-toBits}
 use lib.Ieee.Fits.{round-fits}
 use lib.Ieee.Scale.{round-same}
 use lib.IntN.{ℤ, pos, negsuc, natAbs, negℤ, _*ℤ_}
 use lib.ListN.{length}
-use lib.Signed.{_≤ℤ_}
+use lib.Signed.{ltZ, _≤ℤ_}
 use Rattle.whole.specs.Integer.{below-zero}
 use Rattle.whole.specs.Rules.{ratio-limit}
 use Rattle.whole.proofs.Integer.{*-assoc, *-left-comm}
 use Rattle.whole.proofs.Size.{size-*, one-above, one-some, one-*, sign-*}
-use Rattle.nearest.specs.Bits.{negative, Finite, size-of}
-use Rattle.nearest.specs.Nearest.{gap, IsNearest}
+use Rattle.nearest.specs.Bits.{negative}
+use Rattle.nearest.specs.Nearest.{IsNearest}
 use Rattle.nearest.specs.Answers.{number-of, figures-of, NearestIn, nearest-refusal, nearest-float, nearest-figures}
 use Rattle.nearest.specs.declared.Answer.{Answer}
 use Rattle.nearest.specs.declared.Answer.the-variants.{Refused, Rounded}
-use Rattle.nearest.proofs.Accepted as accepted
-use Rattle.nearest.proofs.Answered as answered
+use Rattle.nearest.proofs.Accepted.{accepted, let-in}
+use Rattle.nearest.proofs.Answered.{rounded}
 use Rattle.nearest.proofs.Fields.{finite-number}
-use Rattle.nearest.proofs.Neighbours as neighbours
 use Rattle.nearest.proofs.NearestFloat.{zero-round}
 use Rattle.nearest.proofs.Signed.{neg-neg, neg-round, round-number}
 use Rattle.nearest.proofs.Unique as unique
+-- stated where they are proved. `float-nearest`: where nothing is refused, the float that the definition names is the nearest
+pub use Rattle.nearest.proofs.Answered.{float-nearest}
+-- the gap is that to the neighbouring float: the float of the bits b + 1 is larger by the gap, which is not 0, and no float lies between
+-- that of b and those of b + 1 and b - 1
+pub use Rattle.nearest.proofs.Neighbours.{gap-adds, gap-above, neighbour-outward, neighbour-inward}
+
+-- a divisor from 1 is its size
+by-size : (p q : ℤ) → pos 1 ≤ℤ q → (b : ℕ) → IsNearest p q b → IsNearest p (pos (natAbs q)) b
+by-size p q h b B = subst (λ (z : ℤ). IsNearest p z b) (one-above q h) B
 
 -- ---- the properties fix the 64 bits: two floats that both have them are the same
 pub nearest-unique : (p q : ℤ) → pos 1 ≤ℤ q → (b c : ℕ) → IsNearest p q b → IsNearest p q c → b ≡ c
 nearest-unique p q h b c B C =
-    let at = subst (λ (z : ℤ). (x : ℕ) → IsNearest p q x → IsNearest p z x) (one-above q h) (λ x X. X) in
-    unique.one-nearest p (natAbs q) (one-some q h) b c (at b B) (at c C)
+    unique.one-nearest p (natAbs q) (one-some q h) b c (by-size p q h b B) (by-size p q h c C)
 
--- and the float that the definition names has them, so its bits are the only ones
-module _ (p q : ℤ) (taken : nearest-refusal p q ≡ 0) where
-  pub float-nearest : IsNearest p q (toBits binary64 (nearest-float p q))
-  float-nearest = answered.float-nearest p q taken
-
-  pub nearest-only : (b : ℕ) → IsNearest p q b → b ≡ toBits binary64 (nearest-float p q)
-  nearest-only b B = nearest-unique p q (accepted.accepted p q taken .one) b (toBits binary64 (nearest-float p q)) B float-nearest
-
--- ---- the gap is that to the neighbouring float: the float of the bits b + 1 is larger by the gap, which is not 0, and none lies between
-pub neighbour-apart : (b : ℕ) → Finite b → (size-of (b + 1) ≡ size-of b + gap b) × (0 < gap b)
-neighbour-apart b F = (neighbours.gap-adds b F, neighbours.gap-above b F)
-
-pub neighbour-outward : (b other : ℕ) → Finite b → size-of b < size-of other → size-of (b + 1) ≤ size-of other
-neighbour-outward b other F h = neighbours.none-above b other F h
-
-pub neighbour-inward : (b other : ℕ) → Finite b → size-of other < size-of b → size-of other ≤ size-of (b - 1)
-neighbour-inward b other F h = neighbours.none-below b other F h
+-- `float-nearest` has them for the float that the definition names, so its bits are the only ones
+pub nearest-only : (p q : ℤ) → nearest-refusal p q ≡ 0 → (b : ℕ) → IsNearest p q b → b ≡ toBits binary64 (nearest-float p q)
+nearest-only p q taken b B =
+    nearest-unique p q (accepted p q taken .one) b (toBits binary64 (nearest-float p q)) B (float-nearest p q taken)
 
 -- ---- rule 18 lets in every divisor from 1, where neither number is beyond the limit
 pub not-refused : (p q : ℤ) → pos 1 ≤ℤ q → natAbs p ≤ ratio-limit → natAbs q ≤ ratio-limit → nearest-refusal p q ≡ 0
-not-refused p q h P Q = accepted.not-refused p q h P Q
+not-refused p q h P Q = sym (let-in p q (rw (from-one q h, le-ltb ratio-limit (natAbs p) P, le-ltb ratio-limit (natAbs q) Q) refl))
+  where
+    from-one : (q : ℤ) → pos 1 ≤ℤ q → ltZ q (pos 1) ≡ false
+    from-one (pos n) h = le-ltb n 1 (leb→le 1 n (h .le))
+    from-one (negsuc n) h = absurd (h .le)
 
 -- ---- the float depends on the ratio alone
 pub same-ratio : (p q p′ q′ : ℤ) → pos 1 ≤ℤ q → pos 1 ≤ℤ q′ → p *ℤ q′ ≡ p′ *ℤ q → nearest-float p q ≡ nearest-float p′ q′
@@ -73,9 +72,8 @@ scaled-ratio k p q h g = same-ratio (k *ℤ p) (k *ℤ q) p q (one-* k q h g) g 
 pub sign-of : (p q : ℤ) → nearest-refusal p q ≡ 0 → (p ≡ pos 0 → ⊥) → negative (toBits binary64 (nearest-float p q)) ≡ below-zero p
 sign-of p q taken some =
     let b = toBits binary64 (nearest-float p q) in
-    let h = accepted.accepted p q taken .one in
-    let B = subst (λ (z : ℤ). IsNearest p z b) (one-above q h) (float-nearest p q taken) in
-    unique.sign-is p (natAbs q) (one-some q h) b (B .formed some)
+    let h = accepted p q taken .one in
+    unique.sign-is p (natAbs q) (one-some q h) b (by-size p q h b (float-nearest p q taken) .formed some)
 
 pub opposite : (p q : ℤ) → (p ≡ pos 0 → ⊥) → nearest-float (negℤ p) q ≡ neg (nearest-float p q)
 unfolding nearest-float
@@ -112,5 +110,5 @@ pub answer-rounded :
     (p q : ℤ) → nearest-refusal p q ≡ 0 → (r : Answer) → number-of r ≡ nearest-refusal p q → figures-of r ≡ nearest-figures p q →
     r ≡ Rounded (nearest-float p q)
 answer-rounded p q taken r n f =
-    let s = answered.rounded p q (nearest-float p q) taken refl in
+    let s = rounded p q (nearest-float p q) taken refl in
     answer-unique r (Rounded (nearest-float p q)) (n ∙ sym (s .0)) (f ∙ sym (s .1 .0))

@@ -9,21 +9,20 @@ use native.Mathlib.Omega.{arith}
 use lib.IntN.{ℤ, pos, negsuc, natAbs}
 use lib.Pow.{pow-pos}
 use Rattle.whole.specs.Integer.{below-zero}
+use Rattle.whole.proofs.Size.{size-neg, below-neg}
 use Rattle.nearest.specs.Bits.{negative, digits, Finite, size-of, signed}
 use Rattle.nearest.specs.Nearest.{distance, gap, Half, Formed, IsNearest}
 use Rattle.nearest.proofs.Compare.{either}
 use Rattle.nearest.proofs.Distance.{apart, signed-apart, distance-is, one-sign}
-use Rattle.nearest.proofs.Neighbours.{parts, gap-adds, none-above, next-bits, same-bits}
+use Rattle.nearest.proofs.Neighbours.{parts, gap-adds, neighbour-outward, next-bits, same-bits}
 
 size-signed : (s : Bool) (n : ℕ) → natAbs (signed s n) ≡ n
 size-signed false n = refl
-size-signed true zero = refl
-size-signed true (suc n) = refl
+size-signed true n = size-neg (pos n)
 
 sign-signed : (s : Bool) (n : ℕ) → 0 < n → below-zero (signed s n) ≡ s
 sign-signed false n h = refl
-sign-signed true zero h = absurd (N.lt-irrefl 0 h)
-sign-signed true (suc n) h = refl
+sign-signed true n h = below-neg n h
 
 -- n is midway from x to y, at the distance d of each
 record Midway (x y n d : ℕ) : Type 0 where
@@ -91,7 +90,7 @@ module _ (p : ℤ) (q : ℕ) (Q : 0 < q) where
     next-times = ap (λ (z : ℕ). z * q) (gap-adds b B) ∙ N.add-mul (size-of b) (gap b) q
 
     neighbour : c ≡ b + 1
-    neighbour = next-bits b c B (C .0) (sign-is c g ∙ sym (sign-is b f)) (N.le-antisymm reached (none-above b c B less))
+    neighbour = next-bits b c B (C .0) (sign-is c g ∙ sym (sign-is b f)) (N.le-antisymm reached (neighbour-outward b c B less))
       where
         reached : size-of c ≤ size-of (b + 1)
         reached = N.le-of-mul-le-mul-right (rw next-times (within (size-of b * q) (size-of c * q) d (gap b * q) (middle .twice) (out .0))) Q

@@ -23,16 +23,11 @@ const LIMIT: u64 = 6000000000000000000;
 fn judge(p: i64, q: i64) -> u8
     ensures { λ r. ⌜ r ≡ nearest-refusal p q ⌝ }
 {
-    if q < 1 {
-        return 18;
+    if q < 1 || signs::size(p) > LIMIT || signs::size(q) > LIMIT {
+        18
+    } else {
+        0
     }
-    if signs::size(p) > LIMIT {
-        return 18;
-    }
-    if signs::size(q) > LIMIT {
-        return 18;
-    }
-    0
 }
 
 // The nearest float to the ratio of two sizes.

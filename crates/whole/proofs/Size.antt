@@ -94,8 +94,8 @@ one-of z e h = rw e (record { le = le→leb 1 (natAbs z) h })
 pub one-* : (a b : ℤ) → pos 1 ≤ℤ a → pos 1 ≤ℤ b → pos 1 ≤ℤ (a *ℤ b)
 one-* a b h k = one-of (a *ℤ b) (*-above a b (one-above a h) (one-above b k)) (rw (size-* a b) (N.mul-pos (one-some a h) (one-some b k)))
 
--- ---- the sign of a product by such a number
-below-neg : (n : ℕ) → 0 < n → below-zero (negℤ (pos n)) ≡ true
+-- ---- the sign of a negative, and of a product by such a number
+pub below-neg : (n : ℕ) → 0 < n → below-zero (negℤ (pos n)) ≡ true
 below-neg zero h = absurd (N.lt-irrefl 0 h)
 below-neg (suc n) h = refl
 

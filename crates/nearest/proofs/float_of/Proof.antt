@@ -1,7 +1,7 @@
 -- `float_of` meets its contract: the float of the sizes, with p's sign. Assumes nothing.
 use mathlib.Core.Path.{_≡_, sym, ap, _∙_}
 use mathlib.Core.Bool.{false}
-use Prim.Native.Nat.{ℕ, _^_, _≤_, _<_}
+use Prim.Native.Nat.{ℕ, _<_}
 use native.Mathlib.Omega.{arith}
 use borrow.Author.Needs.{needs}
 use lib.Ieee.{round, binary64}
@@ -9,9 +9,8 @@ use lib.IntN.{natAbs}
 use mir.Syntax.{w64}
 use mir.ValLaws.{toZ-ofZ}
 use Rattle.whole.specs.Integer.{below-zero}
-use Rattle.whole.specs.Rules.{ratio-limit}
 use Rattle.whole.proofs.Size.{one-some}
-use Rattle.nearest.proofs.Accepted.{accepted}
+use Rattle.nearest.proofs.Accepted.{accepted, under}
 use Rattle.nearest.proofs.Signed.{at-zero, at-minus, at-plus}
 use Rattle.nearest.proofs.float_of.Statement.{statement}
 use Rattle.nearest.proofs.float_of.Tie as tie
@@ -57,13 +56,10 @@ ratio-requires c κs =
     let e = p-size (c .before .before) in
     let f = q-size c in
     let some = above (c .before .before .size .result) (c .before .if1 .left) in
-    (some, (under _ _ e (g .p-near), (rw f (one-some (a .args .q) (g .one)), under _ _ f (g .q-near))))
+    (some, (rw e (under _ (g .p-near)), (rw f (one-some (a .args .q) (g .one)), rw f (under _ (g .q-near)))))
   where
     above : (a : ℕ) → (a ≡ 0 → ⊥) → 0 < a
     above a h = omega arith
-
-    under : (a n : ℕ) → a ≡ n → n ≤ ratio-limit → a < 2 ^ 63
-    under a n e h = omega arith
 
 is-below-zero-requires : tie.Need-is-below-zero-requires
 is-below-zero-requires c κs = search needs
