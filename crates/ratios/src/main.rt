@@ -4,38 +4,7 @@
 // A ratio is p and q in eight bytes each, their lowest byte first. tools/ratios.py makes ratios, and what must be written, by a division
 // of its own.
 use nearest::Answer;
-ghost use Prim.Native.Nat.{_+_, _*_, _<_};
-ghost use lib.ListN.{length};
-
-// ---- numbers in bytes
-
-fn wide(x: u8) -> u64
-    ensures { λ r. ⌜ r < 256 ⌝ }
-{
-    x as u64
-}
-
-fn half_at(s: &[u8], at: usize) -> u64
-    requires { ⌜ at + 3 < length (now s) ⌝ }
-    ensures { λ r. ⌜ r < 4294967296 ⌝ }
-{
-    wide(s[at]) + 256 * wide(s[at + 1]) + 65536 * wide(s[at + 2]) + 16777216 * wide(s[at + 3])
-}
-
-// The signed number that 64 bits stand for.
-fn signed(u: u64) -> i64 {
-    if u < 9223372036854775808 {
-        u as i64
-    } else {
-        -1 - ((18446744073709551615 - u) as i64)
-    }
-}
-
-fn number_at(s: &[u8], at: usize) -> i64
-    requires { ⌜ at + 7 < length (now s) ⌝ }
-{
-    signed(half_at(s, at) + 4294967296 * half_at(s, at + 4))
-}
+ghost use Prim.Native.Nat.{_<_};
 
 // ---- what is written
 
@@ -75,6 +44,10 @@ fn print_answer(p: i64, q: i64) {
 }
 
 // ---- the input
+
+fn number_at(s: &[u8], at: usize) -> i64 {
+    words::signed_long(words::long_at(s, at))
+}
 
 fn run(s: &[u8]) {
     let mut at: usize = 0;

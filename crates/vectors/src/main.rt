@@ -16,27 +16,12 @@ fn wide(x: u8) -> u32
     x as u32
 }
 
-fn word_at(s: &[u8], at: usize) -> u32
-    requires { ⌜ at + 3 < length (now s) ⌝ }
-{
-    wide(s[at]) + 256 * wide(s[at + 1]) + 65536 * wide(s[at + 2]) + 16777216 * wide(s[at + 3])
-}
-
-// The signed number that 32 bits stand for.
-fn signed(u: u32) -> i32 {
-    if u < 2147483648 {
-        u as i32
-    } else {
-        -1 - ((4294967295 - u) as i32)
-    }
-}
-
 fn decode(s: &[u8], values: &mut [i32])
     requires { ⌜ 4 * length (now values) ≤ length (now s) ⌝ }
 {
     let mut i: usize = 0;
     while i < values.len() {
-        let x = signed(word_at(s, 4 * i));
+        let x = words::signed_word(words::word_at(s, 4 * i));
         values[i] = x;
         i += 1;
     }
@@ -130,12 +115,10 @@ fn run_one(s: &[u8], at: usize) -> usize
     if locals > 66 {
         return s.len();
     }
-    let low = word_at(s, head) as usize;
-    let high = word_at(s, head + 4) as usize;
     io::write_all(1, &s[name..head]);
     work(
         &s[first..middle],
-        high * 4294967296 + low,
+        words::long_at(s, head) as usize,
         &s[middle..next],
         values,
         locals,

@@ -1,7 +1,7 @@
 -- A signed number as the code tests its sign, and its size as the code works it out: −(z + 1) + 1 for a z below 0. Assumes nothing.
 use mathlib.Core.Path.{_≡_, refl, sym, ap, _∙_, subst}
 use mathlib.Core.Bool.{true, false, true≢false, false≢true}
-use Prim.Native.Nat.{ℕ, zero, suc, _+_, _<_, _^_}
+use Prim.Native.Nat.{ℕ, zero, suc, _+_, _-_, _<_, _^_}
 use native.Mathlib.Nat as N
 use native.Mathlib.Numerals.{add-one}
 use native.Mathlib.Omega.{arith}
@@ -9,9 +9,9 @@ use borrow.Author.Needs.{sfits-of}
 use lib.Dec.{T, leb·suc-zero}
 use lib.IntN.{ℤ, pos, negsuc, sucℤ, _+ℤ_, _-ℤ_, natAbs, +ℤ-idl, +ℤ-one}
 use lib.Signed.{ltZ, nonNeg}
-use mir.Facts.{toZ-pos}
+use mir.Facts.{toZ-pos, toZ-neg}
 use mir.Syntax.{Width, w64}
-use mir.Val.{Fits, SFits, hbits, toZ}
+use mir.Val.{Fits, SFits, bits, hbits, toZ, ofZ}
 use mir.ValLaws.{toZ-ofZ}
 use Rattle.whole.specs.Integer.{below-zero}
 use Rattle.whole.proofs.Machine.{r64}
@@ -19,13 +19,22 @@ use Rattle.whole.proofs.Machine.{r64}
 double : (a : ℕ) → a < 2 ^ 63 → a + 1 < 2 ^ 64
 double a q = omega arith
 
--- what the code makes of k for the number k below -1
+-- ---- the negative number that the bits u stand for, as the code makes it: −1 − k, for the k that is left of u up to the top
 minus-more : (k : ℕ) → negsuc 0 -ℤ pos k ≡ negsuc k
 minus-more zero = refl
 minus-more (suc k) = ap negsuc (ap suc (N.zero-add k))
 
-pub one-below : (w : Width) (k : ℕ) → k < 2 ^ hbits w → SFits w (negsuc 0 -ℤ toZ w k)
-one-below w k l = subst (SFits w) (sym (ap (λ (z : ℤ). negsuc 0 -ℤ z) (toZ-pos w l) ∙ minus-more k)) (sfits-of l)
+module _ (w : Width) (k : ℕ) (l : k < 2 ^ hbits w) where
+  minus-read : negsuc 0 -ℤ toZ w k ≡ negsuc k
+  minus-read = ap (λ (z : ℤ). negsuc 0 -ℤ z) (toZ-pos w l) ∙ minus-more k
+
+  pub minus-fits : SFits w (negsuc 0 -ℤ toZ w k)
+  minus-fits = subst (SFits w) (sym minus-read) (sfits-of l)
+
+  pub minus-is : (u : ℕ) → 2 ^ bits w - suc k ≡ u → toZ w (ofZ w (negsuc 0 -ℤ toZ w k)) ≡ toZ w u
+  minus-is u e = toZ-ofZ w (negsuc 0 -ℤ toZ w k) minus-fits ∙ minus-read ∙ sym (toZ-neg w k l) ∙ ap (toZ w) e
+
+-- ---- the sign and the size of a number
 
 -- the code's test of the sign
 pub sign-read : (z : ℤ) → SFits w64 z → ltZ (r64 z) (pos 0) ≡ below-zero z

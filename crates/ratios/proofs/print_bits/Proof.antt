@@ -5,10 +5,6 @@ use borrow.Author.Needs.{needs}
 use lib.ListN.{length}
 use Rattle.ratios.proofs.print_bits.Statement.{statement}
 use Rattle.ratios.proofs.print_bits.Tie as tie
-use Rattle.ratios.proofs.print_bits.Reads as reads
-use Rattle.ratios.proofs.print_bits.Lts as lts
-use Rattle.io.proofs.write_all.Reads as write-all-reads
-use Rattle.ratios.proofs.digit.Reads as digit-reads
 
 abbrev Inv-loop : tie.InvT-loop
 Inv-loop bits line₀ rest₀ i₀ line rest i = (17 ≡ length line) × (i ≤ 16)

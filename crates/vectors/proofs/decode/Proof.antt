@@ -19,10 +19,10 @@ mul-word-at : tie.Need-mul-word-at Inv-loop μ-loop
 mul-word-at c = omega arith
 
 word-at-requires : tie.Need-word-at-requires Inv-loop μ-loop
-word-at-requires c κs = omega arith
+word-at-requires c κs = tt
 
-signed-requires : tie.Need-signed-requires Inv-loop μ-loop
-signed-requires c κs = tt
+signed-word-requires : tie.Need-signed-word-requires Inv-loop μ-loop
+signed-word-requires c κs = tt
 
 mul-x : tie.Need-mul-x Inv-loop μ-loop
 mul-x c = omega arith
@@ -54,7 +54,7 @@ decode-spec =
     loop-holds
     mul-word-at
     word-at-requires
-    signed-requires
+    signed-word-requires
     mul-x
     slice-set-from-x
     add-i

@@ -1,0 +1,2 @@
+-- Meaning: Words.
+pub mod Words

@@ -1,0 +1,18 @@
+-- Numbers in bytes, their lowest byte first. A byte beyond the end counts as 0. The signed number that bits stand for is the kit's `toZ`.
+-- Assumes nothing.
+use mathlib.Core.List.{List}
+use Prim.Native.Nat.{ℕ, _+_, _*_}
+use lib.ListN.{getD}
+
+-- the byte at a place
+abbrev pub byte-at : List ℕ → ℕ → ℕ
+byte-at bytes at = getD bytes at 0
+
+-- the number of the four bytes from a place on
+unfoldable pub word-at : List ℕ → ℕ → ℕ
+word-at bytes at =
+    byte-at bytes at + 256 * byte-at bytes (at + 1) + 65536 * byte-at bytes (at + 2) + 16777216 * byte-at bytes (at + 3)
+
+-- the number of the eight bytes from a place on
+unfoldable pub long-at : List ℕ → ℕ → ℕ
+long-at bytes at = word-at bytes at + 4294967296 * word-at bytes (at + 4)
