@@ -1,27 +1,72 @@
--- How the measures add, for any weights: equal deviations give equal local numerators, these add up to P, and W and M are not below 0.
+-- How the measures add, for any weights: equal weights and deviations give equal sums, the local numerators add up to P, weights that are
+-- shared out among parts give sums that add up, and W and M are not below 0.
 -- Assumes nothing.
 use mathlib.Core.Path.{_≡_, refl, sym, ap, _∙_}
 use Prim.Native.Nat.{ℕ, _<_}
 use lib.IntN.{ℤ, pos, natAbs, _-ℤ_, _*ℤ_}
+use Rattle.whole.specs.Integer.{square}
 use Rattle.whole.specs.Sum.{sum}
 use Rattle.whole.proofs.Integer.{*-left-comm}
 use Rattle.whole.proofs.Size.{square-above, *-above}
-use Rattle.whole.proofs.Sum.{sum-cong, sum-scale}
+use Rattle.whole.proofs.Sum.{sum-cong, sum-scale, sum-swap}
 use Rattle.whole.proofs.SumSize.{sum-above}
-use Rattle.account.specs.Measures.{spread-of, row-of, pairs-of, weight-of, cross-of, local-of}
+use Rattle.account.specs.Measures.{spread-of, row-of, pairs-of, weight-of, cross-of, squares-of, local-of}
 
--- ---- deviations that agree give the same local numerators
-pub local-cong : (f : ℕ → ℕ → ℕ) (n : ℕ) (d e : ℕ → ℤ) → ((i : ℕ) → i < n → d i ≡ e i) → (i : ℕ) → i < n → local-of f d n i ≡ local-of f e n i
-unfolding local-of row-of
-local-cong f n d e same i p =
-    ap (λ z. z *ℤ sum (λ j. pos (f i j) *ℤ d j) n) (same i p)
-    ∙ ap (λ z. e i *ℤ z) (sum-cong _ _ n (λ j q. ap (λ z. pos (f i j) *ℤ z) (same j q)))
+-- ---- weights that agree, and deviations that agree, give the same sums
+module _ (f g : ℕ → ℕ → ℕ) (n : ℕ) (same : (i j : ℕ) → i < n → j < n → f i j ≡ g i j) where
+  pairs-cong : (h : ℕ → ℕ → ℤ) → pairs-of f h n ≡ pairs-of g h n
+  unfolding pairs-of row-of
+  pairs-cong h = sum-cong _ _ n (λ i p. sum-cong _ _ n (λ j q. ap (λ v. pos v *ℤ h i j) (same i j p q)))
+
+  pub weight-cong : weight-of f n ≡ weight-of g n
+  unfolding weight-of
+  weight-cong = pairs-cong (λ i j. pos 1)
+
+  pub cross-cong : (d : ℕ → ℤ) → cross-of f d n ≡ cross-of g d n
+  unfolding cross-of
+  cross-cong d = pairs-cong (λ i j. d i *ℤ d j)
+
+  pub squares-cong : (x : ℕ → ℤ) → squares-of f x n ≡ squares-of g x n
+  unfolding squares-of
+  squares-cong x = pairs-cong (λ i j. square (x i -ℤ x j))
+
+  pub local-cong : (d e : ℕ → ℤ) → ((i : ℕ) → i < n → d i ≡ e i) → (i : ℕ) → i < n → local-of f d n i ≡ local-of g e n i
+  unfolding local-of row-of
+  local-cong d e alike i p =
+      ap (λ z. z *ℤ sum (λ j. pos (f i j) *ℤ d j) n) (alike i p)
+      ∙ ap (λ z. e i *ℤ z) (sum-cong _ _ n (λ j q. ap (λ v. pos v *ℤ d j) (same i j p q) ∙ ap (λ z. pos (g i j) *ℤ z) (alike j q)))
 
 -- ---- the local numerators add up to P
 pub locals-sum : (f : ℕ → ℕ → ℕ) (d : ℕ → ℤ) (n : ℕ) → sum (λ i. local-of f d n i) n ≡ cross-of f d n
 unfolding local-of cross-of pairs-of row-of
 locals-sum f d n =
     sum-cong _ _ n (λ i p. sym (sum-scale (d i) (λ j. pos (f i j) *ℤ d j) n) ∙ sum-cong _ _ n (λ j q. *-left-comm (d i) (pos (f i j)) (d j)))
+
+-- ---- where the m parts of each weight add up to it, in what they count, so do the sums
+module _ (f : ℕ → ℕ → ℕ → ℕ) (g : ℕ → ℕ → ℕ) (m n : ℕ) (shared : (z : ℤ) (i j : ℕ) → i < n → j < n → sum (λ k. pos (f k i j) *ℤ z) m ≡ pos (g i j) *ℤ z) where
+  row-parts : (h : ℕ → ℕ → ℤ) (i : ℕ) → i < n → sum (λ k. row-of (f k) h i n) m ≡ row-of g h i n
+  unfolding row-of
+  row-parts h i p = sum-swap (λ k j. pos (f k i j) *ℤ h i j) m n ∙ sum-cong _ _ n (λ j q. shared (h i j) i j p q)
+
+  pairs-parts : (h : ℕ → ℕ → ℤ) → sum (λ k. pairs-of (f k) h n) m ≡ pairs-of g h n
+  unfolding pairs-of
+  pairs-parts h = sum-swap (λ k i. row-of (f k) h i n) m n ∙ sum-cong _ _ n (λ i p. row-parts h i p)
+
+  pub weight-parts : sum (λ k. weight-of (f k) n) m ≡ weight-of g n
+  unfolding weight-of
+  weight-parts = pairs-parts (λ i j. pos 1)
+
+  pub cross-parts : (d : ℕ → ℤ) → sum (λ k. cross-of (f k) d n) m ≡ cross-of g d n
+  unfolding cross-of
+  cross-parts d = pairs-parts (λ i j. d i *ℤ d j)
+
+  pub squares-parts : (x : ℕ → ℤ) → sum (λ k. squares-of (f k) x n) m ≡ squares-of g x n
+  unfolding squares-of
+  squares-parts x = pairs-parts (λ i j. square (x i -ℤ x j))
+
+  pub local-parts : (d : ℕ → ℤ) (i : ℕ) → i < n → sum (λ k. local-of (f k) d n i) m ≡ local-of g d n i
+  unfolding local-of
+  local-parts d i p = sum-scale (d i) (λ k. row-of (f k) (λ i j. d j) i n) m ∙ ap (λ z. d i *ℤ z) (row-parts (λ i j. d j) i p)
 
 -- ---- not below 0
 pub spread-above : (x : ℕ → ℤ) (n : ℕ) → spread-of x n ≡ pos (natAbs (spread-of x n))

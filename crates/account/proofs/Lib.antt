@@ -4,6 +4,7 @@ pub mod Adding
 pub mod Reading
 pub mod Running
 pub mod Locals
+pub mod ByClass
 pub mod Accepted
 pub mod Answered
 pub mod Theorems

@@ -1,15 +1,15 @@
 -- The deviations and the local numerators as the code holds them in lists, and what is known of the sums that are told. Assumes nothing.
-use mathlib.Core.Path.{_≡_, ap, _∙_}
+use mathlib.Core.Path.{_≡_, refl, ap, _∙_}
 use mathlib.Core.List.{List}
 use Prim.Native.Nat.{ℕ}
 use native.Mathlib.Nat as N
 use lib.IntN.{ℤ, pos}
 use Rattle.whole.specs.Sum.{sum}
-use Rattle.whole.specs.Table.{table, at}
+use Rattle.whole.specs.Table.{table, at, pair-at}
 use Rattle.whole.proofs.Machine.{Is, told}
 use Rattle.whole.proofs.Sum.{sum-cong}
 use Rattle.whole.proofs.Table.{table-at, table-cong}
-use Rattle.account.specs.Measures.{total-of, deviation-of, spread-of, weight-of, cross-of, squares-of, local-of, weight-at}
+use Rattle.account.specs.Measures.{total-of, deviation-of, spread-of, weight-of, cross-of, squares-of, local-of}
 use Rattle.account.specs.Answers.{job-locals}
 use Rattle.account.specs.Steps.{Sized, Valued, Weighted, Job}
 use Rattle.account.proofs.Adding.{local-cong, locals-sum}
@@ -23,27 +23,27 @@ deviations-sized values n d v e = table-sized 12800000 n (deviation-of (at value
 module _ (values : List ℤ) (weights : List ℕ) (n : ℕ) (r : Job values weights n) where
   -- worked from the list of deviations
   pub locals-are :
-      (d out : List ℤ) → d ≡ table (deviation-of (at values) n) n → out ≡ table (local-of (weight-at weights n) (at d) n) n →
+      (d out : List ℤ) → d ≡ table (deviation-of (at values) n) n → out ≡ table (local-of (pair-at weights n) (at d) n) n →
       out ≡ job-locals n values weights
   unfolding job-locals
   locals-are d out e q =
       q
-      ∙ table-cong _ _ n (pos 0) (local-cong (weight-at weights n) n (at d) (deviation-of (at values) n) (λ i p. ap (λ l. at l i) e ∙ table-at (deviation-of (at values) n) n i (pos 0) p))
+      ∙ table-cong _ _ n (pos 0) (local-cong (pair-at weights n) (pair-at weights n) n (λ i j p q. refl) (at d) (deviation-of (at values) n) (λ i p. ap (λ l. at l i) e ∙ table-at (deviation-of (at values) n) n i (pos 0) p))
 
   module _ (out : List ℤ) (q : out ≡ job-locals n values weights) where
     pub locals-sized : Sized 94371840000000000 out n
     unfolding job-locals
     locals-sized =
         let v = r .valued in
-        table-sized 94371840000000000 n (local-of (weight-at weights n) (deviation-of (at values) n) n) out q
-        (local-size (weight-at weights n) n (v .zones) (weight-le weights n (r .weighted)) (deviation-of (at values) n) (deviation-size (at values) n (v .zones) (v .near .size)))
+        table-sized 94371840000000000 n (local-of (pair-at weights n) (deviation-of (at values) n) n) out q
+        (local-size (pair-at weights n) n (v .zones) (weight-le weights n (r .weighted)) (deviation-of (at values) n) (deviation-size (at values) n (v .zones) (v .near .size)))
 
     -- they add up to P
-    pub locals-cross : sum (at out) n ≡ cross-of (weight-at weights n) (deviation-of (at values) n) n
+    pub locals-cross : sum (at out) n ≡ cross-of (pair-at weights n) (deviation-of (at values) n) n
     unfolding job-locals
     locals-cross =
-        sum-cong _ _ n (λ i p. ap (λ l. at l i) q ∙ table-at (local-of (weight-at weights n) (deviation-of (at values) n) n) n i (pos 0) p)
-        ∙ locals-sum (weight-at weights n) (deviation-of (at values) n) n
+        sum-cong _ _ n (λ i p. ap (λ l. at l i) q ∙ table-at (local-of (pair-at weights n) (deviation-of (at values) n) n) n i (pos 0) p)
+        ∙ locals-sum (pair-at weights n) (deviation-of (at values) n) n
 
 -- ---- y, told to be one of the sums, is that number and within an i64
 module _ (values : List ℤ) (n : ℕ) (v : Valued values n) where
@@ -55,19 +55,19 @@ module _ (values : List ℤ) (n : ℕ) (v : Valued values n) where
   spread-told e = told _ 80640000000000 e (spread-of-size (at values) n (v .zones) (v .near .size))
 
 pub weight-told :
-    (weights : List ℕ) (n : ℕ) → Weighted weights n → {y : ℤ} → y ≡ weight-of (weight-at weights n) n → Is y (weight-of (weight-at weights n) n) 36864
-weight-told weights n w e = told _ 36864 e (weight-size (weight-at weights n) n (w .zones) (weight-le weights n w))
+    (weights : List ℕ) (n : ℕ) → Weighted weights n → {y : ℤ} → y ≡ weight-of (pair-at weights n) n → Is y (weight-of (pair-at weights n) n) 36864
+weight-told weights n w e = told _ 36864 e (weight-size (pair-at weights n) n (w .zones) (weight-le weights n w))
 
 module _ (values : List ℤ) (weights : List ℕ) (n : ℕ) (r : Job values weights n) where
   pub cross-told :
-      {y : ℤ} → y ≡ cross-of (weight-at weights n) (deviation-of (at values) n) n →
-      Is y (cross-of (weight-at weights n) (deviation-of (at values) n) n) 6039797760000000000
+      {y : ℤ} → y ≡ cross-of (pair-at weights n) (deviation-of (at values) n) n →
+      Is y (cross-of (pair-at weights n) (deviation-of (at values) n) n) 6039797760000000000
   cross-told e =
       told _ 6039797760000000000 e
-      (cross-size (weight-at weights n) n (r .valued .zones) (weight-le weights n (r .weighted)) (deviation-of (at values) n) (deviation-size (at values) n (r .valued .zones) (r .valued .near .size)))
+      (cross-size (pair-at weights n) n (r .valued .zones) (weight-le weights n (r .weighted)) (deviation-of (at values) n) (deviation-size (at values) n (r .valued .zones) (r .valued .near .size)))
 
   pub squares-told :
-      {y : ℤ} → y ≡ squares-of (weight-at weights n) (at values) n → Is y (squares-of (weight-at weights n) (at values) n) 1474560000000000
+      {y : ℤ} → y ≡ squares-of (pair-at weights n) (at values) n → Is y (squares-of (pair-at weights n) (at values) n) 1474560000000000
   squares-told e =
       told _ 1474560000000000 e
-      (squares-size (weight-at weights n) n (r .valued .zones) (weight-le weights n (r .weighted)) (at values) (r .valued .near .size))
+      (squares-size (pair-at weights n) n (r .valued .zones) (weight-le weights n (r .weighted)) (at values) (r .valued .near .size))

@@ -9,12 +9,12 @@ use lib.ListN.{length, getD}
 use mir.Syntax.{w32}
 use Rattle.whole.specs.Integer.{square}
 use Rattle.whole.specs.Sum.{sum}
-use Rattle.whole.specs.Table.{table, at}
+use Rattle.whole.specs.Table.{table, at, pair-at}
 use Rattle.whole.proofs.Lists.{within}
 use Rattle.whole.proofs.Machine.{Is, val, told, rd, r32}
 use Rattle.whole.proofs.Sum.{sum-cong, sum-rows}
 use Rattle.whole.proofs.Table.{table-length, table-at}
-use Rattle.account.specs.Measures.{row-of, pairs-of, weight-of, weight-at}
+use Rattle.account.specs.Measures.{row-of, pairs-of, weight-of}
 use Rattle.account.specs.Steps.{Sized, Valued, Weighted}
 use Rattle.account.proofs.Sizes.{square-size}
 
@@ -54,13 +54,13 @@ module _ (weights : List ℕ) (n : ℕ) (w : Weighted weights n) where
   pub place : (i j : ℕ) → i < n → j < n → i * n + j < length weights
   place i j h k = omega (arith, within n i j h k, w .count)
 
-  pub weight-le : (i j : ℕ) → i < n → j < n → weight-at weights n i j ≤ 9
-  unfolding weight-at
+  pub weight-le : (i j : ℕ) → i < n → j < n → pair-at weights n i j ≤ 9
+  unfolding pair-at
   weight-le i j h k = w .light (i * n + j) (within n i j h k)
 
   -- summed along the list they are W
-  pub flat-weight : sum (λ k. pos (getD weights k 0)) (n * n) ≡ weight-of (weight-at weights n) n
-  unfolding weight-of pairs-of row-of weight-at
+  pub flat-weight : sum (λ k. pos (getD weights k 0)) (n * n) ≡ weight-of (pair-at weights n) n
+  unfolding weight-of pairs-of row-of pair-at
   flat-weight =
       sum-rows (λ k. pos (getD weights k 0)) n n
       ∙ sum-cong _ _ n (λ i p. sum-cong _ _ n (λ j q. ap pos (sym (N.mul-one (getD weights (i * n + j) 0)))))

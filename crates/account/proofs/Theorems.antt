@@ -17,8 +17,8 @@ use Rattle.whole.proofs.Rules.{first-least, first-applies}
 use Rattle.whole.proofs.Size.{size-*-le, square-zero, square-above, one-of}
 use Rattle.whole.proofs.Sum.{sum-cong, sum-none}
 use Rattle.whole.proofs.SumSize.{sum-above, terms-zero}
-use Rattle.whole.specs.Table.{at}
-use Rattle.account.specs.Measures.{total-of, deviation-of, spread-of, weight-of, cross-of, squares-of, local-of, weight-at}
+use Rattle.whole.specs.Table.{at, pair-at}
+use Rattle.account.specs.Measures.{total-of, deviation-of, spread-of, weight-of, cross-of, squares-of, local-of}
 use Rattle.account.specs.Limits.{Limits}
 use Rattle.account.specs.Refusals.{job-rules, account-rules, account-refusal}
 use Rattle.account.specs.Answers.{number-of, figures-of, job-figures, job-locals, account-figures, account-locals}
@@ -48,7 +48,7 @@ pub account-adds-up :
 unfolding account-locals account-figures job-figures
 account-adds-up n values weights locals z =
     let a = accepted n values weights locals z in
-    rw (eq-eqb (account-refusal n values weights locals) 0 z) (locals-cross values weights n (a .job) (job-locals n values weights) refl)
+    rw (eq-eqb (account-refusal n values weights locals) 0 z) (locals-cross values weights n (a .good .job) (job-locals n values weights) refl)
 
 -- ---- M is 0 exactly when all values are equal
 module _ (x : ℕ → ℤ) (n : ℕ) where
@@ -98,17 +98,17 @@ within-limits f x n zones light clear near =
 
 -- ---- of every accepted job: the limits, and W and M are at least 1
 module _ (n : ℕ) (values : List ℤ) (weights : List ℕ) (locals : List ℤ) (taken : account-refusal n values weights locals ≡ 0) where
-  pub accepted-limits : Limits (weight-at weights n) (at values) n
+  pub accepted-limits : Limits (pair-at weights n) (at values) n
   accepted-limits =
       let a = accepted n values weights locals taken in
-      let v = a .job .valued in
-      within-limits (weight-at weights n) (at values) n (v .zones) (weight-le weights n (a .job .weighted)) (a .clear) (v .near .size)
+      let v = a .good .job .valued in
+      within-limits (pair-at weights n) (at values) n (v .zones) (weight-le weights n (a .good .job .weighted)) (a .good .clear) (v .near .size)
 
-  pub weight-one : pos 1 ≤ℤ weight-of (weight-at weights n) n
-  weight-one = one-of _ (adding.weight-above (weight-at weights n) n) (accepted n values weights locals taken .weighty)
+  pub weight-one : pos 1 ≤ℤ weight-of (pair-at weights n) n
+  weight-one = one-of _ (adding.weight-above (pair-at weights n) n) (accepted n values weights locals taken .good .weighty)
 
   pub spread-one : pos 1 ≤ℤ spread-of (at values) n
-  spread-one = one-of _ (adding.spread-above (at values) n) (accepted n values weights locals taken .varied)
+  spread-one = one-of _ (adding.spread-above (at values) n) (accepted n values weights locals taken .good .varied)
 
 -- ---- the refusal is the least number that applies: it applies, and no number below it does
 module _ (n : ℕ) (values : List ℤ) (weights : List ℕ) (locals : List ℤ) where

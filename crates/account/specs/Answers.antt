@@ -3,10 +3,11 @@ use mathlib.Core.List.{List, [], _∷_}
 use Prim.Native.Nat.{ℕ}
 use lib.IntN.{ℤ}
 use Rattle.whole.specs.Rules.{unless-refused}
-use Rattle.whole.specs.Table.{table, at}
-use Rattle.account.specs.Measures.{total-of, deviation-of, spread-of, weight-of, cross-of, squares-of, local-of, weight-at}
+use Rattle.whole.specs.Table.{table, at, pair-at}
+use Rattle.account.specs.Measures.{total-of, deviation-of, spread-of, weight-of, cross-of, squares-of, local-of}
 use Rattle.account.specs.Refusals.{account-refusal}
 use Rattle.account.specs.declared.Sums.{Sums}
+use Rattle.account.specs.declared.ClassRow.{ClassRow}
 use Rattle.account.specs.declared.Answer.{Answer}
 use Rattle.account.specs.declared.Answer.the-variants.{Refused, Accounted}
 
@@ -33,14 +34,22 @@ unfoldable pub job-figures : ℕ → List ℤ → List ℕ → List ℤ
 job-figures n values weights =
     total-of (at values) n
     ∷ spread-of (at values) n
-    ∷ weight-of (weight-at weights n) n
-    ∷ cross-of (weight-at weights n) (deviation-of (at values) n) n
-    ∷ squares-of (weight-at weights n) (at values) n
+    ∷ weight-of (pair-at weights n) n
+    ∷ cross-of (pair-at weights n) (deviation-of (at values) n) n
+    ∷ squares-of (pair-at weights n) (at values) n
     ∷ []
+
+-- W, P and G of the weights f, with the deviations of all n zones: of a class, or of the job, the class of all pairs
+unfoldable pub class-row : (ℕ → ℕ → ℕ) → (ℕ → ℤ) → ℕ → ClassRow
+class-row f x n = record {
+  weight = weight-of f n;
+  cross = cross-of f (deviation-of x n) n;
+  squares = squares-of f x n;
+}
 
 -- L(0), L(1), .. of a job
 unfoldable pub job-locals : ℕ → List ℤ → List ℕ → List ℤ
-job-locals n values weights = table (local-of (weight-at weights n) (deviation-of (at values) n) n) n
+job-locals n values weights = table (local-of (pair-at weights n) (deviation-of (at values) n) n) n
 
 -- the figures that the call answers
 unfoldable pub account-figures : ℕ → List ℤ → List ℕ → List ℤ → List ℤ

@@ -1,6 +1,7 @@
--- Meaning: Measures, Limits, Refusals, Answers. What private functions ask of each other: Steps.
+-- Meaning: Measures, Limits, Refusals, Answers, Classes. What private functions ask of each other: Steps.
 pub mod Measures
 pub mod Limits
 pub mod Refusals
 pub mod Answers
+pub mod Classes
 pub mod Steps

@@ -1,9 +1,7 @@
 -- The measures of a job, as document 01 writes them. x gives each zone's value, d each zone's deviation, and f the weight that counts
 -- of each ordered pair of zones, which in the whole job is w(i,j). Every sum is said once, for any such f. Assumes nothing.
-use mathlib.Core.List.{List}
-use Prim.Native.Nat.{ℕ, _+_, _*_}
+use Prim.Native.Nat.{ℕ}
 use lib.IntN.{ℤ, pos, _-ℤ_, _*ℤ_}
-use lib.ListN.{getD}
 use Rattle.whole.specs.Integer.{square}
 use Rattle.whole.specs.Sum.{sum}
 
@@ -46,7 +44,3 @@ squares-of f x n = pairs-of f (λ i j. square (x i -ℤ x j)) n
 -- the local numerator L(i) = d(i) × (the sum over j of w(i,j) × d(j))
 unfoldable pub local-of : (ℕ → ℕ → ℕ) → (ℕ → ℤ) → ℕ → ℕ → ℤ
 local-of f d n i = d i *ℤ row-of f (λ i j. d j) i n
-
--- ---- w(i,j) of the lent list of weights: a row of n for each i
-unfoldable pub weight-at : List ℕ → ℕ → ℕ → ℕ → ℕ
-weight-at weights n i j = getD weights (i * n + j) 0

@@ -9,14 +9,14 @@ use lib.ListN.{length}
 use Rattle.whole.specs.Integer.{is-zero}
 use Rattle.whole.specs.Rules.{Rule, first-broken, size-rules}
 use Rattle.whole.specs.Search.{some, any-beyond, any-above}
-use Rattle.whole.specs.Table.{at}
-use Rattle.account.specs.Measures.{weight-of, spread-of, weight-at}
+use Rattle.whole.specs.Table.{at, pair-at}
+use Rattle.account.specs.Measures.{weight-of, spread-of}
 
 -- ---- a job's own rules
 
 -- a weight stands on the diagonal
 unfoldable pub any-on-diagonal : ℕ → List ℕ → Bool
-any-on-diagonal n weights = some (λ i. ltb 0 (weight-at weights n i i)) n
+any-on-diagonal n weights = some (λ i. ltb 0 (pair-at weights n i i)) n
 
 -- 3 to 7: the values, the weights, W and M
 unfoldable pub job-rules : ℕ → List ℤ → List ℕ → List Rule
@@ -24,7 +24,7 @@ job-rules n values weights =
     (any-beyond 100000 values, 3)
     ∷ (any-above 9 weights, 4)
     ∷ (any-on-diagonal n weights, 5)
-    ∷ (is-zero (weight-of (weight-at weights n) n), 6)
+    ∷ (is-zero (weight-of (pair-at weights n) n), 6)
     ∷ (is-zero (spread-of (at values) n), 7)
     ∷ []
 

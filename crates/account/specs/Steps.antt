@@ -1,12 +1,12 @@
 -- What the private functions ask of each other; no part of the public promise. Assumes nothing.
 use mathlib.Core.Path.{_≡_}
+use mathlib.Core.Bool.{cond}
 use mathlib.Core.List.{List}
 use Prim.Native.Nat.{ℕ, _*_, _≤_, _<_}
+use lib.Dec.{eqb}
 use lib.IntN.{ℤ, natAbs}
 use lib.ListN.{length, getD}
-use Rattle.whole.specs.Table.{at}
-use Rattle.account.specs.Measures.{deviation-of, weight-of, cross-of, squares-of}
-use Rattle.account.specs.declared.working.PairSums.{PairSums}
+use Rattle.whole.specs.Table.{table, at}
 
 -- n numbers, each at most b in size
 pub record Sized (b : ℕ) (numbers : List ℤ) (n : ℕ) : Type 0 where
@@ -29,10 +29,6 @@ pub record Job (values : List ℤ) (weights : List ℕ) (n : ℕ) : Type 0 where
   pub valued : Valued values n
   pub weighted : Weighted weights n
 
--- W, P and G of the weights f, at the values x of n zones
-unfoldable pub pair-sums-of : (ℕ → ℕ → ℕ) → (ℕ → ℤ) → ℕ → PairSums
-pair-sums-of f x n = record {
-  weight = weight-of f n;
-  cross = cross-of f (deviation-of x n) n;
-  squares = squares-of f x n;
-}
+-- the list of the weights of class k: where the p-th pair is of another class, 0
+unfoldable pub weights-in : List ℕ → List ℕ → ℕ → List ℕ
+weights-in weights classes k = table (λ p. cond (eqb (getD classes p 0) k) (getD weights p 0) 0) (length weights)

@@ -3,8 +3,8 @@ ghost use mathlib.Core.Path.{_≡_};
 ghost use Prim.Native.Nat.{_≤_, _<_};
 ghost use lib.ListN.{length};
 ghost use Rattle.whole.specs.Sum.{sum};
-ghost use Rattle.whole.specs.Table.{table, at};
-ghost use Rattle.account.specs.Measures.{total-of, deviation-of, row-of, local-of, weight-at};
+ghost use Rattle.whole.specs.Table.{table, at, pair-at};
+ghost use Rattle.account.specs.Measures.{total-of, deviation-of, row-of, local-of};
 ghost use Rattle.account.specs.Steps.{Sized, Valued, Weighted};
 
 // S.
@@ -43,7 +43,7 @@ pub fn neighbour_sum(n: usize, weights: &[u8], d: &[i64], i: usize) -> i64
     requires { ⌜ Weighted (now weights) n ⌝ }
     requires { ⌜ Sized 12800000 (now d) n ⌝ }
     requires { ⌜ i < n ⌝ }
-    ensures { λ r. ⌜ r ≡ row-of (weight-at (now (weights .entry)) n) (λ i j. at (now (d .entry)) j) i n ⌝ }
+    ensures { λ r. ⌜ r ≡ row-of (pair-at (now (weights .entry)) n) (λ i j. at (now (d .entry)) j) i n ⌝ }
 {
     let row = i * n;
     let mut acc: i64 = 0;
@@ -62,7 +62,7 @@ pub fn local_numerators(n: usize, weights: &[u8], d: &[i64], locals: &mut [i64])
     requires { ⌜ Weighted (now weights) n ⌝ }
     requires { ⌜ Sized 12800000 (now d) n ⌝ }
     requires { ⌜ length (now locals) ≡ n ⌝ }
-    ensures { λ _. ⌜ now (locals .exit) ≡ table (local-of (weight-at (now (weights .entry)) n) (at (now (d .entry))) n) n ⌝ }
+    ensures { λ _. ⌜ now (locals .exit) ≡ table (local-of (pair-at (now (weights .entry)) n) (at (now (d .entry))) n) n ⌝ }
 {
     let mut i: usize = 0;
     while i < n {

@@ -4,8 +4,8 @@ ghost use Prim.Native.Nat.{_≤_, _<_};
 ghost use lib.IntN.{natAbs, _-ℤ_};
 ghost use Rattle.whole.specs.Integer.{square};
 ghost use Rattle.whole.specs.Sum.{sum};
-ghost use Rattle.whole.specs.Table.{at};
-ghost use Rattle.account.specs.Measures.{spread-of, row-of, squares-of, weight-at};
+ghost use Rattle.whole.specs.Table.{at, pair-at};
+ghost use Rattle.account.specs.Measures.{spread-of, row-of, squares-of};
 ghost use Rattle.account.specs.Steps.{Valued, Job};
 
 // The squared difference of two values.
@@ -53,7 +53,7 @@ pub fn spread(n: usize, values: &[i32]) -> i64
 pub fn row_squares(n: usize, values: &[i32], weights: &[u8], i: usize) -> i64
     requires { ⌜ Job (now values) (now weights) n ⌝ }
     requires { ⌜ i < n ⌝ }
-    ensures { λ r. ⌜ r ≡ row-of (weight-at (now (weights .entry)) n) (λ i j. square (at (now (values .entry)) i -ℤ at (now (values .entry)) j)) i n ⌝ }
+    ensures { λ r. ⌜ r ≡ row-of (pair-at (now (weights .entry)) n) (λ i j. square (at (now (values .entry)) i -ℤ at (now (values .entry)) j)) i n ⌝ }
 {
     let a = values[i];
     let row = i * n;
@@ -71,7 +71,7 @@ pub fn row_squares(n: usize, values: &[i32], weights: &[u8], i: usize) -> i64
 // G.
 pub fn squares(n: usize, values: &[i32], weights: &[u8]) -> i64
     requires { ⌜ Job (now values) (now weights) n ⌝ }
-    ensures { λ r. ⌜ r ≡ squares-of (weight-at (now (weights .entry)) n) (at (now (values .entry))) n ⌝ }
+    ensures { λ r. ⌜ r ≡ squares-of (pair-at (now (weights .entry)) n) (at (now (values .entry))) n ⌝ }
 {
     let mut acc: i64 = 0;
     let mut i: usize = 0;

@@ -2,12 +2,13 @@
 use crate::differences;
 use crate::working;
 ghost use mathlib.Core.Path.{_≡_};
-ghost use mathlib.Core.List.{_++_};
+ghost use mathlib.Core.List.{[], _∷_, _++_};
 ghost use Prim.Native.Nat.{_*_, _≤_};
 ghost use lib.ListN.{length};
 ghost use Rattle.whole.specs.Rules.{first-broken, size-rules};
 ghost use Rattle.whole.specs.Search.{any-beyond, any-above};
 ghost use Rattle.account.specs.Refusals.{any-on-diagonal, job-rules, account-lengths};
+ghost use Rattle.account.specs.Classes.{class-refusal};
 
 // Whether some value is beyond 100,000 in size.
 pub fn any_beyond(values: &[i32]) -> bool
@@ -114,4 +115,66 @@ pub fn judge_account(n: usize, values: &[i32], weights: &[u8], locals: usize) ->
         return sizes;
     }
     judge_job(n, values, weights)
+}
+
+// 1 and 2 of a class account: n, and the lengths of its five lists, the nine rows in `room` places.
+pub fn judge_class_sizes(
+    n: usize,
+    values: usize,
+    weights: usize,
+    classes: usize,
+    room: usize,
+    rows: usize,
+    locals: usize,
+) -> u8
+    ensures { λ r. ⌜ r ≡ first-broken (size-rules n ((values, n) ∷ (weights, n * n) ∷ (classes, n * n) ∷ (rows, room) ∷ (locals, 9 * n) ∷ [])) ⌝ }
+{
+    let sizes = judge_sizes(n, values, weights, n);
+    if sizes != 0 {
+        return sizes;
+    }
+    if classes != n * n {
+        return 2;
+    }
+    if rows != room {
+        return 2;
+    }
+    if locals != 9 * n {
+        return 2;
+    }
+    0
+}
+
+// 1 to 7, then 9: the class account's refusal.
+pub fn judge_classes(
+    n: usize,
+    values: &[i32],
+    weights: &[u8],
+    classes: &[u8],
+    room: usize,
+    rows: usize,
+    locals: usize,
+) -> u8
+    ensures { λ r. ⌜ r ≡ class-refusal room n (now (values .entry)) (now (weights .entry)) (now (classes .entry)) rows locals ⌝ }
+{
+    let sizes = judge_class_sizes(
+        n,
+        values.len(),
+        weights.len(),
+        classes.len(),
+        room,
+        rows,
+        locals,
+    );
+    if sizes != 0 {
+        return sizes;
+    }
+    let job = judge_job(n, values, weights);
+    if job != 0 {
+        return job;
+    }
+    if any_above(8, classes) {
+        return 9;
+    }
+    0
 }

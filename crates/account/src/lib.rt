@@ -1,12 +1,17 @@
-// The account of a job: values and weights give S, M, W, P, G, and the local numerators L(i) go to a lent list.
+// The account of a job: values and weights give S, M, W, P, G, and the local numerators L(i) go to a lent list. The class account of a
+// job and its classes: W, P, G and the local numerators of each class go to two lent lists.
+mod classes;
 mod deviations;
 mod differences;
 mod judging;
 mod working;
 
 ghost use mathlib.Core.Path.{_≡_};
+ghost use lib.ListN.{length};
+ghost use Rattle.whole.specs.Rules.{unless-refused};
 ghost use Rattle.account.specs.Refusals.{account-refusal};
 ghost use Rattle.account.specs.Answers.{number-of, figures-of, account-figures, account-locals};
+ghost use Rattle.account.specs.Classes.{class-sums, class-locals, class-refusal};
 
 // The five whole numbers of a job.
 pub struct Sums {
@@ -14,6 +19,16 @@ pub struct Sums {
     pub total: i64,
     // M
     pub spread: i64,
+    // W
+    pub weight: i64,
+    // P
+    pub cross: i64,
+    // G
+    pub squares: i64,
+}
+
+// A class row: the three sums over the pairs of a class.
+pub struct ClassRow {
     // W
     pub weight: i64,
     // P
@@ -39,4 +54,27 @@ pub fn account(n: usize, values: &[i32], weights: &[u8], locals: &mut [i64]) -> 
         return Answer::Refused(refusal);
     }
     Answer::Accounted(working::job_sums(n, values, weights, locals))
+}
+
+// Works the class account of the job, whose pairs have the classes lent: `rows` has 27 places for W, P and G of class 0, of class 1, ..,
+// and `locals` 9 × n for the local numerators of class 0, of class 1, .. Both are left as they were where the job is refused. Answers
+// the number of the refusal, 0 where nothing is refused.
+pub fn class_account(
+    n: usize,
+    values: &[i32],
+    weights: &[u8],
+    classes: &[u8],
+    rows: &mut [i64],
+    locals: &mut [i64],
+) -> u8
+    ensures number { λ r. ⌜ r ≡ class-refusal 27 n (now (values .entry)) (now (weights .entry)) (now (classes .entry)) (length (now (rows .entry))) (length (now (locals .entry))) ⌝ }
+    ensures sums { λ _. ⌜ now (rows .exit) ≡ unless-refused (class-refusal 27 n (now (values .entry)) (now (weights .entry)) (now (classes .entry)) (length (now (rows .entry))) (length (now (locals .entry)))) (class-sums n (now (values .entry)) (now (weights .entry)) (now (classes .entry))) (now (rows .entry)) ⌝ }
+    ensures numerators { λ _. ⌜ now (locals .exit) ≡ unless-refused (class-refusal 27 n (now (values .entry)) (now (weights .entry)) (now (classes .entry)) (length (now (rows .entry))) (length (now (locals .entry)))) (class-locals n (now (values .entry)) (now (weights .entry)) (now (classes .entry))) (now (locals .entry)) ⌝ }
+{
+    let refusal = judging::judge_classes(n, values, weights, classes, 27, rows.len(), locals.len());
+    if refusal != 0 {
+        return refusal;
+    }
+    classes::work_classes(n, values, weights, classes, rows, locals);
+    0
 }

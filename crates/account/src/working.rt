@@ -1,18 +1,19 @@
 // The work on a job that was judged and accepted: the sums over its pairs, and all five.
+use crate::ClassRow;
 use crate::Sums;
 use crate::deviations;
 use crate::differences;
 ghost use mathlib.Core.Path.{_≡_};
 ghost use lib.ListN.{length};
-ghost use Rattle.whole.specs.Table.{table, at};
-ghost use Rattle.account.specs.Measures.{deviation-of, weight-of, weight-at};
-ghost use Rattle.account.specs.Answers.{five, job-figures, job-locals};
-ghost use Rattle.account.specs.Steps.{Weighted, Job, pair-sums-of};
+ghost use Rattle.whole.specs.Table.{table, at, pair-at};
+ghost use Rattle.account.specs.Measures.{deviation-of, weight-of};
+ghost use Rattle.account.specs.Answers.{five, class-row, job-figures, job-locals};
+ghost use Rattle.account.specs.Steps.{Weighted, Job};
 
 // W.
 pub fn weight_sum(n: usize, weights: &[u8]) -> i64
     requires { ⌜ Weighted (now weights) n ⌝ }
-    ensures { λ r. ⌜ r ≡ weight-of (weight-at (now (weights .entry)) n) n ⌝ }
+    ensures { λ r. ⌜ r ≡ weight-of (pair-at (now (weights .entry)) n) n ⌝ }
 {
     let mut acc: i64 = 0;
     let mut k: usize = 0;
@@ -23,16 +24,6 @@ pub fn weight_sum(n: usize, weights: &[u8]) -> i64
     acc
 }
 
-// The three sums over the pairs.
-pub struct PairSums {
-    // W
-    pub weight: i64,
-    // P
-    pub cross: i64,
-    // G
-    pub squares: i64,
-}
-
 // W, P and G for weights of any kind, with the local numerators in `locals`. The deviations d are those of the whole job.
 pub fn pair_sums(
     n: usize,
@@ -40,18 +31,18 @@ pub fn pair_sums(
     d: &[i64],
     weights: &[u8],
     locals: &mut [i64],
-) -> PairSums
+) -> ClassRow
     requires { ⌜ Job (now values) (now weights) n ⌝ }
     requires { ⌜ now d ≡ table (deviation-of (at (now values)) n) n ⌝ }
     requires { ⌜ length (now locals) ≡ n ⌝ }
-    ensures { λ r. ⌜ r ≡ pair-sums-of (weight-at (now (weights .entry)) n) (at (now (values .entry))) n ⌝ }
+    ensures { λ r. ⌜ r ≡ class-row (pair-at (now (weights .entry)) n) (at (now (values .entry))) n ⌝ }
     ensures { λ _. ⌜ now (locals .exit) ≡ job-locals n (now (values .entry)) (now (weights .entry)) ⌝ }
 {
     deviations::local_numerators(n, weights, d, locals);
     let cross = deviations::sum_of(n, locals);
     let weight = weight_sum(n, weights);
     let squares = differences::squares(n, values, weights);
-    PairSums {
+    ClassRow {
         weight: weight,
         cross: cross,
         squares: squares,

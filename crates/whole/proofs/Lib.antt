@@ -5,6 +5,7 @@ pub mod Sum
 pub mod SumSize
 pub mod Pairs
 pub mod Table
+pub mod TableRows
 pub mod Search
 pub mod Rules
 pub mod Machine

@@ -6,9 +6,9 @@ use mathlib.Core.List.{List, [], _∷_, _++_}
 use mathlib.Core.Logic.{inl, inr, ⊎-elim}
 use Prim.Native.Nat.{ℕ, suc, _≤_, _<_}
 use native.Mathlib.Omega.{arith}
-use borrow.Author.Tests.{ltb-false, eqb-true, not-false}
+use borrow.Author.Tests.{eq-eqb, ne-eqb, ltb-false, eqb-true, not-false}
 use lib.Dec.{T, ltb, ltb→lt, eqb}
-use Rattle.whole.specs.Rules.{Rule, first-broken, Applies, outside, misfits}
+use Rattle.whole.specs.Rules.{Rule, first-broken, Applies, unless-refused, outside, misfits, size-rules}
 
 -- ---- one rule and the rest: the number is 0 only where the rule holds and none of the rest is broken
 pub holds : (b : Bool) (k r : ℕ) → cond b (suc k) r ≡ 0 → (b ≡ false) × (r ≡ 0)
@@ -56,6 +56,14 @@ first-applies [] f = absurd (f refl)
 first-applies ((true, l) ∷ rules) f = inl (refl, refl)
 first-applies ((false, l) ∷ rules) f = inr (first-applies rules f)
 
+-- ---- what a refusal leaves, and what is worked where there is none
+module _ {A : Type 0} (refusal : ℕ) (worked kept : A) where
+  pub kept-when-refused : (refusal ≡ 0 → ⊥) → unless-refused refusal worked kept ≡ kept
+  kept-when-refused f = rw (ne-eqb refusal 0 f) refl
+
+  pub worked-when-taken : refusal ≡ 0 → unless-refused refusal worked kept ≡ worked
+  worked-when-taken e = rw (eq-eqb refusal 0 e) refl
+
 -- ---- a rule of two tests holds where neither passes
 pub neither : (a b : Bool) → (a || b) ≡ false → (a ≡ false) × (b ≡ false)
 neither false b e = (refl, e)
@@ -70,3 +78,16 @@ pub fits : (found wanted : ℕ) (others : List (ℕ × ℕ)) → misfits ((found
 fits found wanted others e =
     let f = neither (not (eqb found wanted)) (misfits others) e in
     (eqb-true found wanted (not-false (eqb found wanted) (f .0)), f .1)
+
+-- n is in its range and every length is as it must be
+pub record Sizes (n : ℕ) (lengths : List (ℕ × ℕ)) : Type 0 where
+  pub two : 2 ≤ n
+  pub zones : n ≤ 64
+  pub fitting : misfits lengths ≡ false
+
+pub sizes-hold : (n : ℕ) (lengths : List (ℕ × ℕ)) → first-broken (size-rules n lengths) ≡ 0 → Sizes n lengths
+sizes-hold n lengths e =
+    let e1 = holds (outside 2 64 n) 0 _ e in
+    let e2 = holds (misfits lengths) 1 0 (e1 .1) in
+    let r = in-range 2 64 n (e1 .0) in
+    record { two = r .0; zones = r .1; fitting = e2 .0 }

@@ -27,7 +27,7 @@ returns : tie.Need-returns
 returns c = refused _ _ _ _ _ (found (c .before)) (c .if1 .taken)
 
 job-sums-requires : tie.Need-job-sums-requires
-job-sums-requires c κs = let g = good (c .before) in (g .job, g .room)
+job-sums-requires c κs = let g = good (c .before) in (g .good .job, g .room)
 
 same-length : tie.Need-same-length
 same-length c = search needs

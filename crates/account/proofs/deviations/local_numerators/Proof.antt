@@ -8,14 +8,14 @@ use lib.ListN.{length, length-set}
 use mir.Syntax.{w64}
 use Rattle.whole.proofs.Machine.{Is, val, told, rd, is-*, fit, r64}
 use Rattle.whole.proofs.Table.{is-table, stored}
-use Rattle.whole.specs.Table.{at}
-use Rattle.account.specs.Measures.{row-of, local-of, weight-at}
+use Rattle.whole.specs.Table.{at, pair-at}
+use Rattle.account.specs.Measures.{row-of, local-of}
 use Rattle.account.proofs.Running.{neighbours-run}
 use Rattle.account.proofs.deviations.local_numerators.Statement.{statement}
 use Rattle.account.proofs.deviations.local_numerators.Tie as tie
 
 abbrev Inv-loop : tie.InvT-loop
-Inv-loop n weights d locals₀ i₀ locals i = (i ≤ n) × ((length locals ≡ n) × ((k : ℕ) → k < i → at locals k ≡ local-of (weight-at weights n) (at d) n k))
+Inv-loop n weights d locals₀ i₀ locals i = (i ≤ n) × ((length locals ≡ n) × ((k : ℕ) → k < i → at locals k ≡ local-of (pair-at weights n) (at d) n k))
 
 abbrev μ-loop : tie.MeasureT-loop
 μ-loop n weights d locals₀ i₀ locals i = n - i
@@ -26,7 +26,7 @@ local :
     let b = c .before .before .before in
     let a = b .before .before .args in
     Is (r64 (at (a .d .now) (b .loop .i)) *ℤ r64 (c .before .neighbour-sum .result))
-    (local-of (weight-at (a .weights .now) (a .n)) (at (a .d .now)) (a .n) (b .loop .i)) 94371840000000000
+    (local-of (pair-at (a .weights .now) (a .n)) (at (a .d .now)) (a .n) (b .loop .i)) 94371840000000000
 unfolding local-of row-of
 local c =
     let b = c .before .before .before in
@@ -66,7 +66,7 @@ loop-again c = let b = c .before .before .before in let a = b .before .before .a
   omega arith,
   (
     simp length-set (b .loop .inv .1 .0),
-    stored (local-of (weight-at (a .weights .now) (a .n)) (at (a .d .now)) (a .n)) (pos 0) _ (b .loop .locals) (b .loop .i) (omega arith) (rd w64 (local c) tt .same) (b .loop .inv .1 .1),
+    stored (local-of (pair-at (a .weights .now) (a .n)) (at (a .d .now)) (a .n)) (pos 0) _ (b .loop .locals) (b .loop .i) (omega arith) (rd w64 (local c) tt .same) (b .loop .inv .1 .1),
   ),
 )
 
@@ -77,7 +77,7 @@ returns : tie.Need-returns Inv-loop μ-loop
 returns c =
     let b = c .before in
     let a = b .before .before .args in
-    is-table (local-of (weight-at (a .weights .now) (a .n)) (at (a .d .now)) (a .n)) (a .n) (pos 0) (b .loop .locals) (b .loop .inv .1 .0)
+    is-table (local-of (pair-at (a .weights .now) (a .n)) (at (a .d .now)) (a .n)) (a .n) (pos 0) (b .loop .locals) (b .loop .inv .1 .0)
     (λ k p. b .loop .inv .1 .1 k (omega arith))
 
 pub local-numerators-spec : {M : Type 1} → statement M

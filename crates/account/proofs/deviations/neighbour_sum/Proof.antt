@@ -10,15 +10,15 @@ use Rattle.whole.specs.Sum.{sum}
 use Rattle.whole.proofs.Accumulate.{acc-none, acc-more, acc-done}
 use Rattle.whole.proofs.Lists.{within}
 use Rattle.whole.proofs.Machine.{Is, val, nat, rd, is-*, fit, fits-le, r64}
-use Rattle.whole.specs.Table.{at}
-use Rattle.account.specs.Measures.{row-of, weight-at}
+use Rattle.whole.specs.Table.{at, pair-at}
+use Rattle.account.specs.Measures.{row-of}
 use Rattle.account.proofs.Reading.{few, place, weight-le}
 use Rattle.account.proofs.Running.{neighbours-run}
 use Rattle.account.proofs.deviations.neighbour_sum.Statement.{statement}
 use Rattle.account.proofs.deviations.neighbour_sum.Tie as tie
 
 abbrev Inv-loop : tie.InvT-loop
-Inv-loop n weights d i row acc₀ j₀ acc j = (j ≤ n) × (acc ≡ ofZ w64 (sum (λ j. pos (weight-at weights n i j) *ℤ at d j) j))
+Inv-loop n weights d i row acc₀ j₀ acc j = (j ≤ n) × (acc ≡ ofZ w64 (sum (λ j. pos (pair-at weights n i j) *ℤ at d j) j))
 
 abbrev μ-loop : tie.MeasureT-loop
 μ-loop n weights d i row acc₀ j₀ acc j = n - j
@@ -32,7 +32,7 @@ module _ (c : tie.After-deviation Inv-loop μ-loop) where
   a = b .before
 
   abbrev weight : ℕ → ℕ
-  weight = weight-at (a .args .weights .now) (a .args .n) (a .args .i)
+  weight = pair-at (a .args .weights .now) (a .args .n) (a .args .i)
 
   abbrev deviation : ℕ → ℤ
   deviation = at (a .args .d .now)
@@ -42,7 +42,7 @@ module _ (c : tie.After-deviation Inv-loop μ-loop) where
   cast = toZ w64 (getD (a .args .weights .now) (a .args .i * a .args .n + b .loop .j) 0)
 
   term : Is (cast *ℤ r64 (deviation (b .loop .j))) (pos (weight (b .loop .j)) *ℤ deviation (b .loop .j)) 115200000
-  unfolding weight-at
+  unfolding pair-at
   term =
       is-* (nat w64 (weight (b .loop .j)) 9 (weight-le _ _ (a .pre .0) (a .args .i) (b .loop .j) (a .pre .1 .1) (omega arith)) tt)
       (rd w64 (val (deviation (b .loop .j)) 12800000 (a .pre .1 .0 .size (b .loop .j) (omega arith))) tt)

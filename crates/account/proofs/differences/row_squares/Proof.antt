@@ -11,15 +11,15 @@ use Rattle.whole.specs.Sum.{sum}
 use Rattle.whole.proofs.Accumulate.{acc-none, acc-more, acc-done}
 use Rattle.whole.proofs.Lists.{within}
 use Rattle.whole.proofs.Machine.{Is, nat, rd, is-*, fit, fits-le, r64}
-use Rattle.whole.specs.Table.{at}
-use Rattle.account.specs.Measures.{row-of, weight-at}
+use Rattle.whole.specs.Table.{at, pair-at}
+use Rattle.account.specs.Measures.{row-of}
 use Rattle.account.proofs.Reading.{few, place, weight-le, read-le, difference-told}
 use Rattle.account.proofs.Running.{row-squares-run}
 use Rattle.account.proofs.differences.row_squares.Statement.{statement}
 use Rattle.account.proofs.differences.row_squares.Tie as tie
 
 abbrev Inv-loop : tie.InvT-loop
-Inv-loop n values weights i a row acc₀ j₀ acc j = (j ≤ n) × (acc ≡ ofZ w64 (sum (λ j. pos (weight-at weights n i j) *ℤ square (at values i -ℤ at values j)) j))
+Inv-loop n values weights i a row acc₀ j₀ acc j = (j ≤ n) × (acc ≡ ofZ w64 (sum (λ j. pos (pair-at weights n i j) *ℤ square (at values i -ℤ at values j)) j))
 
 abbrev μ-loop : tie.MeasureT-loop
 μ-loop n values weights i a row acc₀ j₀ acc j = n - j
@@ -33,7 +33,7 @@ module _ (c : tie.After-squared-difference Inv-loop μ-loop) where
   a = b .before .before .before
 
   abbrev weight : ℕ → ℕ
-  weight = weight-at (a .args .weights .now) (a .args .n) (a .args .i)
+  weight = pair-at (a .args .weights .now) (a .args .n) (a .args .i)
 
   -- (x(i) − x(j))²
   abbrev apart : ℕ → ℤ
@@ -44,7 +44,7 @@ module _ (c : tie.After-squared-difference Inv-loop μ-loop) where
   cast = toZ w64 (getD (a .args .weights .now) (a .args .i * a .args .n + b .loop .j) 0)
 
   term : Is (cast *ℤ r64 (c .squared-difference .result)) (pos (weight (b .loop .j)) *ℤ apart (b .loop .j)) 360000000000
-  unfolding weight-at
+  unfolding pair-at
   term =
       is-* (nat w64 (weight (b .loop .j)) 9 (weight-le _ _ (a .pre .0 .weighted) (a .args .i) (b .loop .j) (a .pre .1) (omega arith)) tt)
       (rd w64 (difference-told _ _ (a .pre .0 .valued) (a .args .i) (b .loop .j) (a .pre .1) (omega arith) (c .squared-difference .ensures)) tt)

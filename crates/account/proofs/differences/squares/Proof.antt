@@ -10,14 +10,14 @@ use Rattle.whole.specs.Integer.{square}
 use Rattle.whole.specs.Sum.{sum}
 use Rattle.whole.proofs.Accumulate.{acc-none, acc-more, acc-done}
 use Rattle.whole.proofs.Machine.{Is, told, rd, fit, r64}
-use Rattle.whole.specs.Table.{at}
-use Rattle.account.specs.Measures.{row-of, pairs-of, squares-of, weight-at}
+use Rattle.whole.specs.Table.{at, pair-at}
+use Rattle.account.specs.Measures.{row-of, pairs-of, squares-of}
 use Rattle.account.proofs.Running.{row-squares-run, squares-run}
 use Rattle.account.proofs.differences.squares.Statement.{statement}
 use Rattle.account.proofs.differences.squares.Tie as tie
 
 abbrev Inv-loop : tie.InvT-loop
-Inv-loop n values weights acc₀ i₀ acc i = (i ≤ n) × (acc ≡ ofZ w64 (sum (λ i. row-of (weight-at weights n) (λ i j. square (at values i -ℤ at values j)) i n) i))
+Inv-loop n values weights acc₀ i₀ acc i = (i ≤ n) × (acc ≡ ofZ w64 (sum (λ i. row-of (pair-at weights n) (λ i j. square (at values i -ℤ at values j)) i n) i))
 
 abbrev μ-loop : tie.MeasureT-loop
 μ-loop n values weights acc₀ i₀ acc i = n - i
@@ -29,7 +29,7 @@ turn :
     let a = b .before .before .args in
     let x = at (a .values .now) in
     Is (toZ w64 (b .loop .acc) +ℤ r64 (c .row-squares .result))
-    (sum (λ i. row-of (weight-at (a .weights .now) (a .n)) (λ i j. square (x i -ℤ x j)) i (a .n)) (b .loop .i + 1)) 1474560000000000
+    (sum (λ i. row-of (pair-at (a .weights .now) (a .n)) (λ i j. square (x i -ℤ x j)) i (a .n)) (b .loop .i + 1)) 1474560000000000
 unfolding row-of
 turn c =
     let b = c .before .before in

@@ -9,20 +9,20 @@ use lib.Dec.{ltb}
 use Rattle.whole.specs.Search.{some}
 use Rattle.whole.proofs.Lists.{within}
 use Rattle.whole.proofs.Search.{some-zero, some-more, some-found, some-done}
-use Rattle.account.specs.Measures.{weight-at}
+use Rattle.whole.specs.Table.{pair-at}
 use Rattle.account.specs.Refusals.{any-on-diagonal}
 use Rattle.account.proofs.Reading.{few}
 use Rattle.account.proofs.judging.any_on_diagonal.Statement.{statement}
 use Rattle.account.proofs.judging.any_on_diagonal.Tie as tie
 
 abbrev Inv-loop : tie.InvT-loop
-Inv-loop n weights i₀ i = (i ≤ n) × (some (λ i. ltb 0 (weight-at weights n i i)) i ≡ false)
+Inv-loop n weights i₀ i = (i ≤ n) × (some (λ i. ltb 0 (pair-at weights n i i)) i ≡ false)
 
 abbrev μ-loop : tie.MeasureT-loop
 μ-loop n weights i₀ i = n - i
 
 abbrev test : ℕ → List ℕ → ℕ → Bool
-test n weights i = ltb 0 (weight-at weights n i i)
+test n weights i = ltb 0 (pair-at weights n i i)
 
 loop-holds : tie.Need-loop-holds Inv-loop μ-loop
 loop-holds c = (omega arith, some-zero _)
@@ -46,7 +46,7 @@ shared-slice-read-if1 c =
     omega (arith, within (a .args .n) (b .loop .i) (b .loop .i) (omega arith) (omega arith))
 
 returns : tie.Need-returns Inv-loop μ-loop
-unfolding any-on-diagonal weight-at
+unfolding any-on-diagonal pair-at
 returns c =
     let b = c .before .before .before in
     let a = b .before .args in
@@ -59,7 +59,7 @@ loop-less : tie.Need-loop-less Inv-loop μ-loop
 loop-less c = omega arith
 
 loop-again : tie.Need-loop-again Inv-loop μ-loop
-unfolding weight-at
+unfolding pair-at
 loop-again c =
     let b = c .before .before .before in
     let a = b .before .args in

@@ -5,9 +5,9 @@ use native.Mathlib.Nat as N
 use mir.Syntax.{w64}
 use Rattle.whole.specs.Integer.{is-zero}
 use Rattle.whole.proofs.Machine.{told, zero-yes, zero-no}
-use Rattle.whole.specs.Table.{at}
+use Rattle.whole.specs.Table.{at, pair-at}
 use Rattle.whole.specs.Search.{any-beyond, any-above}
-use Rattle.account.specs.Measures.{weight-of, spread-of, weight-at}
+use Rattle.account.specs.Measures.{weight-of, spread-of}
 use Rattle.account.specs.Refusals.{any-on-diagonal, job-rules}
 use Rattle.account.specs.Steps.{Valued, Weighted}
 use Rattle.account.proofs.Sizes.{weight-size}
@@ -31,7 +31,7 @@ holds5 c = sym (c .before .any-on-diagonal .ensures) ∙ c .if3 .left
 holds6 :
     (c : tie.Else4) →
     let a = c .before .before .before .before .before .before .before .before .before .args in
-    is-zero (weight-of (weight-at (a .weights .now) (a .n)) (a .n)) ≡ false
+    is-zero (weight-of (pair-at (a .weights .now) (a .n)) (a .n)) ≡ false
 holds6 c = zero-no w64 (c .before .weight-sum .ensures) (c .if4 .left)
 
 -- and the lists that the sums are taken of
@@ -44,7 +44,7 @@ good-values c = let a = c .before .before .before in record { zones = a .pre .0;
 breaks6 :
     (c : tie.Then4) →
     let a = c .before .before .before .before .before .before .before .before .before .args in
-    is-zero (weight-of (weight-at (a .weights .now) (a .n)) (a .n)) ≡ true
+    is-zero (weight-of (pair-at (a .weights .now) (a .n)) (a .n)) ≡ true
 breaks6 c =
     let w = good-weights (c .before .before .before .before) in
     zero-yes w64 (told _ 36864 (c .before .weight-sum .ensures) (weight-size _ _ (w .zones) (weight-le _ _ w))) tt (c .if4 .taken)

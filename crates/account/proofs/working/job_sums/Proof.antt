@@ -6,29 +6,28 @@ use lib.IntN.{ℤ}
 use lib.ListN.{length}
 use lib.Seq.{length-take-le}
 use mir.Syntax.{w64}
-use Rattle.whole.specs.Table.{table, at}
+use Rattle.whole.specs.Table.{table, at, pair-at}
 use Rattle.whole.proofs.Lists.{front, front-le, front-length}
 use Rattle.whole.proofs.Machine.{rd}
 use Rattle.whole.proofs.Table.{table-length}
-use Rattle.account.specs.Measures.{total-of, deviation-of, spread-of, weight-of, cross-of, squares-of, weight-at}
-use Rattle.account.specs.Answers.{five, job-figures}
-use Rattle.account.specs.Steps.{pair-sums-of}
-use Rattle.account.specs.declared.working.PairSums.{PairSums}
+use Rattle.account.specs.Measures.{total-of, deviation-of, spread-of, weight-of, cross-of, squares-of}
+use Rattle.account.specs.Answers.{five, class-row, job-figures}
+use Rattle.account.specs.declared.ClassRow.{ClassRow}
 use Rattle.account.proofs.Locals.{total-told, spread-told, weight-told, cross-told, squares-told}
 use borrow.Author.Needs.{needs}
 use Rattle.account.proofs.working.job_sums.Statement.{statement}
 use Rattle.account.proofs.working.job_sums.Tie as tie
 
 parts :
-    (f : ℕ → ℕ → ℕ) (x : ℕ → ℤ) (n : ℕ) (r : PairSums) → r ≡ pair-sums-of f x n →
+    (f : ℕ → ℕ → ℕ) (x : ℕ → ℤ) (n : ℕ) (r : ClassRow) → r ≡ class-row f x n →
     (r .weight ≡ weight-of f n) × (r .cross ≡ cross-of f (deviation-of x n) n) × (r .squares ≡ squares-of f x n)
-unfolding pair-sums-of
-parts f x n r e = (ap (λ (s : PairSums). s .weight) e, ap (λ (s : PairSums). s .cross) e, ap (λ (s : PairSums). s .squares) e)
+unfolding class-row
+parts f x n r e = (ap (λ (s : ClassRow). s .weight) e, ap (λ (s : ClassRow). s .cross) e, ap (λ (s : ClassRow). s .squares) e)
 
 same :
     (n : ℕ) (values : List ℤ) (weights : List ℕ) (s m w p g : ℤ) → s ≡ total-of (at values) n → m ≡ spread-of (at values) n →
-    w ≡ weight-of (weight-at weights n) n → p ≡ cross-of (weight-at weights n) (deviation-of (at values) n) n →
-    g ≡ squares-of (weight-at weights n) (at values) n →
+    w ≡ weight-of (pair-at weights n) n → p ≡ cross-of (pair-at weights n) (deviation-of (at values) n) n →
+    g ≡ squares-of (pair-at weights n) (at values) n →
     five (record { total = s; spread = m; weight = w; cross = p; squares = g }) ≡ job-figures n values weights
 unfolding job-figures
 same n values weights s m w p g e1 e2 e3 e4 e5 = rw (e1, e2, e3, e4, e5) refl
@@ -78,7 +77,7 @@ returns c =
     let b = c .before .before .before .before in
     let s = b .before .before .before .before .before .before .before in
     let r = s .pre .0 in
-    let p = parts (weight-at (s .args .weights .now) (s .args .n)) (at (s .args .values .now)) (s .args .n) _ (b .pair-sums .ensures .0) in (
+    let p = parts (pair-at (s .args .weights .now) (s .args .n)) (at (s .args .values .now)) (s .args .n) _ (b .pair-sums .ensures .0) in (
       same (s .args .n) (s .args .values .now) (s .args .weights .now) _ _ _ _ _
           (rd w64 (total-told _ _ (r .valued) (c .before .before .total .ensures)) tt .same)
           (rd w64 (spread-told _ _ (r .valued) (c .before .spread .ensures)) tt .same)

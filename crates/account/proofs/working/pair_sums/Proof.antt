@@ -4,11 +4,10 @@ use Prim.Native.Nat.{ℕ}
 use lib.IntN.{ℤ}
 use mir.Syntax.{w64}
 use Rattle.whole.proofs.Machine.{rd}
-use Rattle.whole.specs.Table.{at}
-use Rattle.account.specs.Measures.{deviation-of, weight-of, cross-of, squares-of, weight-at}
-use Rattle.account.specs.Answers.{job-locals}
-use Rattle.account.specs.Steps.{pair-sums-of}
-use Rattle.account.specs.declared.working.PairSums.{PairSums}
+use Rattle.whole.specs.Table.{at, pair-at}
+use Rattle.account.specs.Measures.{deviation-of, weight-of, cross-of, squares-of}
+use Rattle.account.specs.Answers.{class-row, job-locals}
+use Rattle.account.specs.declared.ClassRow.{ClassRow}
 use Rattle.account.proofs.Locals.{deviations-sized, locals-are, locals-sized, locals-cross, weight-told, cross-told, squares-told}
 use borrow.Author.Needs.{needs}
 use Rattle.account.proofs.working.pair_sums.Statement.{statement}
@@ -16,8 +15,8 @@ use Rattle.account.proofs.working.pair_sums.Tie as tie
 
 same :
     (f : ℕ → ℕ → ℕ) (x : ℕ → ℤ) (n : ℕ) (w p g : ℤ) → w ≡ weight-of f n → p ≡ cross-of f (deviation-of x n) n → g ≡ squares-of f x n →
-    _≡_ {A = PairSums} (record { weight = w; cross = p; squares = g }) (pair-sums-of f x n)
-unfolding pair-sums-of
+    _≡_ {A = ClassRow} (record { weight = w; cross = p; squares = g }) (class-row f x n)
+unfolding class-row
 same f x n w p g e1 e2 e3 = rw (e1, e2, e3) refl
 
 -- the lent list holds the local numerators of the job
@@ -52,7 +51,7 @@ returns c =
     let a = c .before .before .before .before .before .before .before .before in
     let r = a .pre .0 in
     let locals = held (c .before .before .before .before .before) in (
-      same (weight-at (a .args .weights .now) (a .args .n)) (at (a .args .values .now)) (a .args .n) _ _ _
+      same (pair-at (a .args .weights .now) (a .args .n)) (at (a .args .values .now)) (a .args .n) _ _ _
           (rd w64 (weight-told _ _ (r .weighted) (c .before .weight-sum .ensures)) tt .same)
           (rd w64 (cross-told _ _ _ r (c .before .before .sum-of .ensures ∙ locals-cross _ _ _ r _ locals)) tt .same)
           (rd w64 (squares-told _ _ _ r (c .squares .ensures)) tt .same),

@@ -1,0 +1,57 @@
+-- `class_account` meets its contract: judged first, and worked only where no rule is broken. Assumes nothing.
+use mathlib.Core.Path.{_≡_, sym, _∙_}
+use Prim.Native.Nat.{ℕ}
+use lib.ListN.{length}
+use Rattle.whole.proofs.Rules.{kept-when-refused, worked-when-taken}
+use Rattle.account.specs.Classes.{class-refusal}
+use Rattle.account.proofs.Accepted.{class-accepted}
+use borrow.Author.Needs.{needs}
+use Rattle.account.proofs.class_account.Statement.{statement}
+use Rattle.account.proofs.class_account.Tie as tie
+
+-- the refusal of what was lent
+abbrev refusal : tie.Start → ℕ
+refusal s =
+    let a = s .args in
+    class-refusal 27 (a .n) (a .values .now) (a .weights .now) (a .classes .now) (length (a .rows .now)) (length (a .locals .now))
+
+-- nothing is refused
+taken : (c : tie.Else1) → refusal (c .before .before .before .before) ≡ 0
+taken c = sym (c .before .judge-classes .ensures) ∙ c .if1 .left
+
+judge-classes-requires : tie.Need-judge-classes-requires
+judge-classes-requires c κs = tt
+
+returns : tie.Need-returns
+returns c =
+    let found = c .before .judge-classes .ensures in
+    let some : refusal (c .before .before .before .before) ≡ 0 → ⊥ = λ z. c .if1 .taken (found ∙ z) in
+    (found, (sym (kept-when-refused _ _ _ some), sym (kept-when-refused _ _ _ some)))
+
+work-classes-requires : tie.Need-work-classes-requires
+work-classes-requires c κs =
+    let g = class-accepted _ _ _ _ _ _ _ (taken (c .before .before)) in
+    (g .whole .good .job, (g .whole .classes-fit, (g .rows-fit, g .locals-fit)))
+
+same-length : tie.Need-same-length
+same-length c = search needs
+
+same-length-2 : tie.Need-same-length-2
+same-length-2 c = search needs
+
+returns-2 : tie.Need-returns-2
+returns-2 c =
+    let worked = c .before .before .work-classes .ensures in
+    let z = taken (c .before .before .before .before .before) in
+    (sym z, (worked .0 ∙ sym (worked-when-taken _ _ _ z), worked .1 ∙ sym (worked-when-taken _ _ _ z)))
+
+pub class-account-spec : {M : Type 1} → statement M
+class-account-spec =
+    tie.close
+    (tie.spec
+    judge-classes-requires
+    returns
+    work-classes-requires
+    same-length
+    same-length-2
+    returns-2)

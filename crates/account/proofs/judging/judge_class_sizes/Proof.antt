@@ -1,0 +1,73 @@
+-- `judge_class_sizes` meets its contract: the first lists are judged as the account's, then the others, each by a test. Assumes nothing.
+use mathlib.Core.Path.{_≡_, refl, sym, _∙_}
+use mathlib.Core.Bool.{Bool, true, false, not, cond, _||_}
+use Prim.Native.Nat.{ℕ, _*_}
+use native.Mathlib.Omega.{arith}
+use borrow.Author.Tests.{le-ltb, eq-eqb, ne-eqb}
+use lib.Dec.{eqb}
+use Rattle.whole.specs.Rules.{outside}
+use Rattle.account.proofs.Accepted.{Fitting, fitting}
+use Rattle.account.proofs.Reading.{few}
+use Rattle.account.proofs.judging.judge_class_sizes.Statement.{statement}
+use Rattle.account.proofs.judging.judge_class_sizes.Tie as tie
+
+-- a number that two lists give is given whatever the others' lengths are
+already :
+    (range first second others : Bool) (r : ℕ) → r ≡ cond range 1 (cond (first || (second || (false || false))) 2 0) → (r ≡ 0 → ⊥) →
+    r ≡ cond range 1 (cond (first || (second || others)) 2 0)
+already true first second others r e f = e
+already false true second others r e f = e
+already false false true others r e f = e
+already false false false others r e f = absurd (f e)
+
+-- n places for n local numerators, which the class account does not have
+fits-itself :
+    (n : ℕ) (range first second : Bool) →
+    _≡_ {A = ℕ} (cond range 1 (cond (first || (second || (not (eqb n n) || false))) 2 0)) (cond range 1 (cond (first || (second || (false || false))) 2 0))
+fits-itself n range first second = rw (eq-eqb n n refl) refl
+
+-- n and the first two lists fit
+sized : (c : tie.Else1) → let a = c .before .before .args in Fitting (a .n) (a .values) (a .weights) (a .n)
+sized c = fitting _ _ _ _ (sym (c .before .judge-sizes .ensures) ∙ c .if1 .left)
+
+judge-sizes-requires : tie.Need-judge-sizes-requires
+judge-sizes-requires c κs = tt
+
+returns : tie.Need-returns
+returns c =
+    let a = c .before .before .args in
+    let range = outside 2 64 (a .n) in
+    let first = not (eqb (a .values) (a .n)) in
+    let second = not (eqb (a .weights) (a .n * a .n)) in
+    already range first second _ _ (c .before .judge-sizes .ensures ∙ fits-itself (a .n) range first second) (c .if1 .taken)
+
+mul-if2 : tie.Need-mul-if2
+mul-if2 c = omega (arith, few _ (sized c .zones))
+
+returns-2 : tie.Need-returns-2
+returns-2 c =
+    let f = sized (c .before) in
+    simp (le-ltb _ _ (f .two), le-ltb _ _ (f .zones), eq-eqb _ _ (f .values-fit), eq-eqb _ _ (f .weights-fit), ne-eqb _ _ (c .if2 .taken))
+
+returns-3 : tie.Need-returns-3
+returns-3 c =
+    let f = sized (c .before .before) in
+    simp (le-ltb _ _ (f .two), le-ltb _ _ (f .zones), eq-eqb _ _ (f .values-fit), eq-eqb _ _ (f .weights-fit), eq-eqb _ _ (c .before .if2 .left), ne-eqb _ _ (c .if3 .taken))
+
+mul-if4 : tie.Need-mul-if4
+mul-if4 c = omega (arith, sized (c .before .before) .zones)
+
+returns-4 : tie.Need-returns-4
+returns-4 c =
+    let f = sized (c .before .before .before) in
+    simp (le-ltb _ _ (f .two), le-ltb _ _ (f .zones), eq-eqb _ _ (f .values-fit), eq-eqb _ _ (f .weights-fit), eq-eqb _ _ (c .before .before .if2 .left), eq-eqb _ _ (c .before .if3 .left), ne-eqb _ _ (c .if4 .taken))
+
+returns-5 : tie.Need-returns-5
+returns-5 c =
+    let f = sized (c .before .before .before) in
+    simp (le-ltb _ _ (f .two), le-ltb _ _ (f .zones), eq-eqb _ _ (f .values-fit), eq-eqb _ _ (f .weights-fit), eq-eqb _ _ (c .before .before .if2 .left), eq-eqb _ _ (c .before .if3 .left), eq-eqb _ _ (c .if4 .left))
+
+pub judge-class-sizes-spec : {M : Type 1} → statement M
+judge-class-sizes-spec =
+    tie.close
+    (tie.spec judge-sizes-requires returns mul-if2 returns-2 returns-3 mul-if4 returns-4 returns-5)

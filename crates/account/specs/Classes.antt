@@ -1,0 +1,56 @@
+-- The class account: each ordered pair has a class 0 to 8, 0 being unclassed. For each class, W, P, G and L(i) are taken over its pairs
+-- only; d and M stay those of the whole job. Assumes nothing.
+use mathlib.Core.Bool.{cond}
+use mathlib.Core.List.{List, [], _∷_, _++_}
+use Prim.Native.Nat.{ℕ, zero, suc, _*_}
+use lib.Dec.{eqb}
+use lib.IntN.{ℤ}
+use lib.ListN.{length}
+use Rattle.whole.specs.Rules.{Rule, first-broken, size-rules}
+use Rattle.whole.specs.Search.{any-above}
+use Rattle.whole.specs.Table.{table-rows, at, pair-at}
+use Rattle.account.specs.Measures.{deviation-of, local-of}
+use Rattle.account.specs.Answers.{class-row}
+use Rattle.account.specs.Refusals.{job-rules}
+use Rattle.account.specs.declared.ClassRow.{ClassRow}
+
+-- the weight that counts in class k: w(i,j) where k is the class of (i,j), and 0 elsewhere
+unfoldable pub class-weight : List ℕ → List ℕ → ℕ → ℕ → ℕ → ℕ → ℕ
+class-weight weights classes n k i j = cond (eqb (pair-at classes n i j) k) (pair-at weights n i j) 0
+
+-- ---- what is worked
+
+-- the class row of class k
+unfoldable pub class-row-of : ℕ → List ℤ → List ℕ → List ℕ → ℕ → ClassRow
+class-row-of n values weights classes k = class-row (class-weight weights classes n k) (at values) n
+
+-- the local numerator L(i) of class k
+unfoldable pub class-local-of : ℕ → List ℤ → List ℕ → List ℕ → ℕ → ℕ → ℤ
+class-local-of n values weights classes k i = local-of (class-weight weights classes n k) (deviation-of (at values) n) n i
+
+-- W, P and G of a class row by their places
+abbrev pub sum-at : ClassRow → ℕ → ℤ
+sum-at row zero = row .weight
+sum-at row (suc zero) = row .cross
+sum-at row (suc (suc place)) = row .squares
+
+-- the nine class rows, three sums each, in one list
+unfoldable pub class-sums : ℕ → List ℤ → List ℕ → List ℕ → List ℤ
+class-sums n values weights classes = table-rows (λ k. sum-at (class-row-of n values weights classes k)) 9 3
+
+-- the 9 × n class local numerators, class by class, zones rising
+unfoldable pub class-locals : ℕ → List ℤ → List ℕ → List ℕ → List ℤ
+class-locals n values weights classes = table-rows (class-local-of n values weights classes) 9 n
+
+-- ---- what is refused
+
+-- 1 to 7, then 9, of a call on a job with classes; `lent` has the lengths of its further lists, with those that they must have
+unfoldable pub class-rules : ℕ → List ℤ → List ℕ → List ℕ → List (ℕ × ℕ) → List Rule
+class-rules n values weights classes lent =
+    size-rules n ((length values, n) ∷ (length weights, n * n) ∷ (length classes, n * n) ∷ lent)
+    ++ (job-rules n values weights ++ ((any-above 8 classes, 9) ∷ []))
+
+-- the class account's refusal, 0 where no rule is broken; its nine rows lie in a list of `room` places
+unfoldable pub class-refusal : ℕ → ℕ → List ℤ → List ℕ → List ℕ → ℕ → ℕ → ℕ
+class-refusal room n values weights classes rows locals =
+    first-broken (class-rules n values weights classes ((rows, room) ∷ (locals, 9 * n) ∷ []))

@@ -1,0 +1,70 @@
+-- Laws of `table-rows`, and of a loop that writes it row by row, each row through a part that was lent. Assumes nothing.
+use mathlib.Core.Path.{_≡_, refl, sym, ap, _∙_}
+use mathlib.Core.List.{List, [], _++_, append-assoc}
+use Prim.Native.Nat.{ℕ, zero, suc, _+_, _*_, _-_, _≤_, _<_}
+use native.Mathlib.Nat as N
+use native.Mathlib.Decide.{ℕ-discrete}
+use native.Mathlib.Numerals.{add-one}
+use native.Mathlib.Omega.{arith}
+use borrow.Rule.Slice.PartMut.{putMid, mid-len, same-len-mid}
+use lib.ListN.{length, getD, take, length-append, List·getD-append}
+use lib.Seq.{take-at, take-all, length-take-le, getD-append-add}
+use Rattle.whole.specs.Table.{table, table-rows}
+use Rattle.whole.proofs.Table.{table-length, table-at}
+
+module _ {A : Type 0} (f : ℕ → ℕ → A) where
+  pub rows-length : (m n : ℕ) → length (table-rows f m n) ≡ m * n
+  unfolding table-rows
+  rows-length zero n = omega arith
+  rows-length (suc m) n = omega (arith, length-append (table-rows f m n) (table (f m) n), rows-length m n, table-length (f m) n)
+
+  -- the i-th of row k
+  pub rows-at : (m n k i : ℕ) (d : A) → k < m → i < n → getD (table-rows f m n) (k * n + i) d ≡ f k i
+  unfolding table-rows
+  rows-at zero n k i d h p = let z : ⊥ = omega arith in absurd z
+  rows-at (suc m) n k i d h p = pick (ℕ-discrete k m) (λ (q : k < m). rows-at m n k i d q p)
+    where
+      before : (k m : ℕ) → k < suc m → (k ≡ m → ⊥) → k + 1 ≤ m
+      before k m h q = omega arith
+
+      pick : Dec (k ≡ m) → (k < m → getD (table-rows f m n) (k * n + i) d ≡ f k i) → getD (table-rows f m n ++ table (f m) n) (k * n + i) d ≡ f k i
+      pick (yes q) g =
+          rw q
+          (ap (λ t. getD (table-rows f m n ++ table (f m) n) (t + i) d) (sym (rows-length m n))
+          ∙ getD-append-add (table-rows f m n) (table (f m) n) i d
+          ∙ table-at (f m) n i d p)
+      pick (no q) g =
+          List·getD-append (table-rows f m n) (table (f m) n) d (k * n + i)
+          (omega (arith, rows-length m n, N.mul-le-mul-right n (before k m h q)))
+          ∙ g (omega arith)
+
+  -- ---- the first rows are written
+  pub rows-none : (n : ℕ) (l : List A) → take (0 * n) l ≡ table-rows f 0 n
+  unfolding table-rows
+  rows-none n l = ap (λ m. take m l) (N.zero-mul n)
+
+  rows-more : (n m : ℕ) → table-rows f (m + 1) n ≡ table-rows f m n ++ table (f m) n
+  unfolding table-rows
+  rows-more n m = ap (λ t. table-rows f t n) (add-one m)
+
+  -- one more row: the part from k n to k n + n has come back with it
+  module _ (n k : ℕ) (l part : List A) (room : k * n + n ≤ length l) (so-far : take (k * n) l ≡ table-rows f k n) (row : part ≡ table (f k) n) where
+    part-length : length part ≡ n
+    part-length = ap length row ∙ table-length (f k) n
+
+    pub row-length : length (putMid (k * n) (k * n + n - k * n) l part) ≡ length l
+    row-length = same-len-mid (k * n) (k * n + n - k * n) l part (part-length ∙ sym (mid-len (k * n) (k * n + n) l room ∙ omega arith))
+
+    pub row-written : take ((k + 1) * n) (putMid (k * n) (k * n + n - k * n) l part) ≡ table-rows f (k + 1) n
+    row-written =
+        ap (λ z. take ((k + 1) * n) z) (sym (append-assoc (take (k * n) l) part _))
+        ∙ take-at (take (k * n) l ++ part) _ ((k + 1) * n)
+        (omega (arith, length-append (take (k * n) l) part, length-take-le (k * n) l (omega arith), part-length))
+        ∙ ap (λ z. z ++ part) so-far
+        ∙ ap (λ z. table-rows f k n ++ z) row
+        ∙ sym (rows-more n k)
+
+  -- all m rows are written
+  pub rows-done : (n m k : ℕ) (l : List A) → k ≡ m → length l ≡ m * n → take (k * n) l ≡ table-rows f k n → l ≡ table-rows f m n
+  rows-done n m k l e h g =
+      sym (take-all (k * n) l (omega (arith, h, ap (λ t. t * n) e))) ∙ g ∙ ap (λ t. table-rows f t n) e
