@@ -8,3 +8,4 @@ pub mod ByClass
 pub mod Accepted
 pub mod Answered
 pub mod Theorems
+pub mod ClassTheorems

@@ -2,7 +2,7 @@
 -- only; d and M stay those of the whole job. Assumes nothing.
 use mathlib.Core.Bool.{cond}
 use mathlib.Core.List.{List, [], _∷_, _++_}
-use Prim.Native.Nat.{ℕ, zero, suc, _*_}
+use Prim.Native.Nat.{ℕ, zero, suc, _+_, _*_}
 use lib.Dec.{eqb}
 use lib.IntN.{ℤ}
 use lib.ListN.{length}
@@ -34,7 +34,11 @@ sum-at row zero = row .weight
 sum-at row (suc zero) = row .cross
 sum-at row (suc (suc place)) = row .squares
 
--- the nine class rows, three sums each, in one list
+-- the row of class k in a list of class rows, three sums each
+abbrev pub row-at : List ℤ → ℕ → ClassRow
+row-at rows k = record { weight = at rows (k * 3); cross = at rows (k * 3 + 1); squares = at rows (k * 3 + 2) }
+
+-- the nine class rows in one list
 unfoldable pub class-sums : ℕ → List ℤ → List ℕ → List ℕ → List ℤ
 class-sums n values weights classes = table-rows (λ k. sum-at (class-row-of n values weights classes k)) 9 3
 

@@ -1,12 +1,16 @@
 -- What the private functions ask of each other; no part of the public promise. Assumes nothing.
 use mathlib.Core.Path.{_≡_}
 use mathlib.Core.Bool.{cond}
-use mathlib.Core.List.{List}
+use mathlib.Core.List.{List, [], _∷_}
 use Prim.Native.Nat.{ℕ, _*_, _≤_, _<_}
 use lib.Dec.{eqb}
 use lib.IntN.{ℤ, natAbs}
 use lib.ListN.{length, getD}
+use Rattle.whole.specs.Rules.{unless-refused}
 use Rattle.whole.specs.Table.{table, at}
+use Rattle.account.specs.Classes.{class-row-of, class-locals, class-refusal}
+use Rattle.account.specs.declared.ClassRow.{ClassRow}
+use Rattle.account.specs.declared.rows.Worked.{Worked}
 
 -- n numbers, each at most b in size
 pub record Sized (b : ℕ) (numbers : List ℤ) (n : ℕ) : Type 0 where
@@ -32,3 +36,17 @@ pub record Job (values : List ℤ) (weights : List ℕ) (n : ℕ) : Type 0 where
 -- the list of the weights of class k: where the p-th pair is of another class, 0
 unfoldable pub weights-in : List ℕ → List ℕ → ℕ → List ℕ
 weights-in weights classes k = table (λ p. cond (eqb (getD classes p 0) k) (getD weights p 0) 0) (length weights)
+
+-- ---- the nine class rows on their way from the work to the store
+
+-- the nine rows in a list
+abbrev pub nine-of : Worked → List ClassRow
+nine-of r = r .row0 ∷ r .row1 ∷ r .row2 ∷ r .row3 ∷ r .row4 ∷ r .row5 ∷ r .row6 ∷ r .row7 ∷ r .row8 ∷ []
+
+-- what the work gives of a call that is lent so many rows, and what it leaves of the local numerators: the rows count only where the
+-- number is 0
+pub record Packed (n : ℕ) (values : List ℤ) (weights classes : List ℕ) (rows : ℕ) (locals left : List ℤ) (r : Worked) : Type 0 where
+  pub number : r .refusal ≡ class-refusal 9 n values weights classes rows (length locals)
+  pub nine : r .refusal ≡ 0 → nine-of r ≡ table (class-row-of n values weights classes) 9
+  pub numerators :
+      left ≡ unless-refused (class-refusal 9 n values weights classes rows (length locals)) (class-locals n values weights classes) locals

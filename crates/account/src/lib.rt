@@ -4,14 +4,16 @@ mod classes;
 mod deviations;
 mod differences;
 mod judging;
+mod rows;
 mod working;
 
 ghost use mathlib.Core.Path.{_≡_};
 ghost use lib.ListN.{length};
 ghost use Rattle.whole.specs.Rules.{unless-refused};
+ghost use Rattle.whole.specs.Table.{table};
 ghost use Rattle.account.specs.Refusals.{account-refusal};
 ghost use Rattle.account.specs.Answers.{number-of, figures-of, account-figures, account-locals};
-ghost use Rattle.account.specs.Classes.{class-sums, class-locals, class-refusal};
+ghost use Rattle.account.specs.Classes.{class-row-of, class-sums, class-locals, class-refusal};
 
 // The five whole numbers of a job.
 pub struct Sums {
@@ -77,4 +79,21 @@ pub fn class_account(
     }
     classes::work_classes(n, values, weights, classes, rows, locals);
     0
+}
+
+// The class account with its nine rows as structs: `rows` has 9 places for the rows of class 0, class 1, .. Otherwise as `class_account`.
+pub fn class_rows(
+    n: usize,
+    values: &[i32],
+    weights: &[u8],
+    classes: &[u8],
+    rows: &mut [ClassRow],
+    locals: &mut [i64],
+) -> u8
+    ensures number { λ r. ⌜ r ≡ class-refusal 9 n (now (values .entry)) (now (weights .entry)) (now (classes .entry)) (length (now (rows .entry))) (length (now (locals .entry))) ⌝ }
+    ensures rows { λ _. ⌜ now (rows .exit) ≡ unless-refused (class-refusal 9 n (now (values .entry)) (now (weights .entry)) (now (classes .entry)) (length (now (rows .entry))) (length (now (locals .entry)))) (table (class-row-of n (now (values .entry)) (now (weights .entry)) (now (classes .entry))) 9) (now (rows .entry)) ⌝ }
+    ensures numerators { λ _. ⌜ now (locals .exit) ≡ unless-refused (class-refusal 9 n (now (values .entry)) (now (weights .entry)) (now (classes .entry)) (length (now (rows .entry))) (length (now (locals .entry)))) (class-locals n (now (values .entry)) (now (weights .entry)) (now (classes .entry))) (now (locals .entry)) ⌝ }
+{
+    let worked = rows::work_rows(n, values, weights, classes, rows.len(), locals);
+    rows::put_rows(rows, worked)
 }

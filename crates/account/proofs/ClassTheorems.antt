@@ -1,0 +1,105 @@
+-- What the buyer asks for of the classes, for every job with classes 0 to 8: limits, and that the classes add up. Assumes nothing.
+use mathlib.Core.Path.{_≡_, refl, sym, ap, _∙_}
+use mathlib.Core.Bool.{false}
+use mathlib.Core.List.{List, [], _∷_, _++_}
+use Prim.Native.Nat.{ℕ, _+_, _*_, _≤_, _<_}
+use native.Mathlib.Nat as N
+use native.Mathlib.Omega.{arith}
+use borrow.Author.Tests.{le-ltb, eq-eqb}
+use lib.IntN.{ℤ, pos, _*ℤ_}
+use lib.ListN.{length, getD}
+use Rattle.whole.specs.Rules.{Rule, first-broken, Applies, size-rules}
+use Rattle.whole.specs.Search.{any-above}
+use Rattle.whole.specs.Sum.{sum}
+use Rattle.whole.specs.Table.{at, pair-at}
+use Rattle.whole.proofs.Lists.{within}
+use Rattle.whole.proofs.Rules.{first-none, first-next, first-least, first-applies}
+use Rattle.whole.proofs.TableRows as rows
+use Rattle.account.specs.Measures.{deviation-of, weight-of, cross-of, squares-of, local-of}
+use Rattle.account.specs.Limits.{Limits}
+use Rattle.account.specs.Refusals.{job-rules, account-lengths, account-rules, account-refusal}
+use Rattle.account.specs.Answers.{class-row}
+use Rattle.account.specs.Classes.{class-weight, class-row-of, class-local-of, sum-at, class-sums, class-locals, class-rules}
+use Rattle.account.proofs.Accepted.{classed, class-fitting, class-lengths}
+use Rattle.account.proofs.Adding.{locals-sum, weight-parts, cross-parts, squares-parts, local-parts}
+use Rattle.account.proofs.ByClass.{class-le, counts-once}
+use Rattle.account.proofs.Reading.{weight-le}
+use Rattle.account.proofs.Theorems.{within-limits}
+
+-- ---- the lists by their places
+module _ (n : ℕ) (values : List ℤ) (weights classes : List ℕ) where
+  pub class-sums-length : length (class-sums n values weights classes) ≡ 27
+  unfolding class-sums
+  class-sums-length = rows.rows-length (λ k. sum-at (class-row-of n values weights classes k)) 9 3
+
+  pub class-sums-at : (k i : ℕ) → k < 9 → i < 3 → at (class-sums n values weights classes) (k * 3 + i) ≡ sum-at (class-row-of n values weights classes k) i
+  unfolding class-sums
+  class-sums-at k i h p = rows.rows-at (λ k. sum-at (class-row-of n values weights classes k)) 9 3 k i (pos 0) h p
+
+  pub class-locals-length : length (class-locals n values weights classes) ≡ 9 * n
+  unfolding class-locals
+  class-locals-length = rows.rows-length (class-local-of n values weights classes) 9 n
+
+  pub class-locals-at : (k i : ℕ) → k < 9 → i < n → at (class-locals n values weights classes) (k * n + i) ≡ class-local-of n values weights classes k i
+  unfolding class-locals
+  class-locals-at k i h p = rows.rows-at (class-local-of n values weights classes) 9 n k i (pos 0) h p
+
+  -- ---- the local numerators of a class add up to its P
+  pub class-adds-up : (k : ℕ) → sum (class-local-of n values weights classes k) n ≡ class-row-of n values weights classes k .cross
+  unfolding class-local-of class-row-of class-row
+  class-adds-up k = locals-sum (class-weight weights classes n k) (deviation-of (at values) n) n
+
+-- ---- where nothing is refused
+module _ (n : ℕ) (values : List ℤ) (weights classes : List ℕ) (lent : List (ℕ × ℕ)) (taken : first-broken (class-rules n values weights classes lent) ≡ 0) where
+  -- the account refuses nothing either
+  pub account-taken : (locals : List ℤ) → length locals ≡ n → account-refusal n values weights locals ≡ 0
+  unfolding account-refusal account-rules class-rules job-rules
+  account-taken locals l =
+      let last : List Rule = (any-above 8 classes, 9) ∷ [] in
+      let both = first-none (job-rules n values weights ++ last) 0 (size-rules n (class-lengths n (length values) (length weights) (length classes) lent)) (tt, (tt, tt)) taken in
+      let f = class-fitting n (length values) (length weights) (length classes) lent (both .0) in
+      let rest = first-none last 0 (job-rules n values weights) (tt, (tt, (tt, (tt, (tt, tt))))) (both .1) in
+      rw (le-ltb n 2 (f .two), le-ltb 64 n (f .zones), eq-eqb (length values) n (f .values-fit), eq-eqb (length weights) (n * n) (f .weights-fit), eq-eqb (length locals) n l) (rest .0)
+
+  -- every numerator and divisor of a class is at most 6 × 10^18
+  pub class-limits : (k : ℕ) → Limits (class-weight weights classes n k) (at values) n
+  class-limits k =
+      let a = classed n values weights classes lent taken in
+      let job = a .good .job in
+      within-limits (class-weight weights classes n k) (at values) n (job .valued .zones)
+      (λ i j p q. class-le weights classes n k i j 9 (weight-le weights n (job .weighted) i j p q))
+      (λ i p. let h = class-le weights classes n k i i 0 (N.le-of-eq (a .good .clear i p)) in omega arith)
+      (job .valued .near .size)
+
+  -- each weight counts in one class
+  shared :
+      (z : ℤ) (i j : ℕ) → i < n → j < n →
+      sum (λ k. pos (class-weight weights classes n k i j) *ℤ z) 9 ≡ pos (pair-at weights n i j) *ℤ z
+  unfolding pair-at
+  shared z i j p q =
+      counts-once weights classes n z i j (omega (arith, classed n values weights classes lent taken .low (i * n + j) (within n i j p q)))
+
+  -- so the nine classes, unclassed pairs included, add up to W, P and G, and in each zone to its L
+  pub nine-weights : sum (λ k. class-row-of n values weights classes k .weight) 9 ≡ weight-of (pair-at weights n) n
+  unfolding class-row-of class-row
+  nine-weights = weight-parts (class-weight weights classes n) (pair-at weights n) 9 n shared
+
+  pub nine-crosses : sum (λ k. class-row-of n values weights classes k .cross) 9 ≡ cross-of (pair-at weights n) (deviation-of (at values) n) n
+  unfolding class-row-of class-row
+  nine-crosses = cross-parts (class-weight weights classes n) (pair-at weights n) 9 n shared (deviation-of (at values) n)
+
+  pub nine-squares : sum (λ k. class-row-of n values weights classes k .squares) 9 ≡ squares-of (pair-at weights n) (at values) n
+  unfolding class-row-of class-row
+  nine-squares = squares-parts (class-weight weights classes n) (pair-at weights n) 9 n shared (at values)
+
+  pub nine-locals : (i : ℕ) → i < n → sum (λ k. class-local-of n values weights classes k i) 9 ≡ local-of (pair-at weights n) (deviation-of (at values) n) n i
+  unfolding class-local-of
+  nine-locals i p = local-parts (class-weight weights classes n) (pair-at weights n) 9 n shared (deviation-of (at values) n) i p
+
+-- ---- the refusal is the least number that applies
+module _ (n : ℕ) (values : List ℤ) (weights classes : List ℕ) (lent : List (ℕ × ℕ)) where
+  pub class-refusal-least :
+      (number : ℕ) → Applies number (class-rules n values weights classes lent) → first-broken (class-rules n values weights classes lent) ≤ number
+  unfolding class-rules job-rules
+  class-refusal-least number =
+      first-least 0 number (class-rules n values weights classes lent) (tt, (tt, (tt, (tt, (tt, (tt, (tt, (tt, tt))))))))
