@@ -19,7 +19,7 @@ use Rattle.account.specs.Measures.{deviation-of, weight-of, cross-of, sq
 use Rattle.account.specs.Limits.{Limits}
 use Rattle.account.specs.Refusals.{job-rules, account-lengths, account-rules, account-refusal}
 use Rattle.account.specs.Answers.{class-row}
-use Rattle.account.specs.Classes.{class-weight, class-row-of, class-local-of, sum-at, class-sums, class-locals, class-rules}
+use Rattle.account.specs.Classes.{class-weight, class-row-of, class-local-of, sum-at, row-at, class-sums, class-locals, class-rules}
 use Rattle.account.proofs.Accepted.{classed, class-fitting, class-lengths}
 use Rattle.account.proofs.Adding.{locals-sum, weight-parts, cross-parts, squares-parts, local-parts}
 use Rattle.account.proofs.ByClass.{class-le, counts-once}
@@ -35,6 +35,11 @@ module _ (n : ℕ) (values : List ℤ) (weights classes : List ℕ) where
   pub class-sums-at : (k i : ℕ) → k < 9 → i < 3 → at (class-sums n values weights classes) (k * 3 + i) ≡ sum-at (class-row-of n values weights classes k) i
   unfolding class-sums
   class-sums-at k i h p = rows.rows-at (λ k. sum-at (class-row-of n values weights classes k)) 9 3 k i (pos 0) h p
+
+  pub class-sums-row : (k : ℕ) → k < 9 → row-at (class-sums n values weights classes) k ≡ class-row-of n values weights classes k
+  class-sums-row k h =
+      let first = ap (at (class-sums n values weights classes)) (sym (N.add-zero (k * 3))) ∙ class-sums-at k 0 h (omega arith) in
+      rw (first, class-sums-at k 1 h (omega arith), class-sums-at k 2 h (omega arith)) refl
 
   pub class-locals-length : length (class-locals n values weights classes) ≡ 9 * n
   unfolding class-locals
@@ -60,6 +65,10 @@ module _ (n : ℕ) (values : List ℤ) (weights classes : List ℕ) (lent : List
       let f = class-fitting n (length values) (length weights) (length classes) lent (both .0) in
       let rest = first-none last 0 (job-rules n values weights) (tt, (tt, (tt, (tt, (tt, tt))))) (both .1) in
       rw (le-ltb n 2 (f .two), le-ltb 64 n (f .zones), eq-eqb (length values) n (f .values-fit), eq-eqb (length weights) (n * n) (f .weights-fit), eq-eqb (length locals) n l) (rest .0)
+
+  -- n is 2 to 64
+  pub zones-in-range : (2 ≤ n) × (n ≤ 64)
+  zones-in-range = let a = classed n values weights classes lent taken in (a .two, a .good .job .valued .zones)
 
   -- every numerator and divisor of a class is at most 6 × 10^18
   pub class-limits : (k : ℕ) → Limits (class-weight weights classes n k) (at values) n

@@ -7,13 +7,14 @@ use native.Mathlib.Decide.{decLt, ℕ-discrete}
 use native.Mathlib.Omega.{arith}
 use borrow.Author.Tests.{eq-eqb}
 use lib.IntN.{ℤ, pos, natAbs, _-ℤ_, _*ℤ_, +ℤ-invr}
+use lib.ListN.{length}
 use lib.Signed.{_≤ℤ_}
 use Rattle.whole.specs.Integer.{square}
 use Rattle.whole.specs.Rules.{Applies}
 use Rattle.whole.specs.Sum.{sum}
 use Rattle.whole.proofs.Integer.{equal-of-diff}
 use Rattle.whole.proofs.Pairs.{deviations-squared}
-use Rattle.whole.proofs.Rules.{first-least, first-applies}
+use Rattle.whole.proofs.Rules.{first-least, first-applies, worked-when-taken}
 use Rattle.whole.proofs.Size.{size-*-le, square-zero, square-above, one-of}
 use Rattle.whole.proofs.Sum.{sum-cong, sum-none}
 use Rattle.whole.proofs.SumSize.{sum-above, terms-zero}
@@ -21,7 +22,7 @@ use Rattle.whole.specs.Table.{at, pair-at}
 use Rattle.account.specs.Measures.{total-of, deviation-of, spread-of, weight-of, cross-of, squares-of, local-of}
 use Rattle.account.specs.Limits.{Limits}
 use Rattle.account.specs.Refusals.{job-rules, account-rules, account-refusal}
-use Rattle.account.specs.Answers.{number-of, figures-of, job-figures, job-locals, account-figures, account-locals}
+use Rattle.account.specs.Answers.{five, number-of, figures-of, job-figures, job-locals, account-figures, account-locals}
 use Rattle.account.specs.declared.Sums.{Sums}
 use Rattle.account.specs.declared.Answer.{Answer}
 use Rattle.account.specs.declared.Answer.the-variants.{Refused, Accounted}
@@ -30,6 +31,8 @@ use Rattle.account.proofs.Adding as adding
 use Rattle.account.proofs.Locals.{locals-cross}
 use Rattle.account.proofs.Reading.{weight-le}
 use Rattle.account.proofs.Sizes.{deviation-size, spread-of-size, weight-sharp, squares-sharp, local-sharp, cross-sharp}
+-- stated where it is proved: W is not below 0, whatever the weights
+pub use Rattle.account.proofs.Adding.{weight-above}
 
 -- ---- the squares of d sum to n × M
 pub deviations-squared-sum : (x : ℕ → ℤ) (n : ℕ) → sum (λ i. square (deviation-of x n i)) n ≡ pos n *ℤ spread-of x n
@@ -134,3 +137,22 @@ answer-unique (Refused k) (Refused l) e f = ap Refused e
 answer-unique (Refused k) (Accounted t) e f = let z : _≡_ {A = ℕ} 0 1 = cc in absurd (omega arith)
 answer-unique (Accounted s) (Refused l) e f = let z : _≡_ {A = ℕ} 0 1 = cc in absurd (omega arith)
 answer-unique (Accounted s) (Accounted t) e f = ap Accounted (same _ _ _ _ _ _ _ _ _ _ (cc) (cc) (cc) (cc) (cc))
+
+-- ---- where nothing is refused, the answer is the sums of the job, and the lent list holds its local numerators
+module _ (n : ℕ) (values : List ℤ) (weights : List ℕ) (locals : List ℤ) (taken : account-refusal n values weights locals ≡ 0) where
+  answered : (r : Answer) → figures-of r ≡ account-figures n values weights locals → figures-of r ≡ job-figures n values weights
+  unfolding account-figures
+  answered r e = e ∙ worked-when-taken _ _ _ taken
+
+  pub accounted-sums :
+      (r : Answer) (sums : Sums) → figures-of r ≡ account-figures n values weights locals → r ≡ Accounted sums → five sums ≡ job-figures n values weights
+  unfolding figures-of
+  accounted-sums r sums e g = sym (ap figures-of g) ∙ answered r e
+
+  pub never-refused : (r : Answer) (k : ℕ) → figures-of r ≡ account-figures n values weights locals → r ≡ Refused k → ⊥
+  unfolding figures-of job-figures
+  never-refused r k e g = let z : _≡_ {A = ℕ} 0 5 = ap length (sym (ap figures-of g) ∙ answered r e) in omega arith
+
+  pub locals-left : (left : List ℤ) → left ≡ account-locals n values weights locals → left ≡ job-locals n values weights
+  unfolding account-locals
+  locals-left left e = e ∙ worked-when-taken _ _ _ taken

@@ -1,9 +1,9 @@
 -- Laws of `table-rows`, and of a loop that writes it row by row, each row through a part that was lent. Assumes nothing.
-use mathlib.Core.Path.{_≡_, refl, sym, ap, _∙_}
+use mathlib.Core.Path.{_≡_, refl, sym, ap, _∙_, subst}
 use mathlib.Core.List.{List, [], _++_, append-assoc}
 use Prim.Native.Nat.{ℕ, zero, suc, _+_, _*_, _-_, _≤_, _<_}
 use native.Mathlib.Nat as N
-use native.Mathlib.Decide.{ℕ-discrete}
+use native.Mathlib.Decide.{decLt, ℕ-discrete}
 use native.Mathlib.Numerals.{add-one}
 use native.Mathlib.Omega.{arith}
 use borrow.Rule.Slice.PartMut.{putMid, mid-len, same-len-mid}
@@ -37,6 +37,22 @@ module _ {A : Type 0} (f : ℕ → ℕ → A) where
           List·getD-append (table-rows f m n) (table (f m) n) d (k * n + i)
           (omega (arith, rows-length m n, N.mul-le-mul-right n (before k m h q)))
           ∙ g (omega arith)
+
+  -- what holds of every entry holds of every place
+  pub rows-each : (P : A → Type 0) (m n : ℕ) (d : A) → ((k i : ℕ) → k < m → i < n → P (f k i)) → (t : ℕ) → t < m * n → P (getD (table-rows f m n) t d)
+  unfolding table-rows
+  rows-each P zero n d h t p = let z : ⊥ = omega arith in absurd z
+  rows-each P (suc m) n d h t p = pick (decLt t (m * n)) (λ (q : t < m * n). rows-each P m n d (λ k i r s. h k i (omega arith) s) t q)
+    where
+      pick : Dec (t < m * n) → (t < m * n → P (getD (table-rows f m n) t d)) → P (getD (table-rows f m n ++ table (f m) n) t d)
+      pick (yes q) g =
+          subst P (sym (List·getD-append (table-rows f m n) (table (f m) n) d t (omega (arith, rows-length m n))))
+          (g q)
+      pick (no q) g =
+          let i = t - m * n in
+          let r : i < n = omega arith in
+          let e : m * n + i ≡ t = omega arith in
+          subst (λ v. P (getD (table-rows f m n ++ table (f m) n) v d)) e (subst P (sym (rows-at (suc m) n m i d (omega arith) r)) (h m i (omega arith) r))
 
   -- ---- the first rows are written
   pub rows-none : (n : ℕ) (l : List A) → take (0 * n) l ≡ table-rows f 0 n

@@ -1,0 +1,108 @@
+-- The float report's two ways out, and what its contract promises of each; the numbers on the way. Assumes nothing.
+use mathlib.Core.Path.{_≡_, refl, sym, ap, _∙_}
+use mathlib.Core.Bool.{Bool, true, false, not, cond, _||_}
+use mathlib.Core.List.{List, [], _∷_, _++_}
+use Prim.Native.Nat.{ℕ, _*_}
+use borrow.Author.Tests.{eq-eqb}
+use lib.Dec.{eqb}
+use lib.Ieee.{Float}
+use lib.IntN.{ℤ}
+use lib.ListN.{length}
+use Rattle.whole.specs.Rules.{Rule, first-broken, outside, misfits, size-rules}
+use Rattle.whole.specs.Search.{any-above}
+use Rattle.whole.specs.Table.{table, at}
+use Rattle.whole.proofs.Rules.{kept-when-refused, worked-when-taken, sizes-hold}
+use Rattle.account.specs.Measures.{spread-of}
+use Rattle.account.specs.Answers.{job-locals}
+use Rattle.account.specs.Classes.{class-locals, class-rules, class-refusal}
+use Rattle.account.specs.Refusals.{job-rules}
+use Rattle.report.specs.Coefficients.{job-pair, class-pair, local-figures}
+use Rattle.report.specs.FloatReport.{number-of, pair-in, report-refusal, no-pair, report-whole, report-classes, report-locals, report-parts}
+use Rattle.report.specs.declared.Answer.the-variants.{Refused, Reported}
+use Rattle.report.specs.declared.Report.{Report}
+
+module _ (n : ℕ) (values : List ℤ) (weights classes : List ℕ) (locals parts : List Float) where
+  -- what the call promises of its answer r and of the two lists that it leaves
+  abbrev pub Promised : Report → List Float → List Float → Type 0
+  Promised r left left-parts =
+      (number-of (r .whole) ≡ report-refusal n values weights classes locals parts)
+      × ((pair-in (r .whole) ≡ report-whole n values weights classes locals parts)
+      × ((r .classes ≡ report-classes n values weights classes locals parts)
+      × ((left ≡ report-locals n values weights classes locals parts)
+      × (left-parts ≡ report-parts n values weights classes locals parts))))
+
+  -- a refusal, and the lists as they were
+  pub refused :
+      (k : ℕ) (r : Report) → r ≡ record { whole = Refused k; classes = table (λ i. no-pair) 9 } →
+      k ≡ report-refusal n values weights classes locals parts → (k ≡ 0 → ⊥) → Promised r locals parts
+  unfolding number-of pair-in report-whole report-classes report-locals report-parts
+  refused k r e f g =
+      let some : report-refusal n values weights classes locals parts ≡ 0 → ⊥ = λ z. g (f ∙ z) in (
+        ap (λ (v : Report). number-of (v .whole)) e ∙ f,
+        (
+          ap (λ (v : Report). pair-in (v .whole)) e ∙ sym (kept-when-refused _ _ _ some),
+          (
+            ap (λ (v : Report). v .classes) e ∙ sym (kept-when-refused _ _ _ some),
+            (sym (kept-when-refused _ _ _ some), sym (kept-when-refused _ _ _ some)),
+          ),
+        ),
+      )
+
+  -- the pairs, and the local figures
+  pub reported :
+      (r : Report) (left left-parts : List Float) → report-refusal n values weights classes locals parts ≡ 0 →
+      r ≡ record { whole = Reported (job-pair n values weights); classes = table (class-pair n values weights classes) 9 } →
+      left ≡ local-figures (spread-of (at values) n) (job-locals n values weights) →
+      left-parts ≡ local-figures (spread-of (at values) n) (class-locals n values weights classes) →
+      Promised r left left-parts
+  unfolding number-of pair-in report-whole report-classes report-locals report-parts
+  reported r left left-parts z e f g = (
+    ap (λ (v : Report). number-of (v .whole)) e ∙ sym z,
+    (
+      ap (λ (v : Report). pair-in (v .whole)) e ∙ sym (worked-when-taken _ _ _ z),
+      (
+        ap (λ (v : Report). v .classes) e ∙ sym (worked-when-taken _ _ _ z),
+        (f ∙ sym (worked-when-taken _ _ _ z), g ∙ sym (worked-when-taken _ _ _ z)),
+      ),
+    ),
+  )
+
+-- ---- the numbers on the way
+beside : (a b : Bool) → b ≡ true → (a || b) ≡ true
+beside true b e = refl
+beside false b e = e
+
+-- a number that the last lists give is given whatever the first lists' lengths are
+first-two :
+    (range lent a b c : Bool) (rest r : ℕ) → r ≡ cond range 1 (cond lent 2 0) → (r ≡ 0 → ⊥) →
+    r ≡ cond range 1 (cond (a || (b || (c || lent))) 2 rest)
+first-two true lent a b c rest r e f = e
+first-two false true a b c rest r e f = e ∙ sym (ap (λ (t : Bool). cond {A = ℕ} t 2 rest) (beside a _ (beside b _ (beside c true refl))))
+first-two false false a b c rest r e f = absurd (f e)
+
+module _ (n : ℕ) (values : List ℤ) (weights classes : List ℕ) where
+  -- a number for n or for the two lists of floats is the report's
+  pub lent-first :
+      (locals parts : List Float) (r : ℕ) → r ≡ first-broken (size-rules n ((length locals, n) ∷ (length parts, 9 * n) ∷ [])) → (r ≡ 0 → ⊥) →
+      r ≡ report-refusal n values weights classes locals parts
+  unfolding report-refusal class-rules
+  lent-first locals parts r e f =
+      first-two (outside 2 64 n) (misfits ((length locals, n) ∷ (length parts, 9 * n) ∷ []))
+      (not (eqb (length values) n)) (not (eqb (length weights) (n * n))) (not (eqb (length classes) (n * n)))
+      (first-broken (job-rules n values weights ++ ((any-above 8 classes, 9) ∷ []))) r e f
+
+  -- where the further lists of two calls fit, they are refused alike
+  alike :
+      (lent other : List (ℕ × ℕ)) → misfits lent ≡ false → misfits other ≡ false →
+      first-broken (class-rules n values weights classes lent) ≡ first-broken (class-rules n values weights classes other)
+  unfolding class-rules
+  alike lent other e f = rw (e, f) refl
+
+  -- so then the number is the class account's
+  pub then-account :
+      (locals parts : List Float) → first-broken (size-rules n ((length locals, n) ∷ (length parts, 9 * n) ∷ [])) ≡ 0 →
+      class-refusal 27 n values weights classes 27 (9 * n) ≡ report-refusal n values weights classes locals parts
+  unfolding report-refusal class-refusal
+  then-account locals parts e =
+      let own : misfits ((27, 27) ∷ (9 * n, 9 * n) ∷ []) ≡ false = rw (eq-eqb (9 * n) (9 * n) refl) refl in
+      alike ((27, 27) ∷ (9 * n, 9 * n) ∷ []) ((length locals, n) ∷ (length parts, 9 * n) ∷ []) own (sizes-hold n ((length locals, n) ∷ (length parts, 9 * n) ∷ []) e .fitting)

@@ -1,0 +1,4 @@
+-- Laws of the float report, each file named by its subject. Demand 3 is proved in Demand3.
+pub mod Ratios
+pub mod Job
+pub mod Answered

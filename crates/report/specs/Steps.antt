@@ -1,0 +1,39 @@
+-- What the private functions ask of each other; no part of the public promise. Assumes nothing.
+use mathlib.Core.Path.{_≡_}
+use mathlib.Core.List.{List}
+use Prim.Native.Nat.{ℕ, _*_, _-_, _≤_, _<_}
+use lib.IntN.{ℤ, pos, natAbs, _*ℤ_}
+use lib.ListN.{length}
+use lib.Signed.{_≤ℤ_}
+use Rattle.whole.specs.Rules.{ratio-limit}
+use Rattle.whole.specs.Table.{at}
+use Rattle.account.specs.Classes.{row-at}
+use Rattle.account.specs.declared.ClassRow.{ClassRow}
+
+-- p over q, which part 2 does not refuse
+pub record Ratio (p q : ℤ) : Type 0 where
+  pub one : pos 1 ≤ℤ q
+  pub divisor : natAbs q ≤ ratio-limit
+  pub numerator : natAbs p ≤ ratio-limit
+
+-- the spread of up to 64 zones, and sums from which coefficients can be formed
+pub record Sums (n : ℕ) (spread : ℤ) (row : ClassRow) : Type 0 where
+  pub two : 2 ≤ n
+  pub zones : n ≤ 64
+  pub varied : pos 1 ≤ℤ spread
+  pub spread-limit : natAbs spread ≤ ratio-limit
+  pub weight-above : row .weight ≡ pos (natAbs (row .weight))
+  pub moran-numerator : natAbs (row .cross) ≤ ratio-limit
+  pub moran-divisor : natAbs (row .weight *ℤ spread) ≤ ratio-limit
+  pub geary-numerator : natAbs (pos ((n - 1) * n) *ℤ row .squares) ≤ ratio-limit
+  pub geary-divisor : natAbs ((pos 2 *ℤ row .weight) *ℤ spread) ≤ ratio-limit
+
+-- the nine class rows
+pub record Rows (n : ℕ) (spread : ℤ) (rows : List ℤ) : Type 0 where
+  pub count : length rows ≡ 27
+  pub each : (k : ℕ) → k < 9 → Sums n spread (row-at rows k)
+
+-- local numerators, and the spread that divides them
+pub record Numerators (spread : ℤ) (numerators : List ℤ) : Type 0 where
+  pub few : length numerators ≤ 576
+  pub each : (k : ℕ) → k < length numerators → Ratio (at numerators k) spread

@@ -1,0 +1,118 @@
+// The report's own judge, what it answers to a refusal, and its work on a job that was accepted.
+use crate::Answer;
+use crate::Coefficient;
+use crate::Pair;
+use crate::Report;
+use crate::forming;
+use account::ClassRow;
+use account::Sums;
+ghost use mathlib.Core.Path.{_≡_};
+ghost use mathlib.Core.List.{[], _∷_};
+ghost use Prim.Native.Nat.{_*_};
+ghost use lib.ListN.{length};
+ghost use Rattle.whole.specs.Rules.{first-broken, size-rules};
+ghost use Rattle.whole.specs.Table.{table, at};
+ghost use Rattle.account.specs.Measures.{spread-of};
+ghost use Rattle.account.specs.Answers.{five, job-figures, job-locals};
+ghost use Rattle.account.specs.Classes.{class-sums, class-locals, class-refusal};
+ghost use Rattle.account.specs.Refusals.{account-refusal};
+ghost use Rattle.report.specs.Coefficients.{job-pair, class-pair, local-figures};
+ghost use Rattle.report.specs.FloatReport.{no-pair};
+ghost use Rattle.report.specs.declared.Answer.the-variants.{Refused, Reported};
+
+// 1 and 2, of n and the two lists of floats.
+pub fn judge_lent(n: usize, locals: usize, parts: usize) -> u8
+    ensures { λ r. ⌜ r ≡ first-broken (size-rules n ((locals, n) ∷ (parts, 9 * n) ∷ [])) ⌝ }
+{
+    if n < 2 {
+        return 1;
+    }
+    if n > 64 {
+        return 1;
+    }
+    if locals != n {
+        return 2;
+    }
+    if parts != 9 * n {
+        return 2;
+    }
+    0
+}
+
+// A refusal: no class has a coefficient.
+pub fn refused(number: u8) -> Report
+    ensures { λ r. ⌜ r ≡ record { whole = Refused number; classes = table (λ k. no-pair) 9 } ⌝ }
+{
+    let none = Pair {
+        moran: Coefficient::Weightless,
+        geary: Coefficient::Weightless,
+    };
+    let classes = [none, none, none, none, none, none, none, none, none];
+    Report {
+        whole: Answer::Refused(number),
+        classes: classes,
+    }
+}
+
+// The sums of a job that the account accepts, with its local numerators in `numerators`.
+pub fn job_sums(n: usize, values: &[i32], weights: &[u8], numerators: &mut [i64]) -> Sums
+    requires { ⌜ account-refusal n (now values) (now weights) (now numerators) ≡ 0 ⌝ }
+    ensures { λ r. ⌜ five r ≡ job-figures n (now (values .entry)) (now (weights .entry)) ⌝ }
+    ensures { λ _. ⌜ now (numerators .exit) ≡ job-locals n (now (values .entry)) (now (weights .entry)) ⌝ }
+{
+    match account::account(n, values, weights, numerators) {
+        account::Answer::Accounted(sums) => sums,
+        account::Answer::Refused(_) => Sums {
+            total: 0,
+            spread: 0,
+            weight: 0,
+            cross: 0,
+            squares: 0,
+        },
+    }
+}
+
+// The report of a job that the class account accepts, which left `rows`, and in `shares` the local numerators of each class.
+pub fn report_job(
+    n: usize,
+    values: &[i32],
+    weights: &[u8],
+    classes: &[u8],
+    rows: &[i64],
+    shares: &[i64],
+    locals: &mut [f64],
+    parts: &mut [f64],
+) -> Report
+    requires { ⌜ class-refusal 27 n (now values) (now weights) (now classes) 27 (9 * n) ≡ 0 ⌝ }
+    requires { ⌜ now rows ≡ class-sums n (now values) (now weights) (now classes) ⌝ }
+    requires { ⌜ now shares ≡ class-locals n (now values) (now weights) (now classes) ⌝ }
+    requires { ⌜ length (now locals) ≡ n ⌝ }
+    requires { ⌜ length (now parts) ≡ 9 * n ⌝ }
+    ensures { λ r. ⌜ r ≡ record { whole = Reported (job-pair n (now (values .entry)) (now (weights .entry))); classes = table (class-pair n (now (values .entry)) (now (weights .entry)) (now (classes .entry))) 9 } ⌝ }
+    ensures { λ _. ⌜ now (locals .exit) ≡ local-figures (spread-of (at (now (values .entry))) n) (job-locals n (now (values .entry)) (now (weights .entry))) ⌝ }
+    ensures { λ _. ⌜ now (parts .exit) ≡ local-figures (spread-of (at (now (values .entry))) n) (class-locals n (now (values .entry)) (now (weights .entry)) (now (classes .entry))) ⌝ }
+{
+    let mut numerators: [i64; 64] = [0; 64];
+    let sums = job_sums(n, values, weights, &mut numerators[..n]);
+    let spread = sums.spread;
+    let weight = sums.weight;
+    let cross = sums.cross;
+    let squares = sums.squares;
+    forming::put_figures(spread, &numerators[..n], locals);
+    forming::put_figures(spread, shares, parts);
+    let whole = forming::pair(
+        n,
+        spread,
+        ClassRow {
+            weight: weight,
+            cross: cross,
+            squares: squares,
+        },
+    );
+    let pairs = forming::class_pairs(n, spread, rows);
+    let class_pairs = pairs.pairs;
+    Report {
+        whole: Answer::Reported(whole),
+        classes: class_pairs,
+    }
+}
