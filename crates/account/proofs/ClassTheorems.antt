@@ -8,19 +8,20 @@ use native.Mathlib.Omega.{arith}
 use borrow.Author.Tests.{le-ltb, eq-eqb}
 use lib.IntN.{ℤ, pos, _*ℤ_}
 use lib.ListN.{length, getD}
-use Rattle.whole.specs.Rules.{Rule, first-broken, Applies, size-rules}
+use Rattle.whole.specs.Rules.{Rule, first-broken, Applies, misfits, size-rules}
 use Rattle.whole.specs.Search.{any-above}
 use Rattle.whole.specs.Sum.{sum}
 use Rattle.whole.specs.Table.{at, pair-at}
 use Rattle.whole.proofs.Lists.{within}
 use Rattle.whole.proofs.Rules.{first-none, first-next, first-least, first-applies}
+use Rattle.whole.proofs.Search.{all-within}
 use Rattle.whole.proofs.TableRows as rows
 use Rattle.account.specs.Measures.{deviation-of, weight-of, cross-of, squares-of, local-of}
 use Rattle.account.specs.Limits.{Limits}
 use Rattle.account.specs.Refusals.{job-rules, account-lengths, account-rules, account-refusal}
 use Rattle.account.specs.Answers.{class-row}
 use Rattle.account.specs.Classes.{class-weight, class-row-of, class-local-of, sum-at, row-at, class-sums, class-locals, class-rules}
-use Rattle.account.proofs.Accepted.{classed, class-fitting, class-lengths}
+use Rattle.account.proofs.Accepted.{fitting, classed, class-fitting, class-lengths}
 use Rattle.account.proofs.Adding.{locals-sum, weight-parts, cross-parts, squares-parts, local-parts}
 use Rattle.account.proofs.ByClass.{class-le, counts-once}
 use Rattle.account.proofs.Reading.{weight-le}
@@ -104,6 +105,20 @@ module _ (n : ℕ) (values : List ℤ) (weights classes : List ℕ) (lent : List
   pub nine-locals : (i : ℕ) → i < n → sum (λ k. class-local-of n values weights classes k i) 9 ≡ local-of (pair-at weights n) (deviation-of (at values) n) n i
   unfolding class-local-of
   nine-locals i p = local-parts (class-weight weights classes n) (pair-at weights n) 9 n shared (deviation-of (at values) n) i p
+
+-- ---- where the account refuses nothing, and the classes are 0 to 8 and every further list fits, nothing is refused
+pub class-taken :
+    (n : ℕ) (values : List ℤ) (weights classes : List ℕ) (locals : List ℤ) (lent : List (ℕ × ℕ)) → account-refusal n values weights locals ≡ 0 →
+    length classes ≡ n * n → ((p : ℕ) → p < n * n → getD classes p 0 ≤ 8) → misfits lent ≡ false →
+    first-broken (class-rules n values weights classes lent) ≡ 0
+unfolding account-refusal account-rules class-rules job-rules
+class-taken n values weights classes locals lent taken l low fit =
+    let both = first-none (job-rules n values weights) 0 (size-rules n (account-lengths n (length values) (length weights) (length locals))) (tt, (tt, tt)) taken in
+    let f = fitting n (length values) (length weights) (length locals) (both .0) in
+    let none : any-above 8 classes ≡ false = all-within 8 classes (λ p h. low p (omega arith)) in
+    let last = first-next ((any-above 8 classes, 9) ∷ []) 0 (job-rules n values weights) (tt, (tt, (tt, (tt, (tt, tt))))) (both .1) in
+    let rest : first-broken ((any-above 8 classes, 9) ∷ []) ≡ 0 = rw none refl in
+    rw (le-ltb n 2 (f .two), le-ltb 64 n (f .zones), eq-eqb (length values) n (f .values-fit), eq-eqb (length weights) (n * n) (f .weights-fit), eq-eqb (length classes) (n * n) l, fit) (sym last ∙ rest)
 
 -- ---- the refusal is the least number that applies
 module _ (n : ℕ) (values : List ℤ) (weights classes : List ℕ) (lent : List (ℕ × ℕ)) where

@@ -2,3 +2,4 @@
 pub mod Ratios
 pub mod Job
 pub mod Answered
+pub mod Demand3

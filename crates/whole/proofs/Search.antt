@@ -6,7 +6,7 @@ use Prim.Native.Nat.{ℕ, zero, suc, _+_, _≤_, _<_}
 use native.Mathlib.Numerals.{add-one}
 use native.Mathlib.Decide.{ℕ-discrete}
 use native.Mathlib.Omega.{arith}
-use borrow.Author.Tests.{ltb-false}
+use borrow.Author.Tests.{le-ltb, ltb-false}
 use lib.Dec.{ltb}
 use lib.IntN.{ℤ, natAbs}
 use lib.ListN.{length, getD}
@@ -46,6 +46,12 @@ module _ (test : ℕ → Bool) where
       go false e = refl
       go true e = sym (some-hit n k h e) ∙ p
 
+  -- and where none does, that is found
+  pub none-some : (n : ℕ) → ((k : ℕ) → k < n → test k ≡ false) → some test n ≡ false
+  unfolding some
+  none-some zero h = refl
+  none-some (suc n) h = rw (none-some n (λ k p. h k (omega arith)), h n (omega arith)) refl
+
   -- a loop that has found one, and one that has passed all n
   pub some-found : (n k : ℕ) → k < n → test k ≡ true → true ≡ some test n
   some-found n k h e = sym (some-hit n k h e)
@@ -61,3 +67,7 @@ none-beyond limit numbers e k h = ltb-false limit (natAbs (at numbers k)) (some-
 pub none-above : (limit : ℕ) (numbers : List ℕ) → any-above limit numbers ≡ false → (k : ℕ) → k < length numbers → getD numbers k 0 ≤ limit
 unfolding any-above
 none-above limit numbers e k h = ltb-false limit (getD numbers k 0) (some-none (λ k. ltb limit (getD numbers k 0)) (length numbers) k e h)
+
+pub all-within : (limit : ℕ) (numbers : List ℕ) → ((k : ℕ) → k < length numbers → getD numbers k 0 ≤ limit) → any-above limit numbers ≡ false
+unfolding any-above
+all-within limit numbers h = none-some (λ k. ltb limit (getD numbers k 0)) (length numbers) (λ k p. le-ltb limit (getD numbers k 0) (h k p))
