@@ -5,16 +5,16 @@
     ratios.py --check            says whether the two files are what this program makes
     ratios.py --compare PROGRAM  runs PROGRAM on all ratios made here, and compares every line
 
-The float is Python's int / int, which rounds correctly. That it did so is looked at too, ratio by ratio, in exact fractions: the float's
-two neighbours lie no nearer, and where one lies equally near, the float's last bit is 0.
+The float is Python's int / int, which rounds correctly. That it did so is looked at too (nearest_float.py), ratio by ratio, in exact
+fractions: the float's two neighbours lie no nearer, and where one lies equally near, the float's last bit is 0.
 """
-import math
 import pathlib
 import random
 import struct
 import subprocess
 import sys
-from fractions import Fraction
+
+from nearest_float import nearest_bits
 
 SEED = 20261116
 HERE = pathlib.Path(__file__).resolve().parent.parent / 'crates' / 'ratios'
@@ -34,27 +34,10 @@ PRINTED_RATIOS = [(p, q) for p, q, _ in PRINTED]
 
 # ---- what must be written
 
-def bits(x):
-    return struct.unpack('<Q', struct.pack('<d', x))[0]
-
-
-def is_nearest(x, p, q):
-    """Whether the float x has no neighbour nearer to p / q, nor one equally near with an even last bit where its own is odd."""
-    far = abs(Fraction(x) - Fraction(p, q))
-    for side in (-math.inf, math.inf):
-        other = abs(Fraction(math.nextafter(x, side)) - Fraction(p, q))
-        if other < far or (other == far and bits(x) % 2):
-            return False
-    return True
-
-
 def line(p, q):
     if q < 1 or max(abs(p), q) > LIMIT:
         return 'refused 18'
-    x = p / q
-    if not is_nearest(x, p, q):
-        sys.exit(f'the division of this program does not round {p} / {q} correctly')
-    return f'{bits(x):016X}'
+    return f'{nearest_bits(p, q):016X}'
 
 
 # ---- the ratios, kind by kind

@@ -73,9 +73,9 @@ pub fn class_account(
     ensures sums { λ _. ⌜ now (rows .exit) ≡ unless-refused (class-refusal 27 n (now (values .entry)) (now (weights .entry)) (now (classes .entry)) (length (now (rows .entry))) (length (now (locals .entry)))) (class-sums n (now (values .entry)) (now (weights .entry)) (now (classes .entry))) (now (rows .entry)) ⌝ }
     ensures numerators { λ _. ⌜ now (locals .exit) ≡ unless-refused (class-refusal 27 n (now (values .entry)) (now (weights .entry)) (now (classes .entry)) (length (now (rows .entry))) (length (now (locals .entry)))) (class-locals n (now (values .entry)) (now (weights .entry)) (now (classes .entry))) (now (locals .entry)) ⌝ }
 {
-    let refusal = judging::judge_classes(n, values, weights, classes, 27, rows.len(), locals.len());
-    if refusal != 0 {
-        return refusal;
+    let number = judging::judge_classes(n, values, weights, classes, 27, rows.len(), locals.len());
+    if number != 0 {
+        return number;
     }
     classes::work_classes(n, values, weights, classes, rows, locals);
     0

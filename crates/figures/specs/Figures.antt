@@ -1,30 +1,79 @@
 -- The published cases as one table, a row each: what is worked, and what document 01 says that it gives. Assumes nothing.
-use mathlib.Core.Bool.{Bool, true, _&&_}
+use mathlib.Core.Bool.{Bool, true, false, _&&_}
 use mathlib.Core.List.{List, [], _∷_}
 use Prim.Native.Nat.{ℕ, _^_}
 use lib.Dec.{eqb}
 use lib.Ieee.{binary64, toBits}
 use lib.IntN.{ℤ, pos, negsuc, _-ℤ_, _*ℤ_}
 use Rattle.whole.specs.Integer.{is-zero}
+use Rattle.whole.specs.Table.{at, pair-at}
 use Rattle.nearest.specs.Answers.{nearest-float}
 use Rattle.nearest.specs.Bits.{value-of}
+use Rattle.account.specs.Measures.{deviation-of, spread-of, weight-of, cross-of, squares-of}
+use Rattle.account.specs.Answers.{job-locals}
+use Rattle.account.specs.Classes.{class-row-of}
+use Rattle.account.specs.declared.ClassRow.{ClassRow}
+use Rattle.report.specs.Coefficients.{job-pair, class-pair}
+use Rattle.report.specs.declared.Coefficient.{Coefficient}
+use Rattle.report.specs.declared.Coefficient.the-variants.{Figure, Weightless}
 
--- a float as document 01 prints it: a whole number, or its 64 bits
+-- a figure as document 01 prints it: a whole number, its 64 bits, or none
 pub data Printed : Type 0 where
   number : ℤ → Printed
   bits : ℕ → Printed
+  none : Printed
+
+-- a job: its values, its weights, and the classes of its pairs
+pub record Job : Type 0 where
+  pub zones : ℕ
+  pub values : List ℤ
+  pub weights : List ℕ
+  pub classes : List ℕ
 
 pub data Row : Type 0 where
+  -- P, W, M, G and the local numerators of a job
+  sums : Job → ℤ → ℤ → ℤ → ℤ → List ℤ → Row
+  -- I and c of a job
+  pair : Job → Printed → Printed → Row
+  -- W, P, G, I and c of a class
+  class : Job → ℕ → ℤ → ℤ → ℤ → Printed → Printed → Row
   -- the nearest float to p / q
   ratio : ℤ → ℤ → Printed → Row
 
--- whether a float's bits are those of what is printed
+-- ---- whether a row is right
+
+abbrev pub same : List ℤ → List ℤ → Bool
+same [] [] = true
+same [] (b ∷ others) = false
+same (a ∷ numbers) [] = false
+same (a ∷ numbers) (b ∷ others) = is-zero (a -ℤ b) && same numbers others
+
+-- a float's bits are those of what is printed
 abbrev pub prints : Printed → ℕ → Bool
 prints (number z) b = is-zero (value-of b -ℤ z *ℤ pos (2 ^ 1074))
 prints (bits n) b = eqb n b
+prints none b = false
 
--- whether the row is right
+abbrev pub shows : Printed → Coefficient → Bool
+shows printed (Figure x) = prints printed (toBits binary64 x)
+shows none Weightless = true
+shows (number z) Weightless = false
+shows (bits n) Weightless = false
+
 unfoldable pub right : Row → Bool
+right (sums job p w m g locals) =
+    let n = job .zones in
+    let x = at (job .values) in
+    let f = pair-at (job .weights) n in
+    same (p ∷ w ∷ m ∷ g ∷ locals)
+    (cross-of f (deviation-of x n) n ∷ weight-of f n ∷ spread-of x n ∷ squares-of f x n ∷ job-locals n (job .values) (job .weights))
+right (pair job moran geary) =
+    let worked = job-pair (job .zones) (job .values) (job .weights) in
+    shows moran (worked .moran) && shows geary (worked .geary)
+right (class job k w p g moran geary) =
+    let row = class-row-of (job .zones) (job .values) (job .weights) (job .classes) k in
+    let worked = class-pair (job .zones) (job .values) (job .weights) (job .classes) k in
+    same (w ∷ p ∷ g ∷ []) (row .weight ∷ row .cross ∷ row .squares ∷ []) && shows moran (worked .moran) && shows geary (worked .geary)
 right (ratio p q printed) = prints printed (toBits binary64 (nearest-float p q))
 
 unfoldable pub all-right : List Row → Bool
@@ -32,10 +81,46 @@ unfolding right
 all-right [] = true
 all-right (row ∷ rows) = right row && all-right rows
 
--- (g) and (h), two ties; (i), below 0; (j)
+-- ---- the jobs
+
+-- values 1 2 6 on a line of weight 1
+abbrev pub line-of-three : Job
+line-of-three = record {
+  zones = 3;
+  values = pos 1 ∷ pos 2 ∷ pos 6 ∷ [];
+  weights = 0 ∷ 1 ∷ 0 ∷ 1 ∷ 0 ∷ 1 ∷ 0 ∷ 1 ∷ 0 ∷ [];
+  classes = 0 ∷ 0 ∷ 0 ∷ 0 ∷ 0 ∷ 0 ∷ 0 ∷ 0 ∷ 0 ∷ [];
+}
+
+-- values 0 1 joined both ways
+abbrev pub two-joined : Job
+two-joined = record {
+  zones = 2;
+  values = pos 0 ∷ pos 1 ∷ [];
+  weights = 0 ∷ 1 ∷ 1 ∷ 0 ∷ [];
+  classes = 0 ∷ 0 ∷ 0 ∷ 0 ∷ [];
+}
+
+-- the whole report's: values 1 1 3 3, 0-1 of weight 3 in class 1, 1-2 of weight 1 in class 2
+abbrev pub reported : Job
+reported = record {
+  zones = 4;
+  values = pos 1 ∷ pos 1 ∷ pos 3 ∷ pos 3 ∷ [];
+  weights = 0 ∷ 3 ∷ 0 ∷ 0 ∷ 3 ∷ 0 ∷ 1 ∷ 0 ∷ 0 ∷ 1 ∷ 0 ∷ 0 ∷ 0 ∷ 0 ∷ 0 ∷ 0 ∷ [];
+  classes = 0 ∷ 1 ∷ 0 ∷ 0 ∷ 1 ∷ 0 ∷ 2 ∷ 0 ∷ 0 ∷ 2 ∷ 0 ∷ 0 ∷ 0 ∷ 0 ∷ 0 ∷ 0 ∷ [];
+}
+
+-- ---- the table: (a); (b); (c), with I and c; (d), with the unclassed pairs; (g) and (h), two ties; (i), below 0; (j)
 unfoldable pub published : List Row
 published =
-    ratio (pos 9007199254740993) (pos 1) (number (pos 9007199254740992))
+    sums line-of-three (negsuc 17) (pos 4) (pos 42) (pos 34) (pos 18 ∷ negsuc 8 ∷ negsuc 26 ∷ [])
+    ∷ pair two-joined (number (negsuc 0)) (number (pos 1))
+    ∷ sums reported (pos 64) (pos 8) (pos 16) (pos 8) (pos 48 ∷ pos 32 ∷ negsuc 15 ∷ pos 0 ∷ [])
+    ∷ pair reported (bits 0x3FE0000000000000) (bits 0x3FD8000000000000)
+    ∷ class reported 0 (pos 0) (pos 0) (pos 0) none none
+    ∷ class reported 1 (pos 6) (pos 96) (pos 0) (bits 0x3FF0000000000000) (bits 0x0000000000000000)
+    ∷ class reported 2 (pos 2) (negsuc 31) (pos 8) (bits 0xBFF0000000000000) (bits 0x3FF8000000000000)
+    ∷ ratio (pos 9007199254740993) (pos 1) (number (pos 9007199254740992))
     ∷ ratio (pos 9007199254740995) (pos 1) (number (pos 9007199254740996))
     ∷ ratio (negsuc 0) (pos 3) (bits 0xBFD5555555555555)
     ∷ ratio (pos 1) (pos 10) (bits 0x3FB999999999999A)

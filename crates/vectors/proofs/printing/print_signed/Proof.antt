@@ -1,11 +1,11 @@
 -- `print_signed` is safe: the size of a number below 0 is worked out without leaving its type. Assumes nothing.
 use Rattle.whole.proofs.Sign.{Turned, below, not-below}
 use borrow.Author.Needs.{needs}
-use Rattle.vectors.proofs.print_signed.Statement.{statement}
-use Rattle.vectors.proofs.print_signed.Tie as tie
+use Rattle.vectors.proofs.printing.print_signed.Statement.{statement}
+use Rattle.vectors.proofs.printing.print_signed.Tie as tie
 
-turned : (c : tie.Then1) → Turned (c .before .args .x)
-turned c = below (c .before .args .x) (c .before .fits .x) (c .if1 .taken)
+turned : (c : tie.Then1) → Turned (c .before .args .whole)
+turned c = below (c .before .args .whole) (c .before .fits .whole) (c .if1 .taken)
 
 slice-aggregate-write-all : tie.Need-slice-aggregate-write-all
 slice-aggregate-write-all c = search needs
@@ -29,7 +29,7 @@ print-decimal-requires : tie.Need-print-decimal-requires
 print-decimal-requires c κs = search needs
 
 cast-print-decimal-2 : tie.Need-cast-print-decimal-2
-cast-print-decimal-2 c = not-below (c .before .args .x) (c .before .fits .x) (c .if1 .left)
+cast-print-decimal-2 c = not-below (c .before .args .whole) (c .before .fits .whole) (c .if1 .left)
 
 print-decimal-requires-2 : tie.Need-print-decimal-requires-2
 print-decimal-requires-2 c κs = search needs

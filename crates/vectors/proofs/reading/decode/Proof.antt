@@ -3,14 +3,14 @@ use mathlib.Core.Path.{_≡_}
 use Prim.Native.Nat.{_-_, _≤_}
 use native.Mathlib.Omega.{arith}
 use lib.ListN.{length, length-set}
-use Rattle.vectors.proofs.decode.Statement.{statement}
-use Rattle.vectors.proofs.decode.Tie as tie
+use Rattle.vectors.proofs.reading.decode.Statement.{statement}
+use Rattle.vectors.proofs.reading.decode.Tie as tie
 
 abbrev Inv-loop : tie.InvT-loop
-Inv-loop s values₀ i₀ values i = (i ≤ length values) × (length values ≡ length values₀)
+Inv-loop bytes values₀ i₀ values i = (i ≤ length values) × (length values ≡ length values₀)
 
 abbrev μ-loop : tie.MeasureT-loop
-μ-loop s values₀ i₀ values i = length values - i
+μ-loop bytes values₀ i₀ values i = length values - i
 
 loop-holds : tie.Need-loop-holds Inv-loop μ-loop
 loop-holds c = omega arith
@@ -24,11 +24,11 @@ word-at-requires c κs = tt
 signed-word-requires : tie.Need-signed-word-requires Inv-loop μ-loop
 signed-word-requires c κs = tt
 
-mul-x : tie.Need-mul-x Inv-loop μ-loop
-mul-x c = omega arith
+mul-value : tie.Need-mul-value Inv-loop μ-loop
+mul-value c = omega arith
 
-slice-set-from-x : tie.Need-slice-set-from-x Inv-loop μ-loop
-slice-set-from-x c = omega arith
+slice-set-from-value : tie.Need-slice-set-from-value Inv-loop μ-loop
+slice-set-from-value c = omega arith
 
 add-i : tie.Need-add-i Inv-loop μ-loop
 add-i c = omega arith
@@ -55,8 +55,8 @@ decode-spec =
     mul-word-at
     word-at-requires
     signed-word-requires
-    mul-x
-    slice-set-from-x
+    mul-value
+    slice-set-from-value
     add-i
     loop-less
     loop-again

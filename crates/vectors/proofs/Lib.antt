@@ -1,0 +1,2 @@
+-- Laws.
+pub mod Flags

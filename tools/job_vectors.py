@@ -1,0 +1,512 @@
+#!/usr/bin/env python3
+"""Jobs for the program `vectors`, and what it must write, by an account of its own.
+
+    job_vectors.py                    writes crates/vectors/stdin and crates/vectors/stdout
+    job_vectors.py --check            says whether the two files are what this program makes
+    job_vectors.py --compare PROGRAM  runs PROGRAM on some thousands of drawn jobs and compares every line; then looks at the numbers
+                                      that it printed: do they add up, and is each float the nearest to the ratio of its whole numbers
+
+The account here shares nothing with the proved one. It works as the papers write: from the mean as an exact fraction, the deviations
+z = x - mean, and the joins one by one (document 001, equations 9, 12 and 19; 003, 13.1 and 13.2). Coefficients are worked by those
+formulas; the whole numbers of document 01 are scaled from the same sums at the end.
+"""
+import functools
+import pathlib
+import random
+import struct
+import subprocess
+import sys
+from dataclasses import dataclass, replace
+from fractions import Fraction
+
+from nearest_float import nearest_bits
+
+SEED = 20261115
+HERE = pathlib.Path(__file__).resolve().parent.parent / 'crates' / 'vectors'
+READ = 65535  # as many bytes as one run is given
+CLASSES = range(9)
+LENT, FLOAT_LENT = '7', '3fe0000000000000'  # what every place of a lent list holds before the call: 7, or the bits of 0.5
+
+# how lines must begin by what document 01 prints of its cases (a) to (d) and of Example 2 of 000
+PRINTED = [
+    'case-a account 9 42 4 -18 34 | 18 -9 -27',
+    'case-b report bff0000000000000 3ff0000000000000 |',
+    'case-c account 8 16 8 64 8 |',
+    'case-d account 8 16 8 64 8 | 48 32 -16 0',
+    'case-d classes 0 | 0 0 0 6 96 0 2 -32 8 0 0 0',
+    'case-d report 3fe0000000000000 3fd8000000000000 | - - 3ff0000000000000 0000000000000000 bff0000000000000 3ff8000000000000 - -'
+    + 5 * ' - -' + ' | 4008000000000000 4000000000000000 bff0000000000000 0000000000000000 |',
+    'example-2 account 1654 4572 14 -9416 1864 |',
+]
+
+
+# ---- a job
+
+@dataclass
+class Job:
+    name: str
+    n: int
+    values: list
+    weights: list
+    classes: list
+    # the lengths of the lists that are lent
+    locals: int
+    rows: int
+    class_locals: int
+    float_locals: int
+    float_parts: int
+
+
+def exact(n):
+    """The length that each list must have, in the order of a job's head."""
+    own = {'values': n, 'weights': n * n, 'classes': n * n}
+    return own | {'locals': n, 'rows': 27, 'class_locals': 9 * n, 'float_locals': n, 'float_parts': 9 * n}
+
+
+LISTS, LENT_LISTS = list(exact(2))[:3], list(exact(2))[3:]
+CALLS = {
+    'account': ['values', 'weights', 'locals'],
+    'classes': ['values', 'weights', 'classes', 'rows', 'class_locals'],
+    'report': ['values', 'weights', 'classes', 'float_locals', 'float_parts'],
+}
+
+
+def job(name, n, values, weights, classes=None):
+    """A job whose lent lists have their exact lengths; all its pairs are in class 0 where no classes are given."""
+    lent = {lent: size for lent, size in exact(n).items() if lent in LENT_LISTS}
+    return Job(name, n, values, weights, [0] * len(weights) if classes is None else classes, **lent)
+
+
+def sizes(job):
+    return {name: len(getattr(job, name)) for name in LISTS} | {name: getattr(job, name) for name in LENT_LISTS}
+
+
+def resize(job, name, size):
+    """The job with a list of another length, by zeros at its end."""
+    return replace(job, **{name: size if name in LENT_LISTS else (getattr(job, name) + [0] * size)[:size]})
+
+
+def put(job, **entries):
+    """The job with other entries: values=(1, 7) puts 7 in place 1 of the values; places are counted on from 0 again, and an empty list
+    stays so."""
+    lists = {name: list(getattr(job, name)) for name in entries}
+    for name, (place, entry) in entries.items():
+        if lists[name]:
+            lists[name][place % len(lists[name])] = entry
+    return replace(job, **lists)
+
+
+def image(job):
+    name = job.name.encode()
+    head = bytes([len(name)]) + name + struct.pack('<QBHHBBHBH', job.n, *sizes(job).values())
+    return head + struct.pack(f'<{len(job.values)}i', *job.values) + bytes(job.weights + job.classes)
+
+
+# ---- what is refused
+
+def refusal(job, call):
+    """The number of the first rule of document 01's table that the call finds broken, 0 where none is."""
+    n = job.n
+    if not 2 <= n <= 64:
+        return 1
+    if any(sizes(job)[name] != exact(n)[name] for name in CALLS[call]):
+        return 2
+    if max(abs(x) for x in job.values) > 100000:
+        return 3
+    if max(job.weights) > 9:
+        return 4
+    if any(job.weights[i * (n + 1)] for i in range(n)):
+        return 5
+    if not any(job.weights):
+        return 6
+    if len(set(job.values)) == 1:
+        return 7
+    if 'classes' in CALLS[call] and max(job.classes) > 8:
+        return 9
+    return 0
+
+
+def is_refused(job):
+    return any(refusal(job, call) for call in CALLS)
+
+
+# ---- what is worked
+
+@dataclass
+class Sums:
+    """Over some joins: the sum of w, of w z z, of w (x - x) squared, and of w z z by the zone that the join goes from."""
+    weight: int
+    cross: Fraction
+    squares: int
+    local: list
+
+
+class Account:
+    """A job that some call accepts, worked as the papers write."""
+
+    def __init__(self, job):
+        mean = Fraction(sum(job.values), job.n)
+        self.job = job
+        self.z = [x - mean for x in job.values]
+        self.square = sum(z * z for z in self.z)
+        self.joins = [(place // job.n, place % job.n, w) for place, w in enumerate(job.weights) if w]
+
+    def over(self, joins):
+        x, z, sums = self.job.values, self.z, Sums(0, Fraction(0), 0, [Fraction(0)] * self.job.n)
+        for i, j, w in joins:
+            product = w * z[i] * z[j]
+            sums.weight += w
+            sums.cross += product
+            sums.squares += w * (x[i] - x[j]) ** 2
+            sums.local[i] += product
+        return sums
+
+    @functools.cached_property
+    def whole(self):
+        return self.over(self.joins)
+
+    @functools.cached_property
+    def classes(self):
+        members = [[] for _ in CLASSES]
+        for i, j, w in self.joins:
+            members[self.job.classes[i * self.job.n + j]].append((i, j, w))
+        return [self.over(joins) for joins in members]
+
+    # the whole numbers of document 01, whose deviations are n times those of the papers
+
+    def spread(self):
+        return self.job.n * self.square
+
+    def row(self, sums):
+        return [sums.weight, self.job.n ** 2 * sums.cross, sums.squares]
+
+    def numerators(self, sums):
+        return [self.job.n ** 2 * product for product in sums.local]
+
+    # the coefficients, by the equations of document 001
+
+    def pair(self, sums):
+        """Moran's I (9) and Geary's c (19); none without weight."""
+        if not sums.weight:
+            return [None, None]
+        n, weight = self.job.n, sums.weight
+        return [Fraction(n, weight) * sums.cross / self.square, Fraction(n - 1, 2 * weight) * sums.squares / self.square]
+
+    def local_morans(self, sums):
+        """The local Moran (12) of each zone."""
+        second_moment = self.square / self.job.n
+        return [product / second_moment for product in sums.local]
+
+
+# ---- what is written
+
+@functools.lru_cache(1 << 18)
+def figure(ratio):
+    return '-' if ratio is None else f'{nearest_bits(ratio.numerator, ratio.denominator):016x}'
+
+
+def line(name, call, answer, *lists):
+    words = [name, call, *answer] + [word for entries in lists for word in ['|', *entries]]
+    return ' '.join(str(word) for word in words)
+
+
+def account_line(job, account):
+    number = refusal(job, 'account')
+    if number:
+        return line(job.name, 'account', ['refused', number], [LENT] * job.locals)
+    answer = [sum(job.values), account.spread()] + account.row(account.whole)
+    return line(job.name, 'account', answer, account.numerators(account.whole))
+
+
+def classes_line(job, account):
+    number = refusal(job, 'classes')
+    if number:
+        return line(job.name, 'classes', [number], [LENT] * job.rows, [LENT] * job.class_locals)
+    rows = [x for sums in account.classes for x in account.row(sums)]
+    return line(job.name, 'classes', [0], rows, [x for sums in account.classes for x in account.numerators(sums)])
+
+
+def report_line(job, account):
+    number = refusal(job, 'report')
+    if number:
+        lent = [FLOAT_LENT] * job.float_locals, [FLOAT_LENT] * job.float_parts
+        return line(job.name, 'report', ['refused', number], ['-'] * 18, *lent)
+    pairs = [x for sums in account.classes for x in account.pair(sums)]
+    parts = [x for sums in account.classes for x in account.local_morans(sums)]
+    figures = account.pair(account.whole), pairs, account.local_morans(account.whole), parts
+    return line(job.name, 'report', *([figure(x) for x in ratios] for ratios in figures))
+
+
+def lines(job):
+    account = None if all(refusal(job, call) for call in CALLS) else Account(job)
+    return [account_line(job, account), classes_line(job, account), report_line(job, account)]
+
+
+# ---- the jobs that are kept
+
+def all_pairs(n, rule):
+    return [0 if i == j else rule(i, j) for i in range(n) for j in range(n)]
+
+
+def both_ways(n, edges):
+    return all_pairs(n, lambda i, j: int((i, j) in edges or (j, i) in edges))
+
+
+def banded(places, bands):
+    """The class of each pair: the first band that its squared distance does not exceed, else 0; the diagonal is 0."""
+    def band(i, j):
+        squared = sum((a - b) ** 2 for a, b in zip(places[i], places[j]))
+        return next((k + 1 for k, most in enumerate(bands) if squared <= most), 0)
+    return all_pairs(len(places), band)
+
+
+def documents():
+    """The cases of documents 01 and 02 and of document 000, and the limits."""
+    yield job('case-a', 3, [1, 2, 6], both_ways(3, [(0, 1), (1, 2)]))
+    yield job('case-b', 2, [0, 1], [0, 1, 1, 0])
+    weights = [0, 3, 0, 0, 3, 0, 1, 0, 0, 1, 0, 0, 0, 0, 0, 0]
+    yield job('case-c', 4, [1, 1, 3, 3], weights)
+    yield job('case-d', 4, [1, 1, 3, 3], weights, banded([(0, 0), (1, 0), (3, 0), (9, 9)], [1, 4]))
+    edges = [(1, 2), (1, 6), (2, 3), (4, 5), (4, 7), (6, 7), (7, 8)]
+    yield job('example-2', 8, [207, 202, 220, 207, 197, 220, 204, 197], both_ways(8, [(a - 1, b - 1) for a, b in edges]))
+    steps = all_pairs(64, lambda i, j: min(8, abs(i - j) // 7))
+    yield job('request-a4', 64, [i * i for i in range(64)], all_pairs(64, lambda i, j: (i + 2 * j) % 10), steps)
+    yield job('largest', 64, [100000 if i % 2 else -100000 for i in range(64)], all_pairs(64, lambda i, j: 9), [8] * 4096)
+    halves = all_pairs(64, lambda i, j: 9 if i // 32 == j // 32 else 0)
+    yield job('largest-cross', 64, [-100000] * 32 + [100000] * 32, halves, [1] * 2048 + [8] * 2048)
+
+
+def ordinary(name):
+    """A small job that breaks no rule, to be changed in a place or two."""
+    return job(name, 3, [1, 2, 6], both_ways(3, [(0, 1), (1, 2)]), [0, 1, 0, 1, 0, 2, 0, 2, 0])
+
+
+def broken_sizes():
+    """n beyond its limits; each list too short, too long and empty."""
+    yield job('n-0', 0, [], [])
+    yield job('n-1', 1, [5], [0])
+    yield job('n-65', 65, list(range(65)), all_pairs(65, lambda i, j: 1))
+    yield replace(ordinary('n-largest'), n=2 ** 64 - 1)
+    yield replace(job('n-2-to-the-32', 0, [], []), n=2 ** 32)
+    yield replace(ordinary('n-0-and-lengths'), n=0)
+    for name, size in exact(3).items():
+        for word, other in (('short', size - 1), ('long', size + 1), ('empty', 0)):
+            yield resize(ordinary(f'{word}-{name}'), name, other)
+
+
+def broken_entries():
+    """Each rule on values, weights and classes broken, or nearly."""
+    for x in (100000, -100000, 100001, -100001, -2 ** 31, 2 ** 31 - 1):
+        yield put(ordinary(f'value-{x}'), values=(1, x))
+    for w in (9, 10, 255):
+        yield put(ordinary(f'weight-{w}'), weights=(5, w))
+    yield put(ordinary('diagonal'), weights=(0, 1))
+    yield put(ordinary('diagonal-last'), weights=(8, 1))
+    yield replace(ordinary('no-weight'), weights=[0] * 9)
+    yield replace(ordinary('equal'), values=[4] * 3)
+    for k in (8, 9, 255):
+        yield put(ordinary(f'class-{k}'), classes=(1, k))
+        yield put(ordinary(f'class-{k}-without-weight'), classes=(2, k))
+        yield put(ordinary(f'class-{k}-on-the-diagonal'), classes=(8, k))
+
+
+def broken_twice():
+    """Two rules broken at once: the lesser number is given."""
+    yield put(ordinary('value-and-weight'), values=(2, 100001), weights=(1, 10))
+    yield replace(ordinary('weight-and-diagonal'), weights=[1, 10] + [0] * 7)
+    yield put(ordinary('diagonal-of-10'), weights=(0, 10))
+    yield replace(ordinary('no-weight-and-equal'), values=[4] * 3, weights=[0] * 9)
+    yield put(ordinary('value-and-class'), values=(0, -100001), classes=(0, 9))
+    yield put(ordinary('diagonal-and-class'), weights=(4, 1), classes=(4, 9))
+    yield replace(put(ordinary('no-weight-and-class'), classes=(3, 9)), weights=[0] * 9)
+    yield replace(put(ordinary('equal-and-class'), classes=(3, 9)), values=[4] * 3)
+    yield replace(put(ordinary('rows-and-class'), classes=(3, 9)), rows=26)
+    yield replace(put(ordinary('parts-and-weight'), weights=(1, 10)), float_parts=28)
+    yield resize(put(ordinary('classes-and-value'), values=(1, 100001)), 'classes', 8)
+
+
+# ---- jobs by chance
+
+def drawn_classes(rng, n):
+    """All in class 0, all in one class, few, many, or by the distance of the zones' numbers."""
+    among = rng.choice(([0], [rng.randrange(9)], rng.sample(CLASSES, 3), CLASSES, None))
+    return [rng.choice(among) for _ in range(n * n)] if among else all_pairs(n, lambda i, j: min(8, abs(i - j)))
+
+
+def drawn_job(rng, name, n):
+    """Small and large values, dense and sparse weights; the first two zones have a join."""
+    reach, dense = rng.choice((1, 9, 1000, 100000)), rng.choice((0.1, 0.3, 0.7, 1))
+    values = [rng.randint(-reach, reach) for _ in range(n)]
+    weights = all_pairs(n, lambda i, j: rng.randint(1, 9) if i + j == 1 or rng.random() < dense else 0)
+    return job(name, n, values, weights, drawn_classes(rng, n))
+
+
+def damaged(rng, job):
+    """One thing made wrong; a second damage may make it right again."""
+    place, name = rng.randrange(5000), rng.choice(list(exact(2)))
+    return rng.choice((
+        replace(job, n=rng.choice((0, 1, 65, (job.n + 1) % 2 ** 64, abs(job.n - 1), 2 ** 64 - 1))),
+        resize(job, name, abs(sizes(job)[name] + rng.choice((-1, 1)))),
+        put(job, values=(place, rng.choice((100001, -100001, 2 ** 31 - 1, -2 ** 31)))),
+        put(job, weights=(place, rng.choice((10, 11, 255)))),
+        put(job, weights=(-1, rng.randrange(1, 10))),
+        put(job, classes=(place, rng.choice((9, 10, 255)))),
+        replace(job, weights=[0] * len(job.weights)),
+        replace(job, values=job.values[:1] * len(job.values)),
+    ))
+
+
+def drawn(rng, count, zones):
+    """Jobs by chance; each second one damaged in one or two ways."""
+    for k in range(count):
+        n = rng.choice(zones)
+        made = drawn_job(rng, f'{"damaged" if k % 2 else "drawn"}-{k}', n)
+        for _ in range(rng.choice((1, 1, 2)) if k % 2 else 0):
+            made = damaged(rng, made)
+        yield made
+
+
+# ---- the kept files
+
+def kept():
+    jobs = [*documents(), *broken_sizes(), *broken_entries(), *broken_twice()]
+    jobs += drawn(random.Random(SEED), 24, (2, 3, 4, 5, 6, 8, 9, 12))
+    given, written = b''.join(image(made) for made in jobs), [x for made in jobs for x in lines(made)]
+    assert len(given) <= READ, 'the program reads at most 65,535 bytes'
+    for begun in PRINTED:
+        if not any(x.startswith(begun) for x in written):
+            sys.exit(f'document 01 prints what stands in "{begun}", and no line begins so')
+    return jobs, {'stdin': given, 'stdout': ''.join(x + '\n' for x in written).encode()}
+
+
+def check():
+    jobs, files = kept()
+    for name, data in files.items():
+        if (HERE / name).read_bytes() != data:
+            sys.exit(f'crates/vectors/{name} is not what tools/job_vectors.py makes')
+    refused = sum(1 for made in jobs if is_refused(made))
+    print(f'the {len(jobs)} kept jobs, {refused} of them refused by some call, are what tools/job_vectors.py makes')
+
+
+# ---- the printed numbers by themselves
+
+class Printed:
+    """The numbers in the three lines of a job that no call refused; floats stay words."""
+
+    def __init__(self, n, written):
+        account, classes, report = ([entries.split() for entries in x.split(' ', 2)[2].split('|')] for x in written)
+        (_, self.spread, *self.sums), self.locals = ([int(x) for x in entries] for entries in account)
+        _, rows, class_locals = ([int(x) for x in entries] for entries in classes)
+        self.n, self.rows = n, [rows[place:place + 3] for place in range(0, 27, 3)]
+        self.class_locals = [class_locals[place:place + n] for place in range(0, 9 * n, n)]
+        self.pair, pairs, self.local_figures, self.parts = report
+        self.pairs = [pairs[place:place + 2] for place in range(0, 18, 2)]
+
+    def count(self):
+        """How many floats there are."""
+        return sum(x != '-' for pair in [self.pair] + self.pairs for x in pair) + len(self.local_figures + self.parts)
+
+    def wanted_pair(self, weight, cross, squares):
+        if weight <= 0:
+            return ['-', '-']
+        return [figure(Fraction(cross, weight * self.spread)), figure(Fraction((self.n - 1) * self.n * squares, 2 * weight * self.spread))]
+
+    def wrong(self):
+        """What is amiss in them."""
+        numerators = self.locals + [x for part in self.class_locals for x in part]
+        return [what for what, found, wanted in [
+            ('the local numerators and P', sum(self.locals), self.sums[1]),
+            ('the local numerators of the classes and their P', [sum(part) for part in self.class_locals], [row[1] for row in self.rows]),
+            ('the classes of each zone and its L', [sum(zone) for zone in zip(*self.class_locals)], self.locals),
+            ('the nine rows and W, P, G', [sum(column) for column in zip(*self.rows)], self.sums),
+            ('the pair of the job', self.pair, self.wanted_pair(*self.sums)),
+            ('the pairs of the classes', self.pairs, [self.wanted_pair(*row) for row in self.rows]),
+            ('the local figures', self.local_figures + self.parts, [figure(Fraction(x, self.spread)) for x in numerators]),
+        ] if found != wanted]
+
+
+# ---- the comparison
+
+def run(program, given):
+    return subprocess.run([program], input=given, capture_output=True, check=True).stdout.decode().splitlines()
+
+
+def batches(jobs):
+    """The jobs, as many together as one run is given."""
+    batch, size = [], 0
+    for made in jobs:
+        more = len(image(made))
+        if size + more > READ:
+            yield batch
+            batch, size = [], 0
+        batch.append(made)
+        size += more
+    yield batch
+
+
+def compare_batch(program, batch):
+    """Answers how many floats were compared."""
+    found, figures = run(program, b''.join(image(made) for made in batch)), 0
+    if len(found) != 3 * len(batch):
+        sys.exit(f'{len(batch)} jobs from {batch[0].name} on have {len(found)} lines')
+    for k, made in enumerate(batch):
+        printed = found[3 * k:3 * k + 3]
+        for wanted, x in zip(lines(made), printed):
+            if wanted != x:
+                sys.exit(f'{made}\nwanted: {wanted}\nfound:  {x}')
+        if not is_refused(made):
+            numbers = Printed(made.n, printed)
+            if numbers.wrong():
+                sys.exit(f'{made}\nprinted numbers that do not agree: {numbers.wrong()}')
+            figures += numbers.count()
+    return figures
+
+
+def compare_cut(program):
+    """Inputs that are cut off: each whole job has its lines."""
+    jobs = [job('one', 2, [3, 5], [0, 1, 2, 0]), ordinary('two'), job('three', 2, [5, 3], [0, 1, 2, 0])]
+    ends = [sum(len(image(made)) for made in jobs[:k + 1]) for k in range(3)]
+    cuts = range(0, ends[-1], 3)
+    for length in cuts:
+        whole = sum(1 for end in ends if end <= length)
+        if run(program, b''.join(image(made) for made in jobs)[:length]) != [x for made in jobs[:whole] for x in lines(made)]:
+            sys.exit(f'input cut off after {length} bytes: other lines than those of its {whole} whole jobs')
+    return len(cuts)
+
+
+def compare_room(program):
+    """Lists as long as the program's arrays, and one longer, which ends the run."""
+    room = {'values': 66, 'locals': 66, 'rows': 30, 'class_locals': 600, 'float_locals': 66, 'float_parts': 600}
+    for name, size in room.items():
+        for over in (0, 1):
+            jobs = [ordinary('one'), resize(ordinary('full'), name, size + over), ordinary('three')]
+            if run(program, b''.join(image(made) for made in jobs)) != [x for made in jobs[:1 if over else 3] for x in lines(made)]:
+                sys.exit(f'{size + over} {name}: other lines than those wanted')
+    return 2 * len(room)
+
+
+def compare(program):
+    rng = random.Random(SEED + 1)
+    jobs = [*drawn(rng, 3600, range(2, 13)), *drawn(rng, 600, range(13, 33)), *drawn(rng, 120, range(33, 65))]
+    jobs += [drawn_job(rng, f'largest-{k}', 64) for k in range(4)]
+    figures = sum(compare_batch(program, batch) for batch in batches(jobs))
+    ended = compare_cut(program) + compare_room(program)
+    refused = sum(1 for made in jobs if is_refused(made))
+    print(f'{len(jobs)} jobs equal, {refused} of them refused by some call; their printed numbers add up, and {figures} floats are the '
+          f'nearest to their ratios; {ended} inputs cut off, or with lists that just fit or do not, equal')
+
+
+def main():
+    if sys.argv[1:] == ['--check']:
+        check()
+    elif len(sys.argv) == 3 and sys.argv[1] == '--compare':
+        compare(sys.argv[2])
+    elif len(sys.argv) == 1:
+        for name, data in kept()[1].items():
+            (HERE / name).write_bytes(data)
+    else:
+        sys.exit(__doc__)
+
+
+if __name__ == '__main__':
+    main()
