@@ -43,7 +43,8 @@ locals-sum f d n =
     sum-cong _ _ n (λ i p. sym (sum-scale (d i) (λ j. pos (f i j) *ℤ d j) n) ∙ sum-cong _ _ n (λ j q. *-left-comm (d i) (pos (f i j)) (d j)))
 
 -- ---- where the m parts of each weight add up to it, in what they count, so do the sums
-module _ (f : ℕ → ℕ → ℕ → ℕ) (g : ℕ → ℕ → ℕ) (m n : ℕ) (shared : (z : ℤ) (i j : ℕ) → i < n → j < n → sum (λ k. pos (f k i j) *ℤ z) m ≡ pos (g i j) *ℤ z) where
+module _ (f : ℕ → ℕ → ℕ → ℕ) (g : ℕ → ℕ → ℕ) (m n : ℕ)
+    (shared : (z : ℤ) (i j : ℕ) → i < n → j < n → sum (λ k. pos (f k i j) *ℤ z) m ≡ pos (g i j) *ℤ z) where
   row-parts : (h : ℕ → ℕ → ℤ) (i : ℕ) → i < n → sum (λ k. row-of (f k) h i n) m ≡ row-of g h i n
   unfolding row-of
   row-parts h i p = sum-swap (λ k j. pos (f k i j) *ℤ h i j) m n ∙ sum-cong _ _ n (λ j q. shared (h i j) i j p q)

@@ -1,9 +1,9 @@
 -- The account's two ways out, and what its contract promises of each. Assumes nothing.
-use mathlib.Core.Path.{_≡_, refl, sym, _∙_}
+use mathlib.Core.Path.{_≡_, sym, _∙_}
 use mathlib.Core.List.{List}
 use Prim.Native.Nat.{ℕ}
-use borrow.Author.Tests.{eq-eqb, ne-eqb}
 use lib.IntN.{ℤ}
+use Rattle.whole.proofs.Rules.{kept-when-refused, worked-when-taken}
 use Rattle.account.specs.Refusals.{account-refusal}
 use Rattle.account.specs.Answers.{number-of, figures-of, job-figures, job-locals, account-figures, account-locals}
 use Rattle.account.specs.declared.Sums.{Sums}
@@ -21,7 +21,9 @@ module _ (n : ℕ) (values : List ℤ) (weights : List ℕ) (locals : List ℤ) 
   -- a refusal, and the list as it was
   pub refused : (k : ℕ) → k ≡ account-refusal n values weights locals → (k ≡ 0 → ⊥) → Promised (Refused k) locals
   unfolding number-of figures-of account-figures account-locals
-  refused k e f = let q = ne-eqb (account-refusal n values weights locals) 0 (λ z. f (e ∙ z)) in (e, (rw q refl, rw q refl))
+  refused k e f =
+      let some : account-refusal n values weights locals ≡ 0 → ⊥ = λ z. f (e ∙ z) in
+      (e, (sym (kept-when-refused _ _ _ some), sym (kept-when-refused _ _ _ some)))
 
   -- the sums, and the local numerators
   pub accounted :
@@ -31,4 +33,4 @@ module _ (n : ℕ) (values : List ℤ) (weights : List ℕ) (locals : List ℤ) 
       left ≡ job-locals n values weights →
       Promised (Accounted sums) left
   unfolding number-of account-figures account-locals
-  accounted sums left z e g = let q = eq-eqb (account-refusal n values weights locals) 0 z in (sym z, (rw q e, rw q g))
+  accounted sums left z e g = (sym z, (e ∙ sym (worked-when-taken _ _ _ z), g ∙ sym (worked-when-taken _ _ _ z)))

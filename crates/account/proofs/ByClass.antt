@@ -1,6 +1,6 @@
 -- The weights of a class: from the list that the code makes of them to the weights that count, their limits, and that each weight counts
 -- in one class. Assumes nothing.
-use mathlib.Core.Path.{_≡_, refl, ap, _∙_}
+use mathlib.Core.Path.{_≡_, refl, _∙_}
 use mathlib.Core.Bool.{Bool, true, false, cond}
 use mathlib.Core.List.{List}
 use Prim.Native.Nat.{ℕ, _+_, _*_, _≤_, _<_}
@@ -55,18 +55,21 @@ module _ (weights classes : List ℕ) (k : ℕ) where
     in-pairs i j p q = in-at (i * n + j) (omega (arith, w .count, within n i j p q))
 
     -- its sums and its local numerators are those of the class
-    pub row-is : (values : List ℤ) → class-row (pair-at (weights-in weights classes k) n) (at values) n ≡ class-row-of n values weights classes k
+    pub row-is :
+        (values : List ℤ) → class-row (pair-at (weights-in weights classes k) n) (at values) n ≡ class-row-of n values weights classes k
     unfolding class-row class-row-of
     row-is values =
         let f = pair-at (weights-in weights classes k) n in
         let g = class-weight weights classes n k in
         rw (weight-cong f g n in-pairs, cross-cong f g n in-pairs (deviation-of (at values) n), squares-cong f g n in-pairs (at values)) refl
 
-    pub locals-in : (values : List ℤ) → job-locals n values (weights-in weights classes k) ≡ table (class-local-of n values weights classes k) n
+    pub locals-in :
+        (values : List ℤ) → job-locals n values (weights-in weights classes k) ≡ table (class-local-of n values weights classes k) n
     unfolding job-locals class-local-of
     locals-in values =
         let d = deviation-of (at values) n in
-        table-cong _ _ n (pos 0) (local-cong (pair-at (weights-in weights classes k) n) (class-weight weights classes n k) n in-pairs d d (λ i p. refl))
+        let f = pair-at (weights-in weights classes k) n in
+        table-cong _ _ n (pos 0) (local-cong f (class-weight weights classes n k) n in-pairs d d (λ i p. refl))
 
 -- ---- each weight counts in one class of the nine
 part-of : (b : Bool) (v : ℕ) (z : ℤ) → pos (cond b v 0) *ℤ z ≡ cond b (pos v *ℤ z) (pos 0)

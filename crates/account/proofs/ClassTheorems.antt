@@ -5,7 +5,7 @@ use mathlib.Core.List.{List, [], _∷_, _++_}
 use Prim.Native.Nat.{ℕ, _+_, _*_, _≤_, _<_}
 use native.Mathlib.Nat as N
 use native.Mathlib.Omega.{arith}
-use borrow.Author.Tests.{le-ltb, eq-eqb}
+use borrow.Author.Tests.{eq-eqb}
 use lib.IntN.{ℤ, pos, _*ℤ_}
 use lib.ListN.{length, getD}
 use Rattle.whole.specs.Rules.{Rule, first-broken, Applies, misfits, size-rules}
@@ -13,7 +13,7 @@ use Rattle.whole.specs.Search.{any-above}
 use Rattle.whole.specs.Sum.{sum}
 use Rattle.whole.specs.Table.{at, pair-at}
 use Rattle.whole.proofs.Lists.{within}
-use Rattle.whole.proofs.Rules.{first-none, first-next, first-least, first-applies}
+use Rattle.whole.proofs.Rules.{first-none, both-hold, first-least, sizes-let-in}
 use Rattle.whole.proofs.Search.{all-within}
 use Rattle.whole.proofs.TableRows as rows
 use Rattle.account.specs.Measures.{deviation-of, weight-of, cross-of, squares-of, local-of}
@@ -33,7 +33,8 @@ module _ (n : ℕ) (values : List ℤ) (weights classes : List ℕ) where
   unfolding class-sums
   class-sums-length = rows.rows-length (λ k. sum-at (class-row-of n values weights classes k)) 9 3
 
-  pub class-sums-at : (k i : ℕ) → k < 9 → i < 3 → at (class-sums n values weights classes) (k * 3 + i) ≡ sum-at (class-row-of n values weights classes k) i
+  pub class-sums-at :
+      (k i : ℕ) → k < 9 → i < 3 → at (class-sums n values weights classes) (k * 3 + i) ≡ sum-at (class-row-of n values weights classes k) i
   unfolding class-sums
   class-sums-at k i h p = rows.rows-at (λ k. sum-at (class-row-of n values weights classes k)) 9 3 k i (pos 0) h p
 
@@ -46,26 +47,35 @@ module _ (n : ℕ) (values : List ℤ) (weights classes : List ℕ) where
   unfolding class-locals
   class-locals-length = rows.rows-length (class-local-of n values weights classes) 9 n
 
-  pub class-locals-at : (k i : ℕ) → k < 9 → i < n → at (class-locals n values weights classes) (k * n + i) ≡ class-local-of n values weights classes k i
+  pub class-locals-at :
+      (k i : ℕ) → k < 9 → i < n → at (class-locals n values weights classes) (k * n + i) ≡ class-local-of n values weights classes k i
   unfolding class-locals
   class-locals-at k i h p = rows.rows-at (class-local-of n values weights classes) 9 n k i (pos 0) h p
+      -- the local numerators of a class add up to its P
 
-  -- ---- the local numerators of a class add up to its P
   pub class-adds-up : (k : ℕ) → sum (class-local-of n values weights classes k) n ≡ class-row-of n values weights classes k .cross
   unfolding class-local-of class-row-of class-row
   class-adds-up k = locals-sum (class-weight weights classes n k) (deviation-of (at values) n) n
 
+-- rule 9
+abbrev above-8 : List ℕ → List Rule
+above-8 classes = (any-above 8 classes, 9) ∷ []
+
 -- ---- where nothing is refused
-module _ (n : ℕ) (values : List ℤ) (weights classes : List ℕ) (lent : List (ℕ × ℕ)) (taken : first-broken (class-rules n values weights classes lent) ≡ 0) where
+module _ (n : ℕ) (values : List ℤ) (weights classes : List ℕ) (lent : List (ℕ × ℕ))
+    (taken : first-broken (class-rules n values weights classes lent) ≡ 0) where
   -- the account refuses nothing either
   pub account-taken : (locals : List ℤ) → length locals ≡ n → account-refusal n values weights locals ≡ 0
   unfolding account-refusal account-rules class-rules job-rules
   account-taken locals l =
-      let last : List Rule = (any-above 8 classes, 9) ∷ [] in
-      let both = first-none (job-rules n values weights ++ last) 0 (size-rules n (class-lengths n (length values) (length weights) (length classes) lent)) (tt, (tt, tt)) taken in
+      let lengths = class-lengths n (length values) (length weights) (length classes) lent in
+      let both = first-none (job-rules n values weights ++ (above-8 classes)) 0 (size-rules n lengths) (tt, (tt, tt)) taken in
       let f = class-fitting n (length values) (length weights) (length classes) lent (both .0) in
-      let rest = first-none last 0 (job-rules n values weights) (tt, (tt, (tt, (tt, (tt, tt))))) (both .1) in
-      rw (le-ltb n 2 (f .two), le-ltb 64 n (f .zones), eq-eqb (length values) n (f .values-fit), eq-eqb (length weights) (n * n) (f .weights-fit), eq-eqb (length locals) n l) (rest .0)
+      let rest = first-none (above-8 classes) 0 (job-rules n values weights) (tt, (tt, (tt, (tt, (tt, tt))))) (both .1) in
+      let own = account-lengths n (length values) (length weights) (length locals) in
+      let fit : misfits own ≡ false = rw (eq-eqb (length values) n (f .values-fit), eq-eqb (length weights) (n * n) (f .weights-fit), eq-eqb (length locals) n l) refl in
+      let sizes = sizes-let-in n own (record { two = f .two; zones = f .zones; fitting = fit }) in
+      both-hold (job-rules n values weights) 0 (size-rules n own) (tt, (tt, tt)) sizes (rest .0)
 
   -- n is 2 to 64
   pub zones-in-range : (2 ≤ n) × (n ≤ 64)
@@ -102,28 +112,36 @@ module _ (n : ℕ) (values : List ℤ) (weights classes : List ℕ) (lent : List
   unfolding class-row-of class-row
   nine-squares = squares-parts (class-weight weights classes n) (pair-at weights n) 9 n shared (at values)
 
-  pub nine-locals : (i : ℕ) → i < n → sum (λ k. class-local-of n values weights classes k i) 9 ≡ local-of (pair-at weights n) (deviation-of (at values) n) n i
+  pub nine-locals :
+      (i : ℕ) → i < n →
+      sum (λ k. class-local-of n values weights classes k i) 9 ≡ local-of (pair-at weights n) (deviation-of (at values) n) n i
   unfolding class-local-of
   nine-locals i p = local-parts (class-weight weights classes n) (pair-at weights n) 9 n shared (deviation-of (at values) n) i p
 
 -- ---- where the account refuses nothing, and the classes are 0 to 8 and every further list fits, nothing is refused
 pub class-taken :
-    (n : ℕ) (values : List ℤ) (weights classes : List ℕ) (locals : List ℤ) (lent : List (ℕ × ℕ)) → account-refusal n values weights locals ≡ 0 →
+    (n : ℕ) (values : List ℤ) (weights classes : List ℕ) (locals : List ℤ) (lent : List (ℕ × ℕ)) →
+    account-refusal n values weights locals ≡ 0 →
     length classes ≡ n * n → ((p : ℕ) → p < n * n → getD classes p 0 ≤ 8) → misfits lent ≡ false →
     first-broken (class-rules n values weights classes lent) ≡ 0
 unfolding account-refusal account-rules class-rules job-rules
 class-taken n values weights classes locals lent taken l low fit =
-    let both = first-none (job-rules n values weights) 0 (size-rules n (account-lengths n (length values) (length weights) (length locals))) (tt, (tt, tt)) taken in
+    let job = job-rules n values weights in
+    let lengths = class-lengths n (length values) (length weights) (length classes) lent in
+    let own = account-lengths n (length values) (length weights) (length locals) in
+    let both = first-none job 0 (size-rules n own) (tt, (tt, tt)) taken in
     let f = fitting n (length values) (length weights) (length locals) (both .0) in
-    let none : any-above 8 classes ≡ false = all-within 8 classes (λ p h. low p (omega arith)) in
-    let last = first-next ((any-above 8 classes, 9) ∷ []) 0 (job-rules n values weights) (tt, (tt, (tt, (tt, (tt, tt))))) (both .1) in
-    let rest : first-broken ((any-above 8 classes, 9) ∷ []) ≡ 0 = rw none refl in
-    rw (le-ltb n 2 (f .two), le-ltb 64 n (f .zones), eq-eqb (length values) n (f .values-fit), eq-eqb (length weights) (n * n) (f .weights-fit), eq-eqb (length classes) (n * n) l, fit) (sym last ∙ rest)
+    let none : first-broken (above-8 classes) ≡ 0 = rw (all-within 8 classes (λ p h. low p (omega arith))) refl in
+    let all : misfits lengths ≡ false = rw (eq-eqb (length values) n (f .values-fit), eq-eqb (length weights) (n * n) (f .weights-fit), eq-eqb (length classes) (n * n) l, fit) refl in
+    let sizes = sizes-let-in n lengths (record { two = f .two; zones = f .zones; fitting = all }) in
+    let later = both-hold (above-8 classes) 0 job (tt, (tt, (tt, (tt, (tt, tt))))) (both .1) none in
+    both-hold (job ++ above-8 classes) 0 (size-rules n lengths) (tt, (tt, tt)) sizes later
 
 -- ---- the refusal is the least number that applies
 module _ (n : ℕ) (values : List ℤ) (weights classes : List ℕ) (lent : List (ℕ × ℕ)) where
   pub class-refusal-least :
-      (number : ℕ) → Applies number (class-rules n values weights classes lent) → first-broken (class-rules n values weights classes lent) ≤ number
+      (number : ℕ) → Applies number (class-rules n values weights classes lent) →
+      first-broken (class-rules n values weights classes lent) ≤ number
   unfolding class-rules job-rules
   class-refusal-least number =
       first-least 0 number (class-rules n values weights classes lent) (tt, (tt, (tt, (tt, (tt, (tt, (tt, (tt, tt))))))))

@@ -9,3 +9,4 @@ pub mod Accepted
 pub mod Answered
 pub mod Theorems
 pub mod ClassTheorems
+pub mod Papers

@@ -6,9 +6,9 @@ use Prim.Native.Nat.{ℕ, zero, suc, _+_, _*_}
 use lib.Dec.{eqb}
 use lib.IntN.{ℤ}
 use lib.ListN.{length}
-use Rattle.whole.specs.Rules.{Rule, first-broken, size-rules}
+use Rattle.whole.specs.Rules.{Rule, first-broken, unless-refused, size-rules}
 use Rattle.whole.specs.Search.{any-above}
-use Rattle.whole.specs.Table.{table-rows, at, pair-at}
+use Rattle.whole.specs.Table.{table, table-rows, at, pair-at}
 use Rattle.account.specs.Measures.{deviation-of, local-of}
 use Rattle.account.specs.Answers.{class-row}
 use Rattle.account.specs.Refusals.{job-rules}
@@ -58,3 +58,19 @@ class-rules n values weights classes lent =
 unfoldable pub class-refusal : ℕ → ℕ → List ℤ → List ℕ → List ℕ → ℕ → ℕ → ℕ
 class-refusal room n values weights classes rows locals =
     first-broken (class-rules n values weights classes ((rows, room) ∷ (locals, 9 * n) ∷ []))
+
+-- ---- what the lent lists hold after the call: the rows as a list of 27 sums, or as nine structs, and the local numerators
+module _ (n : ℕ) (values : List ℤ) (weights classes : List ℕ) where
+  abbrev pub class-account-sums : List ℤ → List ℤ → List ℤ
+  class-account-sums rows locals =
+      unless-refused (class-refusal 27 n values weights classes (length rows) (length locals)) (class-sums n values weights classes) rows
+
+  abbrev pub class-account-rows : List ClassRow → List ℤ → List ClassRow
+  class-account-rows rows locals =
+      unless-refused (class-refusal 9 n values weights classes (length rows) (length locals))
+      (table (class-row-of n values weights classes) 9)
+      rows
+
+  abbrev pub class-account-locals : ℕ → ℕ → List ℤ → List ℤ
+  class-account-locals room rows locals =
+      unless-refused (class-refusal room n values weights classes rows (length locals)) (class-locals n values weights classes) locals

@@ -9,11 +9,9 @@ mod working;
 
 ghost use mathlib.Core.Path.{_≡_};
 ghost use lib.ListN.{length};
-ghost use Rattle.whole.specs.Rules.{unless-refused};
-ghost use Rattle.whole.specs.Table.{table};
 ghost use Rattle.account.specs.Refusals.{account-refusal};
 ghost use Rattle.account.specs.Answers.{number-of, figures-of, account-figures, account-locals};
-ghost use Rattle.account.specs.Classes.{class-row-of, class-sums, class-locals, class-refusal};
+ghost use Rattle.account.specs.Classes.{class-refusal, class-account-sums, class-account-rows, class-account-locals};
 
 // The five whole numbers of a job.
 pub struct Sums {
@@ -70,8 +68,8 @@ pub fn class_account(
     locals: &mut [i64],
 ) -> u8
     ensures number { λ r. ⌜ r ≡ class-refusal 27 n (now (values .entry)) (now (weights .entry)) (now (classes .entry)) (length (now (rows .entry))) (length (now (locals .entry))) ⌝ }
-    ensures sums { λ _. ⌜ now (rows .exit) ≡ unless-refused (class-refusal 27 n (now (values .entry)) (now (weights .entry)) (now (classes .entry)) (length (now (rows .entry))) (length (now (locals .entry)))) (class-sums n (now (values .entry)) (now (weights .entry)) (now (classes .entry))) (now (rows .entry)) ⌝ }
-    ensures numerators { λ _. ⌜ now (locals .exit) ≡ unless-refused (class-refusal 27 n (now (values .entry)) (now (weights .entry)) (now (classes .entry)) (length (now (rows .entry))) (length (now (locals .entry)))) (class-locals n (now (values .entry)) (now (weights .entry)) (now (classes .entry))) (now (locals .entry)) ⌝ }
+    ensures sums { λ _. ⌜ now (rows .exit) ≡ class-account-sums n (now (values .entry)) (now (weights .entry)) (now (classes .entry)) (now (rows .entry)) (now (locals .entry)) ⌝ }
+    ensures numerators { λ _. ⌜ now (locals .exit) ≡ class-account-locals n (now (values .entry)) (now (weights .entry)) (now (classes .entry)) 27 (length (now (rows .entry))) (now (locals .entry)) ⌝ }
 {
     let number = judging::judge_classes(n, values, weights, classes, 27, rows.len(), locals.len());
     if number != 0 {
@@ -91,8 +89,8 @@ pub fn class_rows(
     locals: &mut [i64],
 ) -> u8
     ensures number { λ r. ⌜ r ≡ class-refusal 9 n (now (values .entry)) (now (weights .entry)) (now (classes .entry)) (length (now (rows .entry))) (length (now (locals .entry))) ⌝ }
-    ensures rows { λ _. ⌜ now (rows .exit) ≡ unless-refused (class-refusal 9 n (now (values .entry)) (now (weights .entry)) (now (classes .entry)) (length (now (rows .entry))) (length (now (locals .entry)))) (table (class-row-of n (now (values .entry)) (now (weights .entry)) (now (classes .entry))) 9) (now (rows .entry)) ⌝ }
-    ensures numerators { λ _. ⌜ now (locals .exit) ≡ unless-refused (class-refusal 9 n (now (values .entry)) (now (weights .entry)) (now (classes .entry)) (length (now (rows .entry))) (length (now (locals .entry)))) (class-locals n (now (values .entry)) (now (weights .entry)) (now (classes .entry))) (now (locals .entry)) ⌝ }
+    ensures rows { λ _. ⌜ now (rows .exit) ≡ class-account-rows n (now (values .entry)) (now (weights .entry)) (now (classes .entry)) (now (rows .entry)) (now (locals .entry)) ⌝ }
+    ensures numerators { λ _. ⌜ now (locals .exit) ≡ class-account-locals n (now (values .entry)) (now (weights .entry)) (now (classes .entry)) 9 (length (now (rows .entry))) (now (locals .entry)) ⌝ }
 {
     let worked = rows::work_rows(n, values, weights, classes, rows.len(), locals);
     rows::put_rows(rows, worked)

@@ -12,7 +12,6 @@ use Rattle.nearest.specs.Bits.{value-of}
 use Rattle.account.specs.Measures.{deviation-of, spread-of, weight-of, cross-of, squares-of}
 use Rattle.account.specs.Answers.{job-locals}
 use Rattle.account.specs.Classes.{class-row-of}
-use Rattle.account.specs.declared.ClassRow.{ClassRow}
 use Rattle.report.specs.Coefficients.{job-pair, class-pair}
 use Rattle.report.specs.declared.Coefficient.{Coefficient}
 use Rattle.report.specs.declared.Coefficient.the-variants.{Figure, Weightless}

@@ -1,11 +1,11 @@
 -- The call's two ways out, and what its contract promises of each. Assumes nothing.
-use mathlib.Core.Path.{_≡_, refl, sym, ap, _∙_, subst}
+use mathlib.Core.Path.{_≡_, sym, ap, _∙_, subst}
 use mathlib.Core.List.{[], _∷_}
 use Prim.Native.Nat.{ℕ}
-use borrow.Author.Tests.{eq-eqb, ne-eqb}
 use lib.Ieee.{Float, binary64, round, toBits}
 use lib.IntN.{ℤ, natAbs}
 use Rattle.whole.specs.Integer.{below-zero}
+use Rattle.whole.proofs.Rules.{kept-when-refused, worked-when-taken}
 use Rattle.whole.proofs.Size.{one-above, one-some}
 use Rattle.nearest.specs.Answers.{number-of, figures-of, NearestIn, nearest-refusal, nearest-float, nearest-figures}
 use Rattle.nearest.specs.Nearest.{IsNearest}
@@ -29,10 +29,9 @@ module _ (p q : ℤ) where
 
   pub refused : (k : ℕ) → k ≡ nearest-refusal p q → (k ≡ 0 → ⊥) → Promised (Refused k)
   unfolding number-of figures-of nearest-figures
-  refused k e f = let n = ne-eqb (nearest-refusal p q) 0 (λ z. f (e ∙ z)) in (e, (rw n refl, tt))
+  refused k e f = (e, (sym (kept-when-refused (nearest-refusal p q) _ _ (λ z. f (e ∙ z))), tt))
 
   pub rounded : (x : Float) → nearest-refusal p q ≡ 0 → x ≡ nearest-float p q → Promised (Rounded x)
   unfolding number-of figures-of nearest-figures
   rounded x z e =
-      let n = eq-eqb (nearest-refusal p q) 0 z in
-      (sym z, (rw n (ap (λ (y : Float). y ∷ []) e), rw e (float-nearest p q z)))
+      (sym z, (ap (λ (y : Float). y ∷ []) e ∙ sym (worked-when-taken (nearest-refusal p q) _ _ z), rw e (float-nearest p q z)))

@@ -8,10 +8,10 @@ use lib.Dec.{eqb}
 use lib.Ieee.{Float}
 use lib.IntN.{ℤ}
 use lib.ListN.{length}
-use Rattle.whole.specs.Rules.{Rule, first-broken, outside, misfits, size-rules}
+use Rattle.whole.specs.Rules.{first-broken, outside, misfits, size-rules}
 use Rattle.whole.specs.Search.{any-above}
 use Rattle.whole.specs.Table.{table, at}
-use Rattle.whole.proofs.Rules.{kept-when-refused, worked-when-taken, sizes-hold}
+use Rattle.whole.proofs.Rules.{kept-when-refused, worked-when-taken, beside, sizes-hold}
 use Rattle.account.specs.Measures.{spread-of}
 use Rattle.account.specs.Answers.{job-locals}
 use Rattle.account.specs.Classes.{class-locals, class-rules, class-refusal}
@@ -68,10 +68,6 @@ module _ (n : ℕ) (values : List ℤ) (weights classes : List ℕ) (locals part
   )
 
 -- ---- the numbers on the way
-beside : (a b : Bool) → b ≡ true → (a || b) ≡ true
-beside true b e = refl
-beside false b e = e
-
 -- a number that the last lists give is given whatever the first lists' lengths are
 first-two :
     (range lent a b c : Bool) (rest r : ℕ) → r ≡ cond range 1 (cond lent 2 0) → (r ≡ 0 → ⊥) →
@@ -83,7 +79,8 @@ first-two false false a b c rest r e f = absurd (f e)
 module _ (n : ℕ) (values : List ℤ) (weights classes : List ℕ) where
   -- a number for n or for the two lists of floats is the report's
   pub lent-first :
-      (locals parts : List Float) (r : ℕ) → r ≡ first-broken (size-rules n ((length locals, n) ∷ (length parts, 9 * n) ∷ [])) → (r ≡ 0 → ⊥) →
+      (locals parts : List Float) (r : ℕ) →
+      r ≡ first-broken (size-rules n ((length locals, n) ∷ (length parts, 9 * n) ∷ [])) → (r ≡ 0 → ⊥) →
       r ≡ report-refusal n values weights classes locals parts
   unfolding report-refusal class-rules
   lent-first locals parts r e f =
@@ -105,4 +102,5 @@ module _ (n : ℕ) (values : List ℤ) (weights classes : List ℕ) where
   unfolding report-refusal class-refusal
   then-account locals parts e =
       let own : misfits ((27, 27) ∷ (9 * n, 9 * n) ∷ []) ≡ false = rw (eq-eqb (9 * n) (9 * n) refl) refl in
-      alike ((27, 27) ∷ (9 * n, 9 * n) ∷ []) ((length locals, n) ∷ (length parts, 9 * n) ∷ []) own (sizes-hold n ((length locals, n) ∷ (length parts, 9 * n) ∷ []) e .fitting)
+      let lent : List (ℕ × ℕ) = (length locals, n) ∷ (length parts, 9 * n) ∷ [] in
+      alike ((27, 27) ∷ (9 * n, 9 * n) ∷ []) lent own (sizes-hold n lent e .fitting)

@@ -6,12 +6,12 @@ use Prim.Native.Nat.{ℕ, _+_, _*_, _-_, _≤_, _<_}
 use native.Mathlib.Nat as N
 use native.Mathlib.Omega.{arith}
 use borrow.Author.Tests.{eq-eqb, ne-eqb}
-use lib.Ieee.{Float, binary64, ofBits, toBits}
+use lib.Ieee.{binary64, ofBits}
 use lib.IntN.{ℤ, pos, natAbs, _*ℤ_}
 use lib.ListN.{length, getD}
 use lib.Signed.{_≤ℤ_}
 use Rattle.whole.specs.Integer.{is-zero}
-use Rattle.whole.specs.Rules.{first-broken, misfits}
+use Rattle.whole.specs.Rules.{first-broken}
 use Rattle.whole.specs.Sum.{sum}
 use Rattle.whole.specs.Table.{table, at, pair-at}
 use Rattle.whole.proofs.Rules.{worked-when-taken, kept-when-refused}
@@ -32,7 +32,7 @@ use Rattle.account.specs.declared.Sums as declared
 use Rattle.report.specs.Coefficients.{coefficient, pair-of, job-pair, class-pair, local-figures}
 use Rattle.report.specs.FloatReport.{number-of, pair-in, report-refusal, no-pair, report-whole, report-classes, report-locals, report-parts}
 use Rattle.report.specs.Demand3.{Lent, HandedOut, AcceptedJob, Contracts, Shows, HasPair, Share, Demand3}
-use Rattle.report.specs.Steps.{Ratio, Sums}
+use Rattle.report.specs.Steps.{Ratio, Formable}
 use Rattle.report.specs.declared.Answer.{Answer}
 use Rattle.report.specs.declared.Answer.the-variants.{Refused, Reported}
 use Rattle.report.specs.declared.Pair.{Pair}
@@ -52,13 +52,16 @@ shown : (weight p q : ℤ) → is-zero weight ≡ false → Ratio p q → Shows 
 unfolding coefficient
 shown weight p q e r = rw e (float-nearest p q (ratio-taken p q r))
 
-share : (spread : ℤ) (numerators : List ℤ) (i : ℕ) → i < length numerators → Ratio (at numerators i) spread → Share (at numerators i) spread (local-figures spread numerators) i
+share :
+    (spread : ℤ) (numerators : List ℤ) (i : ℕ) → i < length numerators → Ratio (at numerators i) spread →
+    Share (at numerators i) spread (local-figures spread numerators) i
 unfolding local-figures
 share spread numerators i h r =
-    rw (table-at (λ i. nearest-float (at numerators i) spread) (length numerators) i (ofBits binary64 0) h) (float-nearest (at numerators i) spread (ratio-taken (at numerators i) spread r))
+    rw (table-at (λ i. nearest-float (at numerators i) spread) (length numerators) i (ofBits binary64 0) h)
+    (float-nearest (at numerators i) spread (ratio-taken (at numerators i) spread r))
 
 -- ---- sums have their pair exactly when there is weight, and then 18 does not apply to it
-module _ (n : ℕ) (spread : ℤ) (row : ClassRow) (s : Sums n spread row) where
+module _ (n : ℕ) (spread : ℤ) (row : ClassRow) (s : Formable n spread row) where
   some : pos 1 ≤ℤ row .weight → is-zero (row .weight) ≡ false
   some h = let g = one-some (row .weight) h in ne-eqb (natAbs (row .weight)) 0 (λ e. let z : ⊥ = omega arith in z)
 
@@ -78,13 +81,14 @@ module _ (n : ℕ) (spread : ℤ) (row : ClassRow) (s : Sums n spread row) where
   has-pair : HasPair n spread row (pair-of n spread row)
   unfolding pair-of coefficient
   has-pair = record {
-    moran = λ h. shown (row .weight) (row .cross) (row .weight *ℤ spread) (some h) (moran-ratio n spread row s (some h));
-    geary = λ h. shown (row .weight) (pos ((n - 1) * n) *ℤ row .squares) ((pos 2 *ℤ row .weight) *ℤ spread) (some h) (geary-ratio n spread row s (some h));
+    moran = λ h. shown (row .weight) _ _ (some h) (moran-ratio n spread row s (some h));
+    geary = λ h. shown (row .weight) _ _ (some h) (geary-ratio n spread row s (some h));
     none = λ f. rw (none f) refl;
   }
 
 -- ---- a refusal leaves every lent list as it was
-module _ (n : ℕ) (values : List ℤ) (weights classes : List ℕ) (before : Lent) (out : HandedOut) (c : Contracts n values weights classes before out) where
+module _ (n : ℕ) (values : List ℤ) (weights classes : List ℕ) (before : Lent) (out : HandedOut)
+    (c : Contracts n values weights classes before out) where
   pub account-leaves : (account-refusal n values weights (before .locals) ≡ 0 → ⊥) → out .after .locals ≡ before .locals
   unfolding account.account-locals
   account-leaves f = c .account-lent ∙ kept-when-refused _ _ _ f
@@ -101,7 +105,8 @@ module _ (n : ℕ) (values : List ℤ) (weights classes : List ℕ) (before : Le
   report-leaves f = (c .figures-lent ∙ kept-when-refused _ _ _ f, c .parts-lent ∙ kept-when-refused _ _ _ f)
 
 -- ---- the calls on an accepted job
-module _ (n : ℕ) (values : List ℤ) (weights classes : List ℕ) (before : Lent) (a : AcceptedJob n values weights classes before) where
+module _ (n : ℕ) (values : List ℤ) (weights classes : List ℕ) (before : Lent)
+    (a : AcceptedJob n values weights classes before) where
   abbrev spread : ℤ
   spread = spread-of (at values) n
 
@@ -187,22 +192,48 @@ module _ (n : ℕ) (values : List ℤ) (weights classes : List ℕ) (before : Le
     -- what is formed of them
     whole-pair : HasPair n spread (record { weight = sums .weight; cross = sums .cross; squares = sums .squares }) (job-pair n values weights)
     unfolding job-pair account.class-row
-    whole-pair = has-pair n spread (account.class-row (pair-at weights n) (at values) n) (job.job-sums n values weights classes lent taken)
+    whole-pair = has-pair n spread (account.class-row (pair-at weights n) (at values) n) (job.job-formable n values weights classes lent taken)
 
     class-has : (k : ℕ) → HasPair n spread (class-row-of n values weights classes k) (class-pair n values weights classes k)
     unfolding class-pair
-    class-has k = has-pair n spread (class-row-of n values weights classes k) (job.class-sums-of n values weights classes lent taken k)
+    class-has k = has-pair n spread (class-row-of n values weights classes k) (job.class-formable n values weights classes lent taken k)
+
+    class-pair-holds : (k : ℕ) → k < 9 → HasPair n spread (row-at (out .after .rows) k) (getD (out .report .classes) k no-pair)
+    class-pair-holds k h =
+        subst (λ (r : ClassRow). HasPair n spread r (getD (out .report .classes) k no-pair)) (sym (row-holds k h))
+        (subst (HasPair n spread (class-row-of n values weights classes k)) (sym (pair-holds k h)) (class-has k))
 
     local-share : (i : ℕ) → i < n → Share (at (out .after .locals) i) spread (out .after .figures) i
     local-share i h =
-        rw (locals-hold, figures-hold)
-        (share spread (account.job-locals n values weights) i (omega (arith, job.locals-length n values weights)) (job.local-ratio n values weights classes lent taken i h))
+        let numerators = account.job-locals n values weights in
+        let place : i < length numerators = omega (arith, job.locals-length n values weights) in
+        rw (locals-hold, figures-hold) (share spread numerators i place (job.local-ratio n values weights classes lent taken i h))
 
     class-share : (k i : ℕ) → k < 9 → i < n → Share (at (out .after .class-locals) (k * n + i)) spread (out .after .parts) (k * n + i)
     class-share k i h p =
-        let place : k * n + i < 9 * n = omega (arith, N.mul-le-mul-right n h) in
+        let numerators = class-locals n values weights classes in
+        let within : k * n + i < 9 * n = omega (arith, N.mul-le-mul-right n h) in
+        let place : k * n + i < length numerators = omega (arith, classes-promise.class-locals-length n values weights classes) in
         rw (class-locals-hold, parts-hold)
-        (share spread (class-locals n values weights classes) (k * n + i) (omega (arith, classes-promise.class-locals-length n values weights classes)) (job.class-local-ratio n values weights classes lent taken (k * n + i) place))
+        (share spread numerators (k * n + i) place (job.class-local-ratio n values weights classes lent taken (k * n + i) within))
+
+    -- how they add up
+    class-adds : (k : ℕ) → k < 9 → sum (λ i. at (out .after .class-locals) (k * n + i)) n ≡ row-at (out .after .rows) k .cross
+    class-adds k h =
+        sum-cong _ _ n (λ i p. class-local-holds k i h p)
+        ∙ classes-promise.class-adds-up n values weights classes k
+        ∙ sym (ap (λ (r : ClassRow). r .cross) (row-holds k h))
+
+    zone-adds : (i : ℕ) → i < n → sum (λ k. at (out .after .class-locals) (k * n + i)) 9 ≡ at (out .after .locals) i
+    zone-adds i p =
+        sum-cong _ _ 9 (λ k h. class-local-holds k i h p)
+        ∙ classes-promise.nine-locals n values weights classes lent taken i p
+        ∙ sym (local-holds i p)
+
+    -- a sum over the rows that the list holds is one over the rows of the classes
+    over-rows :
+        (one : ClassRow → ℤ) → sum (λ k. one (row-at (out .after .rows) k)) 9 ≡ sum (λ k. one (class-row-of n values weights classes k)) 9
+    over-rows one = sum-cong _ _ 9 (λ k h. ap one (row-holds k h))
 
     -- ---- demand 3
     pub demand-3 : Demand3 n out
@@ -215,12 +246,12 @@ module _ (n : ℕ) (values : List ℤ) (weights classes : List ℕ) (before : Le
       weight = account-promise.weight-one n values weights (before .locals) (a .account-accepts);
       whole = whole-pair;
       local = local-share;
-      class = λ k h. subst (λ (r : ClassRow). HasPair n spread r (getD (out .report .classes) k no-pair)) (sym (row-holds k h)) (subst (HasPair n spread (class-row-of n values weights classes k)) (sym (pair-holds k h)) (class-has k));
+      class = class-pair-holds;
       class-local = class-share;
       locals-add-up = sum-cong _ _ n local-holds ∙ account-promise.locals-add-up (pair-at weights n) (at values) n;
-      class-locals-add-up = λ k h. sum-cong _ _ n (λ i p. class-local-holds k i h p) ∙ classes-promise.class-adds-up n values weights classes k ∙ sym (ap (λ (r : ClassRow). r .cross) (row-holds k h));
-      zone-adds-up = λ i p. sum-cong _ _ 9 (λ k h. class-local-holds k i h p) ∙ classes-promise.nine-locals n values weights classes lent taken i p ∙ sym (local-holds i p);
-      weights-add-up = sum-cong _ _ 9 (λ k h. ap (λ (r : ClassRow). r .weight) (row-holds k h)) ∙ classes-promise.nine-weights n values weights classes lent taken;
-      numerators-add-up = sum-cong _ _ 9 (λ k h. ap (λ (r : ClassRow). r .cross) (row-holds k h)) ∙ classes-promise.nine-crosses n values weights classes lent taken;
-      squares-add-up = sum-cong _ _ 9 (λ k h. ap (λ (r : ClassRow). r .squares) (row-holds k h)) ∙ classes-promise.nine-squares n values weights classes lent taken;
+      class-locals-add-up = class-adds;
+      zone-adds-up = zone-adds;
+      weights-add-up = over-rows (λ (r : ClassRow). r .weight) ∙ classes-promise.nine-weights n values weights classes lent taken;
+      numerators-add-up = over-rows (λ (r : ClassRow). r .cross) ∙ classes-promise.nine-crosses n values weights classes lent taken;
+      squares-add-up = over-rows (λ (r : ClassRow). r .squares) ∙ classes-promise.nine-squares n values weights classes lent taken;
     }

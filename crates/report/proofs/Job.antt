@@ -1,16 +1,16 @@
 -- What the account promises of an accepted job, as the coefficients are formed from it. Assumes nothing.
-use mathlib.Core.Path.{_≡_, refl, sym, ap, _∙_}
-use mathlib.Core.List.{List, [], _∷_}
+use mathlib.Core.Path.{_≡_, refl, ap}
+use mathlib.Core.List.{List}
 use Prim.Native.Nat.{ℕ, _*_, _≤_, _<_}
 use native.Mathlib.Omega.{arith}
-use lib.IntN.{ℤ, pos, natAbs}
+use lib.IntN.{ℤ, pos}
 use lib.ListN.{length}
 use lib.Signed.{_≤ℤ_}
 use Rattle.whole.specs.Rules.{first-broken}
 use Rattle.whole.specs.Table.{at, pair-at}
 use Rattle.whole.proofs.Table.{table-length, table-at}
 use Rattle.whole.proofs.TableRows.{rows-each}
-use Rattle.account.specs.Measures.{deviation-of, spread-of, weight-of, local-of}
+use Rattle.account.specs.Measures.{deviation-of, spread-of, local-of}
 use Rattle.account.specs.Limits.{Limits}
 use Rattle.account.specs.Answers.{five, class-row, job-figures, job-locals}
 use Rattle.account.specs.Classes.{class-weight, class-row-of, class-local-of, class-sums, class-locals, class-rules}
@@ -19,7 +19,7 @@ use Rattle.account.proofs.Theorems.{accepted-limits, spread-one, weight-above}
 use Rattle.account.proofs.ClassTheorems.{account-taken, zones-in-range, class-limits, class-sums-length, class-sums-row, class-locals-length}
 use Rattle.account.specs.declared.ClassRow.{ClassRow}
 use Rattle.account.specs.declared.Sums as declared
-use Rattle.report.specs.Steps.{Ratio, Sums, Rows, Numerators}
+use Rattle.report.specs.Steps.{Ratio, Formable, FormableRows, Numerators}
 
 -- ---- the local numerators of a job by their places
 pub locals-length : (n : ℕ) (values : List ℤ) (weights : List ℕ) → length (job-locals n values weights) ≡ n
@@ -38,12 +38,15 @@ module _ (n : ℕ) (values : List ℤ) (weights : List ℕ) (sums : declared.Sum
   unfolding job-figures
   spread-is = ap (λ l. at l 1) e
 
-  pub row-is : _≡_ {A = ClassRow} (record { weight = sums .weight; cross = sums .cross; squares = sums .squares }) (class-row (pair-at weights n) (at values) n)
+  pub row-is :
+      _≡_ {A = ClassRow} (record { weight = sums .weight; cross = sums .cross; squares = sums .squares })
+      (class-row (pair-at weights n) (at values) n)
   unfolding job-figures class-row
   row-is = rw (ap (λ l. at l 2) e, ap (λ l. at l 3) e, ap (λ l. at l 4) e) refl
 
 -- ---- what is within the limits
-module _ (n : ℕ) (values : List ℤ) (weights classes : List ℕ) (lent : List (ℕ × ℕ)) (taken : first-broken (class-rules n values weights classes lent) ≡ 0) where
+module _ (n : ℕ) (values : List ℤ) (weights classes : List ℕ) (lent : List (ℕ × ℕ))
+    (taken : first-broken (class-rules n values weights classes lent) ≡ 0) where
   -- the account's own refusal
   none : account-refusal n values weights (job-locals n values weights) ≡ 0
   none = account-taken n values weights classes lent taken (job-locals n values weights) (locals-length n values weights)
@@ -54,7 +57,7 @@ module _ (n : ℕ) (values : List ℤ) (weights classes : List ℕ) (lent : List
   pub varied : pos 1 ≤ℤ spread-of (at values) n
   varied = spread-one n values weights (job-locals n values weights) none
 
-  within : (f : ℕ → ℕ → ℕ) → Limits f (at values) n → Sums n (spread-of (at values) n) (class-row f (at values) n)
+  within : (f : ℕ → ℕ → ℕ) → Limits f (at values) n → Formable n (spread-of (at values) n) (class-row f (at values) n)
   unfolding class-row
   within f limits =
       let range = zones-in-range n values weights classes lent taken in record {
@@ -69,20 +72,22 @@ module _ (n : ℕ) (values : List ℤ) (weights classes : List ℕ) (lent : List
         geary-divisor = limits .geary-divisor;
       }
 
-  pub job-sums : Sums n (spread-of (at values) n) (class-row (pair-at weights n) (at values) n)
-  job-sums = within (pair-at weights n) job-limits
+  pub job-formable : Formable n (spread-of (at values) n) (class-row (pair-at weights n) (at values) n)
+  job-formable = within (pair-at weights n) job-limits
 
-  pub class-sums-of : (k : ℕ) → Sums n (spread-of (at values) n) (class-row-of n values weights classes k)
+  pub class-formable : (k : ℕ) → Formable n (spread-of (at values) n) (class-row-of n values weights classes k)
   unfolding class-row-of
-  class-sums-of k = within (class-weight weights classes n k) (class-limits n values weights classes lent taken k)
+  class-formable k = within (class-weight weights classes n k) (class-limits n values weights classes lent taken k)
 
-  pub class-rows : Rows n (spread-of (at values) n) (class-sums n values weights classes)
+  pub class-rows : FormableRows n (spread-of (at values) n) (class-sums n values weights classes)
   class-rows = record {
     count = class-sums-length n values weights classes;
-    each = λ k h. rw (class-sums-row n values weights classes k h) (class-sums-of k);
+    each = λ k h. rw (class-sums-row n values weights classes k h) (class-formable k);
   }
 
-  share : (f : ℕ → ℕ → ℕ) → Limits f (at values) n → (i : ℕ) → i < n → Ratio (local-of f (deviation-of (at values) n) n i) (spread-of (at values) n)
+  share :
+      (f : ℕ → ℕ → ℕ) → Limits f (at values) n → (i : ℕ) → i < n →
+      Ratio (local-of f (deviation-of (at values) n) n i) (spread-of (at values) n)
   share f limits i h = record { one = varied; divisor = limits .local-divisor; numerator = limits .local-numerator i h }
 
   pub local-ratio : (i : ℕ) → i < n → Ratio (at (job-locals n values weights) i) (spread-of (at values) n)

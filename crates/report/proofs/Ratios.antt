@@ -1,5 +1,5 @@
 -- The ratios of a pair are within the limits of part 2, so that 18 never applies; and what the code's products come to. Assumes nothing.
-use mathlib.Core.Path.{_≡_, refl, sym, ap, _∙_}
+use mathlib.Core.Path.{_≡_, refl, ap, _∙_}
 use mathlib.Core.Bool.{false}
 use mathlib.Core.List.{List}
 use Prim.Native.Nat.{ℕ, _*_, _-_, _≤_}
@@ -16,7 +16,7 @@ use Rattle.whole.proofs.Size.{size-*, some-size, one-some, one-of, one-*}
 use Rattle.nearest.specs.Answers.{nearest-refusal, nearest-float}
 use Rattle.nearest.proofs.Theorems.{not-refused}
 use Rattle.account.specs.declared.ClassRow.{ClassRow}
-use Rattle.report.specs.Steps.{Ratio, Sums, Rows, Numerators}
+use Rattle.report.specs.Steps.{Ratio, Formable, FormableRows, Numerators}
 
 pub ratio-taken : (p q : ℤ) → Ratio p q → nearest-refusal p q ≡ 0
 ratio-taken p q r = not-refused p q (r .one) (r .numerator) (r .divisor)
@@ -27,6 +27,10 @@ ratio-same e f r = rw (e, f) r
 
 pub nearest-same : {p p′ q q′ : ℤ} → p′ ≡ p → q′ ≡ q → nearest-float p′ q′ ≡ nearest-float p q
 nearest-same {p} {p′} {q} {q′} e f = ap (λ v. nearest-float v q′) e ∙ ap (nearest-float p) f
+
+-- a row whose sums are read from locals
+abbrev pub read : ClassRow → ClassRow
+read row = record { weight = r64 (row .weight); cross = r64 (row .cross); squares = r64 (row .squares) }
 
 -- up to 64 zones have up to 4,032 ordered pairs off the diagonal, and two zones have two
 pub ordered-le : (n : ℕ) → n ≤ 64 → (n - 1) * n ≤ 4032
@@ -42,7 +46,7 @@ left-le a b m h g = omega (arith, size-* a b, N.mul-le-mul-left (natAbs a) h)
 right-le : (a b : ℤ) (m : ℕ) → 1 ≤ natAbs a → natAbs (a *ℤ b) ≤ m → natAbs b ≤ m
 right-le a b m h g = omega (arith, size-* a b, N.mul-le-mul-right (natAbs b) h)
 
-module _ (n : ℕ) (spread : ℤ) (row : ClassRow) (s : Sums n spread row) where
+module _ (n : ℕ) (spread : ℤ) (row : ClassRow) (s : Formable n spread row) where
   -- ---- of a job or a class that has weight
   module _ (some : is-zero (row .weight) ≡ false) where
     weight-one : pos 1 ≤ℤ row .weight
@@ -79,7 +83,9 @@ module _ (n : ℕ) (spread : ℤ) (row : ClassRow) (s : Sums n spread row) where
   cross-is = rd w64 (val (row .cross) ratio-limit (s .moran-numerator)) tt
 
   squares-is : Is (r64 (row .squares)) (row .squares) ratio-limit
-  squares-is = rd w64 (val (row .squares) ratio-limit (right-le (pos ((n - 1) * n)) (row .squares) ratio-limit (ordered-some n (s .two)) (s .geary-numerator))) tt
+  squares-is =
+      let bound = right-le (pos ((n - 1) * n)) (row .squares) ratio-limit (ordered-some n (s .two)) (s .geary-numerator) in
+      rd w64 (val (row .squares) ratio-limit bound) tt
 
   -- W × M, which divides P
   pub moran-divisor-is : Is (r64 (row .weight) *ℤ r64 spread) (row .weight *ℤ spread) ratio-limit
@@ -98,14 +104,14 @@ module _ (n : ℕ) (spread : ℤ) (row : ClassRow) (s : Sums n spread row) where
   geary-divisor-is = to ratio-limit (is-* (rd w64 twice-is tt) spread-is) refl (s .geary-divisor)
 
   -- the sums as they are read from locals are the sums
-  pub row-read : _≡_ {A = ClassRow} (record { weight = r64 (row .weight); cross = r64 (row .cross); squares = r64 (row .squares) }) row
+  pub row-read : read row ≡ row
   row-read = rw (weight-is .same, cross-is .same, squares-is .same) refl
 
 -- the same sums and spread by other names
-pub sums-same : {n : ℕ} {m m′ : ℤ} {r r′ : ClassRow} → m′ ≡ m → r′ ≡ r → Sums n m r → Sums n m′ r′
-sums-same e f s = rw (e, f) s
+pub formable-same : {n : ℕ} {m m′ : ℤ} {r r′ : ClassRow} → m′ ≡ m → r′ ≡ r → Formable n m r → Formable n m′ r′
+formable-same e f s = rw (e, f) s
 
-pub rows-same : {n : ℕ} {m m′ : ℤ} {l l′ : List ℤ} → m′ ≡ m → l′ ≡ l → Rows n m l → Rows n m′ l′
+pub rows-same : {n : ℕ} {m m′ : ℤ} {l l′ : List ℤ} → m′ ≡ m → l′ ≡ l → FormableRows n m l → FormableRows n m′ l′
 rows-same e f r = rw (e, f) r
 
 pub numerators-same : {m m′ : ℤ} {l l′ : List ℤ} → m′ ≡ m → l′ ≡ l → Numerators m l → Numerators m′ l′

@@ -7,12 +7,11 @@ use lib.Ieee.{Float, binary64, ofBits, toBits}
 use lib.IntN.{ℤ, pos, _*ℤ_}
 use lib.ListN.{length, getD}
 use lib.Signed.{_≤ℤ_}
-use Rattle.whole.specs.Rules.{unless-refused}
 use Rattle.whole.specs.Sum.{sum}
 use Rattle.whole.specs.Table.{at}
 use Rattle.nearest.specs.Nearest.{IsNearest}
 use Rattle.account.specs.Answers as account
-use Rattle.account.specs.Classes.{row-at, class-sums, class-locals, class-refusal}
+use Rattle.account.specs.Classes.{row-at, class-refusal, class-account-sums, class-account-locals}
 use Rattle.account.specs.Refusals.{account-refusal}
 use Rattle.account.specs.declared.Answer as account-answer
 use Rattle.account.specs.declared.Answer.the-variants.{Accounted}
@@ -59,10 +58,9 @@ module _ (n : ℕ) (values : List ℤ) (weights classes : List ℕ) where
     pub account-figures : account.figures-of (out .answer) ≡ account.account-figures n values weights (before .locals)
     pub account-lent : out .after .locals ≡ account.account-locals n values weights (before .locals)
     pub class-number : out .number ≡ class-refusal 27 n values weights classes (length (before .rows)) (length (before .class-locals))
-    pub class-sums-lent :
-        out .after .rows ≡ unless-refused (class-refusal 27 n values weights classes (length (before .rows)) (length (before .class-locals))) (class-sums n values weights classes) (before .rows)
+    pub class-sums-lent : out .after .rows ≡ class-account-sums n values weights classes (before .rows) (before .class-locals)
     pub class-locals-lent :
-        out .after .class-locals ≡ unless-refused (class-refusal 27 n values weights classes (length (before .rows)) (length (before .class-locals))) (class-locals n values weights classes) (before .class-locals)
+        out .after .class-locals ≡ class-account-locals n values weights classes 27 (length (before .rows)) (before .class-locals)
     pub report-number : number-of (out .report .whole) ≡ report-refusal n values weights classes (before .figures) (before .parts)
     pub whole-pair : pair-in (out .report .whole) ≡ report-whole n values weights classes (before .figures) (before .parts)
     pub class-pairs : out .report .classes ≡ report-classes n values weights classes (before .figures) (before .parts)
@@ -99,7 +97,8 @@ pub record Demand3 (n : ℕ) (out : HandedOut) : Type 0 where
   pub local : (i : ℕ) → i < n → Share (at (out .after .locals) i) (sums .spread) (out .after .figures) i
   -- each class has its pair exactly when it has weight; each zone its local figure in each class, always
   pub class : (k : ℕ) → k < 9 → HasPair n (sums .spread) (row-at (out .after .rows) k) (getD (out .report .classes) k no-pair)
-  pub class-local : (k i : ℕ) → k < 9 → i < n → Share (at (out .after .class-locals) (k * n + i)) (sums .spread) (out .after .parts) (k * n + i)
+  pub class-local :
+      (k i : ℕ) → k < 9 → i < n → Share (at (out .after .class-locals) (k * n + i)) (sums .spread) (out .after .parts) (k * n + i)
   -- the local numerators of the job, and of each class, add up to its numerator; those of a zone over the nine classes to the zone's own
   pub locals-add-up : sum (at (out .after .locals)) n ≡ sums .cross
   pub class-locals-add-up : (k : ℕ) → k < 9 → sum (λ i. at (out .after .class-locals) (k * n + i)) n ≡ row-at (out .after .rows) k .cross

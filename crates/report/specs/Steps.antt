@@ -17,7 +17,7 @@ pub record Ratio (p q : ℤ) : Type 0 where
   pub numerator : natAbs p ≤ ratio-limit
 
 -- the spread of up to 64 zones, and sums from which coefficients can be formed
-pub record Sums (n : ℕ) (spread : ℤ) (row : ClassRow) : Type 0 where
+pub record Formable (n : ℕ) (spread : ℤ) (row : ClassRow) : Type 0 where
   pub two : 2 ≤ n
   pub zones : n ≤ 64
   pub varied : pos 1 ≤ℤ spread
@@ -29,9 +29,9 @@ pub record Sums (n : ℕ) (spread : ℤ) (row : ClassRow) : Type 0 where
   pub geary-divisor : natAbs ((pos 2 *ℤ row .weight) *ℤ spread) ≤ ratio-limit
 
 -- the nine class rows
-pub record Rows (n : ℕ) (spread : ℤ) (rows : List ℤ) : Type 0 where
+pub record FormableRows (n : ℕ) (spread : ℤ) (rows : List ℤ) : Type 0 where
   pub count : length rows ≡ 27
-  pub each : (k : ℕ) → k < 9 → Sums n spread (row-at rows k)
+  pub each : (k : ℕ) → k < 9 → Formable n spread (row-at rows k)
 
 -- local numerators, and the spread that divides them
 pub record Numerators (spread : ℤ) (numerators : List ℤ) : Type 0 where

@@ -10,7 +10,7 @@ ghost use Rattle.whole.specs.Table.{table};
 ghost use Rattle.nearest.specs.Answers.{nearest-float};
 ghost use Rattle.account.specs.Classes.{row-at};
 ghost use Rattle.report.specs.Coefficients.{pair-of, local-figures};
-ghost use Rattle.report.specs.Steps.{Ratio, Sums, Rows, Numerators};
+ghost use Rattle.report.specs.Steps.{Ratio, Formable, FormableRows, Numerators};
 
 // The nearest float to p over q. No refusal can come, so its arm gives a float that nobody meets.
 pub fn ratio(p: i64, q: i64) -> f64
@@ -25,7 +25,7 @@ pub fn ratio(p: i64, q: i64) -> f64
 
 // Moran and Geary of the sums of a job or of a class.
 pub fn pair(n: usize, spread: i64, row: ClassRow) -> Pair
-    requires { ⌜ Sums n spread row ⌝ }
+    requires { ⌜ Formable n spread row ⌝ }
     ensures { λ r. ⌜ r ≡ pair-of n spread row ⌝ }
 {
     let weight = row.weight;
@@ -49,7 +49,7 @@ pub fn pair(n: usize, spread: i64, row: ClassRow) -> Pair
 
 // The pair of class k, from the list of the nine rows.
 pub fn class_pair(n: usize, spread: i64, rows: &[i64], k: usize) -> Pair
-    requires { ⌜ Rows n spread (now rows) ⌝ }
+    requires { ⌜ FormableRows n spread (now rows) ⌝ }
     requires { ⌜ k < 9 ⌝ }
     ensures { λ r. ⌜ r ≡ pair-of n spread (row-at (now (rows .entry)) k) ⌝ }
 {
@@ -74,7 +74,7 @@ pub struct ClassPairs {
 }
 
 pub fn class_pairs(n: usize, spread: i64, rows: &[i64]) -> ClassPairs
-    requires { ⌜ Rows n spread (now rows) ⌝ }
+    requires { ⌜ FormableRows n spread (now rows) ⌝ }
     ensures { λ r. ⌜ r .pairs ≡ table (λ k. pair-of n spread (row-at (now (rows .entry)) k)) 9 ⌝ }
 {
     let pair_0 = class_pair(n, spread, rows, 0);

@@ -1,12 +1,12 @@
 -- Laws of `first-broken`: what a judge that tests rule by rule has shown, and that its answer is the least number that applies.
 -- Assumes nothing.
-use mathlib.Core.Path.{_≡_, refl, sym, subst}
+use mathlib.Core.Path.{_≡_, refl, sym, _∙_, subst}
 use mathlib.Core.Bool.{Bool, true, false, not, cond, _||_}
 use mathlib.Core.List.{List, [], _∷_, _++_}
 use mathlib.Core.Logic.{inl, inr, ⊎-elim}
 use Prim.Native.Nat.{ℕ, suc, _≤_, _<_}
 use native.Mathlib.Omega.{arith}
-use borrow.Author.Tests.{eq-eqb, ne-eqb, ltb-false, eqb-true, not-false}
+use borrow.Author.Tests.{le-ltb, eq-eqb, ne-eqb, ltb-false, eqb-true, not-false}
 use lib.Dec.{T, ltb, ltb→lt, eqb}
 use Rattle.whole.specs.Rules.{Rule, first-broken, Applies, unless-refused, outside, misfits, size-rules}
 
@@ -41,6 +41,10 @@ module _ (rest : List Rule) where
   first-none k ((true, m) ∷ rules) g e = let h = ltb→lt k m (g .0) in let z : ⊥ = omega arith in absurd z
   first-none k ((false, m) ∷ rules) g e = first-none m rules (g .1) e
 
+  -- and where none of either is, none of both
+  pub both-hold : (k : ℕ) (rules : List Rule) → Rising k rules → first-broken rules ≡ 0 → first-broken rest ≡ 0 → first-broken (rules ++ rest) ≡ 0
+  both-hold k rules g e f = sym (first-next k rules g e) ∙ f
+
 -- ---- the least number that applies
 above : (k m : ℕ) (rules : List Rule) → Rising k rules → Applies m rules → k < m
 above k m (rule ∷ rules) g a =
@@ -69,6 +73,11 @@ pub neither : (a b : Bool) → (a || b) ≡ false → (a ≡ false) × (b ≡ fa
 neither false b e = (refl, e)
 neither true b e = absurd (subst T e tt)
 
+-- and it is broken where the second passes
+pub beside : (a b : Bool) → b ≡ true → (a || b) ≡ true
+beside true b e = refl
+beside false b e = e
+
 -- ---- what the first two rules tell where they hold
 pub in-range : (lowest highest n : ℕ) → outside lowest highest n ≡ false → (lowest ≤ n) × (n ≤ highest)
 in-range lowest highest n e = let f = neither (ltb n lowest) (ltb highest n) e in (ltb-false n lowest (f .0), ltb-false highest n (f .1))
@@ -91,3 +100,6 @@ sizes-hold n lengths e =
     let e2 = holds (misfits lengths) 1 0 (e1 .1) in
     let r = in-range 2 64 n (e1 .0) in
     record { two = r .0; zones = r .1; fitting = e2 .0 }
+
+pub sizes-let-in : (n : ℕ) (lengths : List (ℕ × ℕ)) → Sizes n lengths → first-broken (size-rules n lengths) ≡ 0
+sizes-let-in n lengths s = rw (le-ltb n 2 (s .two), le-ltb 64 n (s .zones), s .fitting) refl

@@ -12,6 +12,7 @@ use lib.IntN.{ℤ, natAbs}
 use lib.ListN.{length, getD}
 use Rattle.whole.specs.Search.{some, any-beyond, any-above}
 use Rattle.whole.specs.Table.{at}
+use Rattle.whole.proofs.Rules.{beside}
 
 module _ (test : ℕ → Bool) where
   -- before the first
@@ -30,12 +31,8 @@ module _ (test : ℕ → Bool) where
   some-hit zero k h e = let z : ⊥ = omega arith in absurd z
   some-hit (suc n) k h e = pick (ℕ-discrete k n) (λ (q : k < n). some-hit n k q e)
     where
-      right : (a b : Bool) → b ≡ true → (a || b) ≡ true
-      right true b p = refl
-      right false b p = p
-
       pick : Dec (k ≡ n) → (k < n → some test n ≡ true) → (some test n || test n) ≡ true
-      pick (yes p) g = right (some test n) (test n) (ap test (sym p) ∙ e)
+      pick (yes p) g = beside (some test n) (test n) (ap test (sym p) ∙ e)
       pick (no p) g = rw (g (omega arith)) refl
 
   -- none passes

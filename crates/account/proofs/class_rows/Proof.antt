@@ -114,7 +114,8 @@ module _ {M : Type 1} (𝓤 : URA M) (H : Heap 𝓤) (A : Atoms 𝓤) (mem : Mem
   Put = tripleOf 𝓤 H A put.signature (put.spec 𝓤 H A mem run)
 
 -- the arguments: n, the values v, the weights w, the classes c, the rows y and the locals m, with the lifetimes and tokens of the five lists
-module _ {M : Type 1} (𝓤 : URA M) (H : Heap 𝓤) (A : Atoms 𝓤) (W : Given 𝓤 H A) (mem : Memory → SProp 𝓤) (run : Routine → Fun 𝓤) (κ₀ κ₁ κ₂ κ₃ κ₄ : Lft) (q₀ q₁ q₂ q₃ q₄ : Share) (n : ℕ) (v : RefT (List ℤ)) (w c : RefT (List ℕ)) (y : RefT (List ClassRow)) (m : RefT (List ℤ)) where
+module _ {M : Type 1} (𝓤 : URA M) (H : Heap 𝓤) (A : Atoms 𝓤) (W : Given 𝓤 H A) (mem : Memory → SProp 𝓤) (run : Routine → Fun 𝓤)
+    (κ₀ κ₁ κ₂ κ₃ κ₄ : Lft) (q₀ q₁ q₂ q₃ q₄ : Share) (n : ℕ) (v : RefT (List ℤ)) (w c : RefT (List ℕ)) (y : RefT (List ClassRow)) (m : RefT (List ℤ)) where
   abbrev κs : Lfts 5
   κs = (κ₀, (κ₁, (κ₂, (κ₃, (κ₄, tt)))))
 
@@ -249,7 +250,8 @@ module _ {M : Type 1} (𝓤 : URA M) (H : Heap 𝓤) (A : Atoms 𝓤) (W : Given
       move ! (3 ∷ 0 ∷ []) $ fjoin ! $ move ! (2 ∷ 0 ∷ []) $ fjoin ! $ nothing ! $ fjoin ! $ nothing ! $ fjoin ! $ nothing ! $ fjoin ! $
       nothing ! $ fjoin ! $ frame ! $ done !
 
-  module _ (C : Calls 𝓤 H) (Λ : Loops 𝓤 H) (fm : FmC 𝓤 H (W .laws) C) (known-work : Triple 𝓤 (C #account·rows·work-rows) (Work 𝓤 H A mem run)) (known-put : Triple 𝓤 (C #account·rows·put-rows) (Put 𝓤 H A mem run)) where
+  module _ (C : Calls 𝓤 H) (Λ : Loops 𝓤 H) (fm : FmC 𝓤 H (W .laws) C)
+      (known-work : Triple 𝓤 (C #account·rows·work-rows) (Work 𝓤 H A mem run)) (known-put : Triple 𝓤 (C #account·rows·put-rows) (Put 𝓤 H A mem run)) where
     walk :
         n < 2 ^ 64 → Room i32 (length (v .now)) → Room u8 (length (w .now)) → Room u8 (length (c .now)) → Room T.the-row (length (y .now)) →
         Room i64 (length (m .now)) →

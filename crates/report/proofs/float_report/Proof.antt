@@ -1,11 +1,11 @@
 -- `float_report` meets its contract: its own lists are judged, then the class account judges and works, then the figures are formed.
 -- Assumes nothing.
-use mathlib.Core.Path.{_≡_, refl, sym, ap, _∙_}
+use mathlib.Core.Path.{_≡_, sym, ap, _∙_}
 use mathlib.Core.List.{List, [], _∷_}
 use Prim.Native.Nat.{ℕ, _*_, _≤_}
 use native.Mathlib.Omega.{arith}
 use lib.IntN.{ℤ}
-use lib.ListN.{length, take}
+use lib.ListN.{length}
 use lib.Seq.{length-take-le}
 use Rattle.whole.specs.Rules.{first-broken, size-rules}
 use Rattle.whole.proofs.Lists.{front, front-le, front-length}
@@ -49,7 +49,8 @@ refused-requires c κs = tt
 returns : tie.Need-returns
 returns c =
     let b = c .before .before in
-    refused _ _ _ _ _ _ _ _ (c .refused .ensures) (lent-first _ _ _ _ _ _ _ (b .judge-lent .ensures) (c .before .if1 .taken)) (c .before .if1 .taken)
+    let some = c .before .if1 .taken in
+    refused _ _ _ _ _ _ _ _ (c .refused .ensures) (lent-first _ _ _ _ _ _ _ (b .judge-lent .ensures) some) some
 
 mul-places : tie.Need-mul-places
 mul-places c = omega (arith, sized c .zones)
@@ -81,25 +82,36 @@ module _ (c : tie.After-class-account) where
   abbrev s : tie.Start
   s = start (judged .before)
 
+  abbrev n : ℕ
+  n = s .args .n
+
+  abbrev values : List ℤ
+  values = s .args .values .now
+
+  abbrev weights : List ℕ
+  weights = s .args .weights .now
+
+  abbrev classes : List ℕ
+  classes = s .args .classes .now
+
   abbrev refusal : ℕ
-  refusal = class-refusal 27 (s .args .n) (s .args .values .now) (s .args .weights .now) (s .args .classes .now) 27 (9 * s .args .n)
+  refusal = class-refusal 27 n values weights classes 27 (9 * n)
 
   found : c .class-account .result ≡ refusal
   found =
-      c .class-account .ensures .0
-      ∙ ap (class-refusal 27 (s .args .n) (s .args .values .now) (s .args .weights .now) (s .args .classes .now) 27) (length-take-le _ _ (room judged))
+      c .class-account .ensures .0 ∙ ap (class-refusal 27 n values weights classes 27) (length-take-le _ _ (room judged))
 
-  reports : refusal ≡ report-refusal (s .args .n) (s .args .values .now) (s .args .weights .now) (s .args .classes .now) (s .args .locals .now) (s .args .parts .now)
-  reports = then-account (s .args .n) (s .args .values .now) (s .args .weights .now) (s .args .classes .now) (s .args .locals .now) (s .args .parts .now) (none judged)
+  reports : refusal ≡ report-refusal n values weights classes (s .args .locals .now) (s .args .parts .now)
+  reports = then-account n values weights classes (s .args .locals .now) (s .args .parts .now) (none judged)
 
   abbrev numerators : List ℤ
-  numerators = class-locals (s .args .n) (s .args .values .now) (s .args .weights .now) (s .args .classes .now)
+  numerators = class-locals n values weights classes
 
-  as-long : length numerators ≡ 9 * s .args .n
-  as-long = class-locals-length (s .args .n) (s .args .values .now) (s .args .weights .now) (s .args .classes .now)
+  as-long : length numerators ≡ 9 * n
+  as-long = class-locals-length n values weights classes
 
   module _ (z : c .class-account .result ≡ 0) where
-    rows-left : c .class-account .last .1 .1 .1 .1 .0 ≡ class-sums (s .args .n) (s .args .values .now) (s .args .weights .now) (s .args .classes .now)
+    rows-left : c .class-account .last .1 .1 .1 .1 .0 ≡ class-sums n values weights classes
     rows-left = c .class-account .ensures .1 .0 ∙ worked-when-taken _ _ _ (sym (c .class-account .ensures .0) ∙ z)
 
     numerators-left : c .class-account .last .1 .1 .1 .1 .1 .0 ≡ numerators
@@ -112,7 +124,10 @@ returns-2 c =
     refused _ _ _ _ _ _ _ _ (c .refused2 .ensures) (found b ∙ reports b) (t .if2 .taken)
 
 slice-aggregate-report-job : tie.Need-slice-aggregate-report-job
-slice-aggregate-report-job c = let e = c .before in let b = e .before .before .before in sym (ap length (rows-left b (e .if2 .left)) ∙ class-sums-length _ _ _ _)
+slice-aggregate-report-job c =
+    let e = c .before in
+    let b = e .before .before .before in
+    sym (ap length (rows-left b (e .if2 .left)) ∙ class-sums-length (n b) (values b) (weights b) (classes b))
 
 array-share-prefix-numerators : tie.Need-array-share-prefix-numerators
 array-share-prefix-numerators c =

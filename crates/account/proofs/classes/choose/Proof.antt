@@ -1,12 +1,10 @@
 -- `choose` meets its contract. The loop's invariant: what was passed holds the class's weights. Assumes nothing.
 use mathlib.Core.Path.{_≡_, refl}
-use mathlib.Core.Bool.{cond}
 use mathlib.Core.List.{List}
 use mathlib.Core.Logic.{⊎-elim}
 use Prim.Native.Nat.{ℕ, _+_, _-_, _≤_, _<_}
 use native.Mathlib.Omega.{arith}
 use borrow.Author.Tests.{eq-eqb, ne-eqb}
-use lib.Dec.{eqb}
 use lib.ListN.{length, getD, set, length-set}
 use Rattle.whole.proofs.Table.{is-table, stored}
 use Rattle.account.specs.Steps.{weights-in}
@@ -29,7 +27,8 @@ abbrev μ-loop : tie.MeasureT-loop
 μ-loop weights classes k own₀ p₀ own p = length weights - p
 
 -- one more store
-module _ (weights classes : List ℕ) (k p : ℕ) (own : List ℕ) (h : p < length weights) (l : length own ≡ length weights) (g : (t : ℕ) → t < p → getD own t 0 ≡ chosen weights classes k t) where
+module _ (weights classes : List ℕ) (k p : ℕ) (own : List ℕ) (h : p < length weights) (l : length own ≡ length weights)
+    (g : (t : ℕ) → t < p → getD own t 0 ≡ chosen weights classes k t) where
   next :
       (v : ℕ) (now : List ℕ) → v ≡ chosen weights classes k p → now ≡ set own p v →
       (length now ≡ length weights) × ((t : ℕ) → t < p + 1 → getD now t 0 ≡ chosen weights classes k t)
@@ -75,7 +74,8 @@ unfolding weights-in
 returns c =
     let b = c .before in
     let a = b .before .args in
-    is-table (chosen (a .weights .now) (a .classes .now) (a .k)) (length (a .weights .now)) 0 (b .loop .own) (b .loop .inv .1 .0) (λ t p. b .loop .inv .1 .1 t (omega arith))
+    let i = b .loop .inv .1 in
+    is-table (chosen (a .weights .now) (a .classes .now) (a .k)) (length (a .weights .now)) 0 (b .loop .own) (i .0) (λ t p. i .1 t (omega arith))
 
 pub choose-spec : {M : Type 1} → statement M
 choose-spec =

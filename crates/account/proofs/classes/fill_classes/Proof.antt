@@ -52,7 +52,10 @@ loop-holds c =
     }
 
 -- the place at which class k begins, and what follows its part
-ends : (c : tie.In-loop Inv-loop μ-loop) → c .before .loop .k * c .before .before .before .before .args .n + c .before .before .before .before .args .n ≤ 576
+ends :
+    (c : tie.In-loop Inv-loop μ-loop) →
+    let n = c .before .before .before .before .args .n in
+    c .before .loop .k * n + n ≤ 576
 ends c =
     let a = c .before .before .before .before in
     omega (arith, part-of-locals (a .args .n) (c .before .loop .k) (9 * a .args .n) (c .loop-test .taken) refl, a .pre .0 .valued .zones)

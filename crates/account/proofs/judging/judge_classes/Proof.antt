@@ -8,7 +8,7 @@ use Rattle.whole.specs.Search.{any-above}
 use Rattle.whole.proofs.Rules.{first-here, first-next}
 use Rattle.account.specs.Refusals.{job-rules}
 use Rattle.account.specs.Classes.{class-rules, class-refusal}
-use Rattle.account.proofs.Accepted.{class-lengths, ClassFitting, class-fitting}
+use Rattle.account.proofs.Accepted.{class-lengths, class-fitting}
 use Rattle.account.proofs.judging.judge_classes.Statement.{statement}
 use Rattle.account.proofs.judging.judge_classes.Tie as tie
 
@@ -21,7 +21,9 @@ module _ (c : tie.After-judge-class-sizes) where
   lent = (a .args .rows, a .args .room) ∷ (a .args .locals, 9 * a .args .n) ∷ []
 
   abbrev sizes : List Rule
-  sizes = size-rules (a .args .n) (class-lengths (a .args .n) (length (a .args .values .now)) (length (a .args .weights .now)) (length (a .args .classes .now)) lent)
+  sizes =
+      let g = a .args in
+      size-rules (g .n) (class-lengths (g .n) (length (g .values .now)) (length (g .weights .now)) (length (g .classes .now)) lent)
 
   abbrev job : List Rule
   job = job-rules (a .args .n) (a .args .values .now) (a .args .weights .now)
@@ -29,7 +31,10 @@ module _ (c : tie.After-judge-class-sizes) where
   abbrev last : List Rule
   last = (any-above 8 (a .args .classes .now), 9) ∷ []
 
-  found : (r : ℕ) → r ≡ first-broken (sizes ++ (job ++ last)) → r ≡ class-refusal (a .args .room) (a .args .n) (a .args .values .now) (a .args .weights .now) (a .args .classes .now) (a .args .rows) (a .args .locals)
+  found :
+      (r : ℕ) → r ≡ first-broken (sizes ++ (job ++ last)) →
+      let g = a .args in
+      r ≡ class-refusal (g .room) (g .n) (g .values .now) (g .weights .now) (g .classes .now) (g .rows) (g .locals)
   unfolding class-refusal class-rules
   found r e = e
 
@@ -70,7 +75,10 @@ any-above-requires : tie.Need-any-above-requires
 any-above-requires c κs = tt
 
 -- a number for the classes, where all before them is good
-nine : (c : tie.Else2) (r : ℕ) → r ≡ first-broken (last (c .before .before .before)) → r ≡ first-broken (sizes (c .before .before .before) ++ (job (c .before .before .before) ++ last (c .before .before .before)))
+nine :
+    (c : tie.Else2) (r : ℕ) →
+    let b = c .before .before .before in
+    r ≡ first-broken (last b) → r ≡ first-broken (sizes b ++ (job b ++ last b))
 nine c r f = let b = c .before .before .before in then-job b (sizes-good (c .before .before)) r (then-last b (job-good c) r f)
 
 returns-3 : tie.Need-returns-3

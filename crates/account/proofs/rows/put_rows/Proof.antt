@@ -97,7 +97,8 @@ abbrev one : ClassRow → Val
 one r =
     vstruct (vcons (vint w64 (ofZ w64 (r .weight))) (vcons (vint w64 (ofZ w64 (r .cross))) (vcons (vint w64 (ofZ w64 (r .squares))) vnil)))
 
-module _ {M : Type 1} (𝓤 : URA M) (H : Heap 𝓤) (A : Atoms 𝓤) (W : Given 𝓤 H A) (mem : Memory → SProp 𝓤) (run : Routine → Fun 𝓤) (κ : Lft) (q : Share) (b o : ℕ) (γ : GName) (ys : List ClassRow) (c : Worked) where
+module _ {M : Type 1} (𝓤 : URA M) (H : Heap 𝓤) (A : Atoms 𝓤) (W : Given 𝓤 H A) (mem : Memory → SProp 𝓤) (run : Routine → Fun 𝓤)
+    (κ : Lft) (q : Share) (b o : ℕ) (γ : GName) (ys : List ClassRow) (c : Worked) where
   abbrev mach : Val
   mach =
       vstruct (vcons (vint w8 (c .refusal))

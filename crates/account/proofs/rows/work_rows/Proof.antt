@@ -3,10 +3,10 @@ use mathlib.Core.Path.{_≡_, refl, sym, ap, _∙_}
 use mathlib.Core.List.{List}
 use Prim.Native.Nat.{ℕ}
 use borrow.Author.Needs.{needs}
-use borrow.Author.Tests.{eq-eqb, ne-eqb}
 use lib.IntN.{ℤ}
 use lib.ListN.{length}
 use Rattle.whole.specs.Table.{table, table-rows}
+use Rattle.whole.proofs.Rules.{kept-when-refused, worked-when-taken}
 use Rattle.account.specs.Classes.{class-row-of, class-sums, class-locals, class-refusal, row-at}
 use Rattle.account.specs.Steps.{nine-of, Packed}
 use Rattle.account.specs.declared.rows.Worked.{Worked}
@@ -27,7 +27,7 @@ module _ (n : ℕ) (values : List ℤ) (weights classes : List ℕ) where
     refused k e f p = record {
       number = p ∙ e;
       nine = λ z. absurd (f (sym p ∙ z));
-      numerators = rw (ne-eqb (class-refusal 9 n values weights classes rows (length locals)) 0 (λ z. f (e ∙ z))) refl;
+      numerators = sym (kept-when-refused _ _ _ (λ z. f (e ∙ z)));
     }
 
     worked :
@@ -37,7 +37,7 @@ module _ (n : ℕ) (values : List ℤ) (weights classes : List ℕ) where
     worked sums left z p e q l = record {
       number = p ∙ sym z;
       nine = λ _. e ∙ ap (λ (s : List ℤ). table (row-at s) 9) q ∙ rows-in;
-      numerators = rw (eq-eqb (class-refusal 9 n values weights classes rows (length locals)) 0 z) l;
+      numerators = l ∙ sym (worked-when-taken _ _ _ z);
     }
 
 -- what the judge found

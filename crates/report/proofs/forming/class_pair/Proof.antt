@@ -1,15 +1,12 @@
 -- `class_pair` meets its contract: the three sums of class k are read, and each is the number that the list holds. Assumes nothing.
 use mathlib.Core.Path.{_≡_, ap, _∙_}
-use Prim.Native.Nat.{ℕ, _+_, _*_}
-use lib.IntN.{ℤ}
 use mir.Syntax.{w64}
 use mir.ValLaws.{toZ-ofZ}
-use Rattle.whole.specs.Table.{at}
 use Rattle.whole.proofs.Machine.{r64}
 use Rattle.account.specs.Classes.{row-at}
 use Rattle.account.specs.declared.ClassRow.{ClassRow}
 use Rattle.report.specs.Coefficients.{pair-of}
-use Rattle.report.specs.Steps.{Sums}
+use Rattle.report.specs.Steps.{Formable}
 use Rattle.report.proofs.Ratios as ratios
 use borrow.Author.Needs.{needs}
 use Rattle.report.proofs.forming.class_pair.Statement.{statement}
@@ -50,24 +47,23 @@ module _ (c : tie.After-squares) where
   abbrev row : ClassRow
   row = row-at (a .args .rows .now) (a .args .k)
 
-  sums : Sums (a .args .n) (a .args .spread) row
+  sums : Formable (a .args .n) (a .args .spread) row
   sums = a .pre .0 .each (a .args .k) (a .pre .1)
 
   spread-read : r64 (a .args .spread) ≡ a .args .spread
   spread-read = toZ-ofZ w64 (a .args .spread) (a .fits .spread)
 
-  row-read : _≡_ {A = ClassRow} (record { weight = r64 (row .weight); cross = r64 (row .cross); squares = r64 (row .squares) }) row
+  row-read : ratios.read row ≡ row
   row-read = ratios.row-read (a .args .n) (a .args .spread) row sums
 
 pair-requires : tie.Need-pair-requires
-pair-requires c κs = ratios.sums-same (spread-read c) (row-read c) (sums c)
+pair-requires c κs = ratios.formable-same (spread-read c) (row-read c) (sums c)
 
 returns : tie.Need-returns
 returns c =
     let b = c .before in
-    c .pair .ensures
-    ∙ ap (λ v. pair-of (a b .args .n) v (record { weight = r64 (row b .weight); cross = r64 (row b .cross); squares = r64 (row b .squares) })) (spread-read b)
-    ∙ ap (pair-of (a b .args .n) (a b .args .spread)) (row-read b)
+    let n = a b .args .n in
+    c .pair .ensures ∙ ap (λ v. pair-of n v (ratios.read (row b))) (spread-read b) ∙ ap (pair-of n (a b .args .spread)) (row-read b)
 
 pub class-pair-spec : {M : Type 1} → statement M
 class-pair-spec =

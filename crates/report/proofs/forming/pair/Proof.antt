@@ -7,12 +7,10 @@ use lib.Ieee.{Float}
 use lib.IntN.{ℤ, pos, _*ℤ_}
 use mir.Syntax.{w64}
 use Rattle.whole.specs.Integer.{is-zero}
-use Rattle.whole.specs.Rules.{ratio-limit}
 use Rattle.whole.proofs.Machine.{rd, fit, fits-le, zero-yes, zero-no}
 use Rattle.nearest.specs.Answers.{nearest-float}
 use Rattle.account.specs.declared.ClassRow.{ClassRow}
 use Rattle.report.specs.Coefficients.{coefficient, pair-of}
-use Rattle.report.specs.Steps.{Sums}
 use Rattle.report.specs.declared.Pair.{Pair}
 use Rattle.report.specs.declared.Coefficient.the-variants.{Figure}
 use Rattle.report.proofs.Ratios as ratios
@@ -69,16 +67,20 @@ mul-ratio-3 c = let s = c .before .before .before .before .before in fit w64 (ra
 ratio-requires-2 : tie.Need-ratio-requires-2
 ratio-requires-2 c κs =
     let s = c .before .before .before .before .before in
-    ratios.ratio-same (rd w64 (ratios.geary-numerator-is _ _ _ (s .pre)) tt .same) (rd w64 (ratios.geary-divisor-is _ _ _ (s .pre)) tt .same)
-    (ratios.geary-ratio _ _ _ (s .pre) (weighty (c .before)))
+    let numerator = rd w64 (ratios.geary-numerator-is _ _ _ (s .pre)) tt .same in
+    let divisor = rd w64 (ratios.geary-divisor-is _ _ _ (s .pre)) tt .same in
+    ratios.ratio-same numerator divisor (ratios.geary-ratio _ _ _ (s .pre) (weighty (c .before)))
 
 returns-2 : tie.Need-returns-2
 returns-2 c =
     let e = c .before .before in
     let s = e .before .before .before .before in
+    let moran = rd w64 (ratios.moran-divisor-is _ _ _ (s .pre)) tt .same in
+    let numerator = rd w64 (ratios.geary-numerator-is _ _ _ (s .pre)) tt .same in
+    let divisor = rd w64 (ratios.geary-divisor-is _ _ _ (s .pre)) tt .same in
     formed _ _ _ _ _ (weighty e)
-    (c .before .ratio .ensures ∙ ratios.nearest-same (ratios.cross-is _ _ _ (s .pre) .same) (rd w64 (ratios.moran-divisor-is _ _ _ (s .pre)) tt .same))
-    (c .ratio2 .ensures ∙ ratios.nearest-same (rd w64 (ratios.geary-numerator-is _ _ _ (s .pre)) tt .same) (rd w64 (ratios.geary-divisor-is _ _ _ (s .pre)) tt .same))
+    (c .before .ratio .ensures ∙ ratios.nearest-same (ratios.cross-is _ _ _ (s .pre) .same) moran)
+    (c .ratio2 .ensures ∙ ratios.nearest-same numerator divisor)
 
 pub pair-spec : {M : Type 1} → statement M
 pair-spec =

@@ -2,7 +2,7 @@
 use mathlib.Core.Path.{_≡_, ap, _∙_}
 use Prim.Native.Nat.{ℕ, _-_, _≤_, _<_}
 use native.Mathlib.Omega.{arith}
-use lib.Ieee.{binary64, ofBits}
+use lib.Ieee.{Float, binary64, ofBits}
 use lib.IntN.{ℤ}
 use lib.ListN.{length, getD, length-set}
 use mir.Syntax.{w64}
@@ -73,11 +73,13 @@ loop-again : tie.Need-loop-again Inv-loop μ-loop
 loop-again c =
     let b = c .before .before .before .loop in
     let s = a (c .before) in
-    let figure = c .ratio .ensures ∙ ap (λ v. nearest-float v (r64 (s .args .spread))) (numerator-read (c .before)) in (
+    let wanted : ℕ → Float = λ k. nearest-float (at (s .args .numerators .now) k) (r64 (s .args .spread)) in
+    let figure = c .ratio .ensures ∙ ap (λ v. nearest-float v (r64 (s .args .spread))) (numerator-read (c .before)) in
+    let place : b .i < length (b .figures) = omega (arith, c .before .before .loop-test .taken, b .inv .1 .0) in (
       omega (arith, c .before .before .loop-test .taken),
       (
         simp length-set (b .inv .1 .0),
-        stored (λ k. nearest-float (at (s .args .numerators .now) k) (r64 (s .args .spread))) (ofBits binary64 0) _ (b .figures) (b .i) (omega (arith, c .before .before .loop-test .taken, b .inv .1 .0)) figure (b .inv .1 .1),
+        stored wanted (ofBits binary64 0) _ (b .figures) (b .i) place figure (b .inv .1 .1),
       ),
     )
 
@@ -90,8 +92,9 @@ returns c =
     let b = c .before .loop in
     let s = c .before .before .before in
     let spread = toZ-ofZ w64 (s .args .spread) (s .fits .spread) in
-    is-table (λ k. nearest-float (at (s .args .numerators .now) k) (s .args .spread)) (length (s .args .numerators .now)) (ofBits binary64 0) (b .figures) (b .inv .1 .0)
-    (λ k p. b .inv .1 .1 k (omega arith) ∙ ap (nearest-float (at (s .args .numerators .now) k)) spread)
+    let l = s .args .numerators .now in
+    is-table (λ k. nearest-float (at l k) (s .args .spread)) (length l) (ofBits binary64 0) (b .figures) (b .inv .1 .0)
+    (λ k p. b .inv .1 .1 k (omega arith) ∙ ap (nearest-float (at l k)) spread)
 
 pub put-figures-spec : {M : Type 1} → statement M
 put-figures-spec =

@@ -18,11 +18,13 @@ mul-if4 c = omega (arith, c .before .if2 .left)
 
 returns-4 : tie.Need-returns-4
 returns-4 c =
-    simp (le-ltb _ _ (c .before .before .before .if1 .left), le-ltb _ _ (c .before .before .if2 .left), eq-eqb _ _ (c .before .if3 .left), ne-eqb _ _ (c .if4 .taken))
+    let b = c .before in
+    simp (le-ltb _ _ (b .before .before .if1 .left), le-ltb _ _ (b .before .if2 .left), eq-eqb _ _ (b .if3 .left), ne-eqb _ _ (c .if4 .taken))
 
 returns-5 : tie.Need-returns-5
 returns-5 c =
-    simp (le-ltb _ _ (c .before .before .before .if1 .left), le-ltb _ _ (c .before .before .if2 .left), eq-eqb _ _ (c .before .if3 .left), eq-eqb _ _ (c .if4 .left))
+    let b = c .before in
+    simp (le-ltb _ _ (b .before .before .if1 .left), le-ltb _ _ (b .before .if2 .left), eq-eqb _ _ (b .if3 .left), eq-eqb _ _ (c .if4 .left))
 
 pub judge-lent-spec : {M : Type 1} → statement M
 judge-lent-spec = tie.close (tie.spec returns returns-2 returns-3 mul-if4 returns-4 returns-5)

@@ -2,8 +2,7 @@
 -- Assumes nothing.
 use mathlib.Core.Path.{_≡_, refl, sym, ap, _∙_}
 use mathlib.Core.List.{List, [], _∷_}
-use Prim.Native.Nat.{ℕ, _*_, _≤_}
-use native.Mathlib.Omega.{arith}
+use Prim.Native.Nat.{ℕ, _*_, _≤_, _<_}
 use lib.Ieee.{Float}
 use lib.IntN.{ℤ}
 use lib.ListN.{length}
@@ -16,17 +15,16 @@ use Rattle.whole.proofs.Machine.{told, rd, r64}
 use Rattle.whole.proofs.Table.{table-cong}
 use Rattle.account.specs.Measures.{spread-of}
 use Rattle.account.specs.Answers.{class-row, job-locals}
-use Rattle.account.specs.Classes.{row-at, class-sums, class-locals, class-rules, class-refusal}
+use Rattle.account.specs.Classes.{row-at, class-row-of, class-rules, class-refusal}
 use Rattle.account.proofs.ClassTheorems.{account-taken, zones-in-range, class-sums-row, class-locals-length}
 use Rattle.account.specs.declared.ClassRow.{ClassRow}
 use Rattle.report.specs.Coefficients.{pair-of, job-pair, class-pair, local-figures}
 use Rattle.report.specs.FloatReport.{no-pair}
-use Rattle.report.specs.Steps.{Sums}
 use Rattle.report.specs.declared.Pair.{Pair}
 use Rattle.report.specs.declared.Report.{Report}
 use Rattle.report.specs.declared.Answer.the-variants.{Reported}
 use Rattle.report.proofs.Job as job
-use Rattle.report.proofs.Ratios.{row-read, sums-same, rows-same, numerators-same}
+use Rattle.report.proofs.Ratios.{read, row-read, formable-same, rows-same, numerators-same}
 use borrow.Author.Needs.{needs}
 use Rattle.report.proofs.working.report_job.Statement.{statement}
 use Rattle.report.proofs.working.report_job.Tie as tie
@@ -35,7 +33,9 @@ use Rattle.report.proofs.working.report_job.Tie as tie
 abbrev lent : tie.Start → List (ℕ × ℕ)
 lent s = (27, 27) ∷ (9 * s .args .n, 9 * s .args .n) ∷ []
 
-taken : (s : tie.Start) → first-broken (class-rules (s .args .n) (s .args .values .now) (s .args .weights .now) (s .args .classes .now) (lent s)) ≡ 0
+taken :
+    (s : tie.Start) →
+    first-broken (class-rules (s .args .n) (s .args .values .now) (s .args .weights .now) (s .args .classes .now) (lent s)) ≡ 0
 unfolding class-refusal
 taken s = s .pre .0
 
@@ -88,10 +88,8 @@ module _ (c : tie.After-job-sums) where
   row-is : answered ≡ class-row (pair-at weights n) (at values) n
   row-is = job.row-is n values weights (c .job-sums .result) (c .job-sums .ensures .0)
 
-  sums-read :
-      _≡_ {A = ClassRow} (record { weight = r64 (answered .weight); cross = r64 (answered .cross); squares = r64 (answered .squares) })
-      (class-row (pair-at weights n) (at values) n)
-  sums-read = row-read n spread answered (sums-same refl row-is (job.job-sums n values weights classes (lent s) (taken s))) ∙ row-is
+  sums-read : read answered ≡ class-row (pair-at weights n) (at values) n
+  sums-read = row-read n spread answered (formable-same refl row-is (job.job-formable n values weights classes (lent s) (taken s))) ∙ row-is
 
 -- the places after it
 abbrev numbers : tie.After-struct-told4 → tie.After-job-sums
@@ -132,7 +130,7 @@ put-figures-requires-2 c κs =
 pair-requires : tie.Need-pair-requires
 pair-requires c κs =
     let b = second-put (c .before .before) in
-    sums-same (spread-read b) (sums-read b) (job.job-sums _ _ _ _ (lent (s b)) (taken (s b)))
+    formable-same (spread-read b) (sums-read b) (job.job-formable _ _ _ _ (lent (s b)) (taken (s b)))
 
 class-pairs-requires : tie.Need-class-pairs-requires
 class-pairs-requires c κs =
@@ -148,29 +146,34 @@ same-length-2 c = search needs
 -- the report, and the two lists, by the job's own names
 module _ (b : tie.After-job-sums) where
   whole-is :
-      (pair : Pair) → pair ≡ pair-of (n b) (r64 (b .job-sums .result .spread)) (record { weight = r64 (answered b .weight); cross = r64 (answered b .cross); squares = r64 (answered b .squares) }) →
+      (pair : Pair) → pair ≡ pair-of (n b) (r64 (b .job-sums .result .spread)) (read (answered b)) →
       pair ≡ job-pair (n b) (values b) (weights b)
   unfolding job-pair
   whole-is pair e =
-      e
-      ∙ ap (λ v. pair-of (n b) v (record { weight = r64 (answered b .weight); cross = r64 (answered b .cross); squares = r64 (answered b .squares) })) (spread-read b)
-      ∙ ap (pair-of (n b) (spread b)) (sums-read b)
+      e ∙ ap (λ v. pair-of (n b) v (read (answered b))) (spread-read b) ∙ ap (pair-of (n b) (spread b)) (sums-read b)
+
+  row-holds : (k : ℕ) → k < 9 → row-at (s b .args .rows .now) k ≡ class-row-of (n b) (values b) (weights b) (classes b) k
+  row-holds k h = ap (λ l. row-at l k) (s b .pre .1 .0) ∙ class-sums-row (n b) (values b) (weights b) (classes b) k h
 
   classes-are :
-      (pairs : List Pair) → pairs ≡ table (λ k. pair-of (n b) (r64 (b .job-sums .result .spread)) (row-at (s b .args .rows .now) k)) 9 →
+      (pairs : List Pair) →
+      pairs ≡ table (λ k. pair-of (n b) (r64 (b .job-sums .result .spread)) (row-at (s b .args .rows .now) k)) 9 →
       pairs ≡ table (class-pair (n b) (values b) (weights b) (classes b)) 9
   unfolding class-pair
   classes-are pairs e =
       e
       ∙ table-cong _ _ 9 no-pair
-      (λ k h. ap (λ v. pair-of (n b) v (row-at (s b .args .rows .now) k)) (spread-read b) ∙ ap (pair-of (n b) (spread b)) (ap (λ l. row-at l k) (s b .pre .1 .0) ∙ class-sums-row (n b) (values b) (weights b) (classes b) k h))
+      (λ k h. ap (λ v. pair-of (n b) v (row-at (s b .args .rows .now) k)) (spread-read b) ∙ ap (pair-of (n b) (spread b)) (row-holds k h))
 
   figures-are :
-      (numerators wanted : List ℤ) (figures : List Float) → numerators ≡ wanted → figures ≡ local-figures (r64 (b .job-sums .result .spread)) numerators →
+      (numerators wanted : List ℤ) (figures : List Float) → numerators ≡ wanted →
+      figures ≡ local-figures (r64 (b .job-sums .result .spread)) numerators →
       figures ≡ local-figures (spread b) wanted
   figures-are numerators wanted figures e g = g ∙ ap (λ v. local-figures v numerators) (spread-read b) ∙ ap (local-figures (spread b)) e
 
-both : (pair pair′ : Pair) (pairs pairs′ : List Pair) → pair ≡ pair′ → pairs ≡ pairs′ → _≡_ {A = Report} (record { whole = Reported pair; classes = pairs }) (record { whole = Reported pair′; classes = pairs′ })
+both :
+    (pair pair′ : Pair) (pairs pairs′ : List Pair) → pair ≡ pair′ → pairs ≡ pairs′ →
+    _≡_ {A = Report} (record { whole = Reported pair; classes = pairs }) (record { whole = Reported pair′; classes = pairs′ })
 both pair pair′ pairs pairs′ e f = rw (e, f) refl
 
 returns : tie.Need-returns
