@@ -11,12 +11,14 @@ use lib.ListN.{length}
 use Rattle.whole.specs.Rules.{first-broken, outside, misfits, size-rules}
 use Rattle.whole.specs.Search.{any-above}
 use Rattle.whole.specs.Table.{table, at}
+use Rattle.whole.proofs.Table.{table-cong}
 use Rattle.whole.proofs.Rules.{kept-when-refused, worked-when-taken, beside, sizes-hold}
 use Rattle.account.specs.Measures.{spread-of}
 use Rattle.account.specs.Answers.{job-locals}
-use Rattle.account.specs.Classes.{class-locals, class-rules, class-refusal}
+use Rattle.account.specs.Classes.{row-at, class-sums, class-locals, class-rules, class-refusal}
 use Rattle.account.specs.Refusals.{job-rules}
-use Rattle.report.specs.Coefficients.{job-pair, class-pair, local-figures}
+use Rattle.account.proofs.ClassTheorems.{class-sums-row}
+use Rattle.report.specs.Coefficients.{pair-of, job-pair, class-pair, local-figures}
 use Rattle.report.specs.FloatReport.{number-of, pair-in, report-refusal, no-pair, report-whole, report-classes, report-locals, report-parts}
 use Rattle.report.specs.declared.Answer.the-variants.{Refused, Reported}
 use Rattle.report.specs.declared.Report.{Report}
@@ -66,6 +68,15 @@ module _ (n : ℕ) (values : List ℤ) (weights classes : List ℕ) (locals part
       ),
     ),
   )
+
+-- ---- the pairs of the rows that the class account left are those of the classes
+pub pairs-are :
+    (n : ℕ) (values : List ℤ) (weights classes : List ℕ) (rows : List ℤ) → rows ≡ class-sums n values weights classes →
+    table (λ k. pair-of n (spread-of (at values) n) (row-at rows k)) 9 ≡ table (class-pair n values weights classes) 9
+unfolding class-pair
+pairs-are n values weights classes rows e =
+    table-cong _ _ 9 no-pair
+    (λ k h. ap (pair-of n (spread-of (at values) n)) (ap (λ (l : List ℤ). row-at l k) e ∙ class-sums-row n values weights classes k h))
 
 -- ---- the numbers on the way
 -- a number that the last lists give is given whatever the first lists' lengths are

@@ -19,7 +19,7 @@ use Rattle.account.proofs.Theorems.{accepted-limits, spread-one, weight-above}
 use Rattle.account.proofs.ClassTheorems.{account-taken, zones-in-range, class-limits, class-sums-length, class-sums-row, class-locals-length}
 use Rattle.account.specs.declared.ClassRow.{ClassRow}
 use Rattle.account.specs.declared.Sums as declared
-use Rattle.report.specs.Steps.{Ratio, Formable, FormableRows, Numerators}
+use Rattle.report.specs.Steps.{Ratio, Formable, FormableRows, Numerators, Reportable}
 
 -- ---- the local numerators of a job by their places
 pub locals-length : (n : ℕ) (values : List ℤ) (weights : List ℕ) → length (job-locals n values weights) ≡ n
@@ -51,10 +51,10 @@ module _ (n : ℕ) (values : List ℤ) (weights classes : List ℕ) (lent : List
   none : account-refusal n values weights (job-locals n values weights) ≡ 0
   none = account-taken n values weights classes lent taken (job-locals n values weights) (locals-length n values weights)
 
-  pub job-limits : Limits (pair-at weights n) (at values) n
+  job-limits : Limits (pair-at weights n) (at values) n
   job-limits = accepted-limits n values weights (job-locals n values weights) none
 
-  pub varied : pos 1 ≤ℤ spread-of (at values) n
+  varied : pos 1 ≤ℤ spread-of (at values) n
   varied = spread-one n values weights (job-locals n values weights) none
 
   within : (f : ℕ → ℕ → ℕ) → Limits f (at values) n → Formable n (spread-of (at values) n) (class-row f (at values) n)
@@ -79,7 +79,7 @@ module _ (n : ℕ) (values : List ℤ) (weights classes : List ℕ) (lent : List
   unfolding class-row-of
   class-formable k = within (class-weight weights classes n k) (class-limits n values weights classes lent taken k)
 
-  pub class-rows : FormableRows n (spread-of (at values) n) (class-sums n values weights classes)
+  class-rows : FormableRows n (spread-of (at values) n) (class-sums n values weights classes)
   class-rows = record {
     count = class-sums-length n values weights classes;
     each = λ k h. rw (class-sums-row n values weights classes k h) (class-formable k);
@@ -99,14 +99,25 @@ module _ (n : ℕ) (values : List ℤ) (weights classes : List ℕ) (lent : List
       rows-each (class-local-of n values weights classes) (λ (z : ℤ). Ratio z (spread-of (at values) n)) 9 n (pos 0)
       (λ k i p q. share (class-weight weights classes n k) (class-limits n values weights classes lent taken k) i q) t h
 
-  pub job-numerators : Numerators (spread-of (at values) n) (job-locals n values weights)
+  job-numerators : Numerators (spread-of (at values) n) (job-locals n values weights)
   job-numerators =
       let l = locals-length n values weights in
       let range = zones-in-range n values weights classes lent taken in
       record { few = omega (arith, range .1); each = λ i h. local-ratio i (omega arith) }
 
-  pub class-numerators : Numerators (spread-of (at values) n) (class-locals n values weights classes)
+  class-numerators : Numerators (spread-of (at values) n) (class-locals n values weights classes)
   class-numerators =
       let l = class-locals-length n values weights classes in
       let range = zones-in-range n values weights classes lent taken in
       record { few = omega (arith, range .1); each = λ t h. class-local-ratio t (omega arith) }
+
+  -- all that the report's work asks for
+  pub reportable : Reportable n values weights (class-sums n values weights classes) (class-locals n values weights classes)
+  reportable = record {
+    zones = zones-in-range n values weights classes lent taken .1;
+    accepted = λ locals l. account-taken n values weights classes lent taken locals l;
+    whole = job-formable;
+    numerators = job-numerators;
+    class-rows = class-rows;
+    class-numerators = class-numerators;
+  }

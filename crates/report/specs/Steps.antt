@@ -6,8 +6,11 @@ use lib.IntN.{ℤ, pos, natAbs, _*ℤ_}
 use lib.ListN.{length}
 use lib.Signed.{_≤ℤ_}
 use Rattle.whole.specs.Rules.{ratio-limit}
-use Rattle.whole.specs.Table.{at}
+use Rattle.whole.specs.Table.{at, pair-at}
+use Rattle.account.specs.Measures.{spread-of}
+use Rattle.account.specs.Answers.{class-row, job-locals}
 use Rattle.account.specs.Classes.{row-at}
+use Rattle.account.specs.Refusals.{account-refusal}
 use Rattle.account.specs.declared.ClassRow.{ClassRow}
 
 -- p over q, which part 2 does not refuse
@@ -37,3 +40,12 @@ pub record FormableRows (n : ℕ) (spread : ℤ) (rows : List ℤ) : Type 0 wher
 pub record Numerators (spread : ℤ) (numerators : List ℤ) : Type 0 where
   pub few : length numerators ≤ 576
   pub each : (k : ℕ) → k < length numerators → Ratio (at numerators k) spread
+
+-- an accepted job, and what its class account left: the nine rows, and in `shares` the local numerators of each class
+pub record Reportable (n : ℕ) (values : List ℤ) (weights : List ℕ) (rows shares : List ℤ) : Type 0 where
+  pub zones : n ≤ 64
+  pub accepted : (locals : List ℤ) → length locals ≡ n → account-refusal n values weights locals ≡ 0
+  pub whole : Formable n (spread-of (at values) n) (class-row (pair-at weights n) (at values) n)
+  pub numerators : Numerators (spread-of (at values) n) (job-locals n values weights)
+  pub class-rows : FormableRows n (spread-of (at values) n) rows
+  pub class-numerators : Numerators (spread-of (at values) n) shares

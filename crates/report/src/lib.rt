@@ -67,7 +67,6 @@ pub fn float_report(
         n,
         values,
         weights,
-        classes,
         &rows[..27],
         &numerators[..places],
         locals,

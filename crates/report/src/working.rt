@@ -14,10 +14,11 @@ ghost use Rattle.whole.specs.Rules.{first-broken, size-rules};
 ghost use Rattle.whole.specs.Table.{table, at};
 ghost use Rattle.account.specs.Measures.{spread-of};
 ghost use Rattle.account.specs.Answers.{five, job-figures, job-locals};
-ghost use Rattle.account.specs.Classes.{class-sums, class-locals, class-refusal};
+ghost use Rattle.account.specs.Classes.{row-at};
 ghost use Rattle.account.specs.Refusals.{account-refusal};
-ghost use Rattle.report.specs.Coefficients.{job-pair, class-pair, local-figures};
+ghost use Rattle.report.specs.Coefficients.{pair-of, job-pair, local-figures};
 ghost use Rattle.report.specs.FloatReport.{no-pair};
+ghost use Rattle.report.specs.Steps.{Reportable};
 ghost use Rattle.report.specs.declared.Answer.the-variants.{Refused, Reported};
 
 // 1 and 2, of n and the two lists of floats.
@@ -72,25 +73,22 @@ pub fn job_sums(n: usize, values: &[i32], weights: &[u8], numerators: &mut [i64]
     }
 }
 
-// The report of a job that the class account accepts, which left `rows`, and in `shares` the local numerators of each class.
+// The report of an accepted job, whose class account left `rows`, and in `shares` the local numerators of each class.
 pub fn report_job(
     n: usize,
     values: &[i32],
     weights: &[u8],
-    classes: &[u8],
     rows: &[i64],
     shares: &[i64],
     locals: &mut [f64],
     parts: &mut [f64],
 ) -> Report
-    requires { ⌜ class-refusal 27 n (now values) (now weights) (now classes) 27 (9 * n) ≡ 0 ⌝ }
-    requires { ⌜ now rows ≡ class-sums n (now values) (now weights) (now classes) ⌝ }
-    requires { ⌜ now shares ≡ class-locals n (now values) (now weights) (now classes) ⌝ }
+    requires { ⌜ Reportable n (now values) (now weights) (now rows) (now shares) ⌝ }
     requires { ⌜ length (now locals) ≡ n ⌝ }
-    requires { ⌜ length (now parts) ≡ 9 * n ⌝ }
-    ensures { λ r. ⌜ r ≡ record { whole = Reported (job-pair n (now (values .entry)) (now (weights .entry))); classes = table (class-pair n (now (values .entry)) (now (weights .entry)) (now (classes .entry))) 9 } ⌝ }
+    requires { ⌜ length (now parts) ≡ length (now shares) ⌝ }
+    ensures { λ r. ⌜ r ≡ record { whole = Reported (job-pair n (now (values .entry)) (now (weights .entry))); classes = table (λ k. pair-of n (spread-of (at (now (values .entry))) n) (row-at (now (rows .entry)) k)) 9 } ⌝ }
     ensures { λ _. ⌜ now (locals .exit) ≡ local-figures (spread-of (at (now (values .entry))) n) (job-locals n (now (values .entry)) (now (weights .entry))) ⌝ }
-    ensures { λ _. ⌜ now (parts .exit) ≡ local-figures (spread-of (at (now (values .entry))) n) (class-locals n (now (values .entry)) (now (weights .entry)) (now (classes .entry))) ⌝ }
+    ensures { λ _. ⌜ now (parts .exit) ≡ local-figures (spread-of (at (now (values .entry))) n) (now (shares .entry)) ⌝ }
 {
     let mut numerators: [i64; 64] = [0; 64];
     let sums = job_sums(n, values, weights, &mut numerators[..n]);

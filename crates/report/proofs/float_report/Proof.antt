@@ -1,6 +1,6 @@
 -- `float_report` meets its contract: its own lists are judged, then the class account judges and works, then the figures are formed.
 -- Assumes nothing.
-use mathlib.Core.Path.{_≡_, sym, ap, _∙_}
+use mathlib.Core.Path.{_≡_, refl, sym, ap, _∙_}
 use mathlib.Core.List.{List, [], _∷_}
 use Prim.Native.Nat.{ℕ, _*_, _≤_}
 use native.Mathlib.Omega.{arith}
@@ -8,15 +8,34 @@ use lib.IntN.{ℤ}
 use lib.ListN.{length}
 use lib.Seq.{length-take-le}
 use Rattle.whole.specs.Rules.{first-broken, size-rules}
+use Rattle.whole.specs.Table.{at}
 use Rattle.whole.proofs.Lists.{front, front-le, front-length}
 use Rattle.whole.proofs.Rules.{Sizes, sizes-hold, fits, worked-when-taken}
-use Rattle.account.specs.Classes.{class-sums, class-locals, class-refusal}
+use Rattle.account.specs.Measures.{spread-of}
+use Rattle.account.specs.Classes.{class-sums, class-locals, class-rules, class-refusal}
 use Rattle.account.proofs.ClassTheorems.{class-sums-length, class-locals-length}
+use Rattle.report.specs.Coefficients.{local-figures}
 use Rattle.report.specs.FloatReport.{report-refusal}
-use Rattle.report.proofs.Answered.{refused, reported, lent-first, then-account}
+use Rattle.report.specs.Steps.{Reportable}
+use Rattle.report.specs.declared.Answer.the-variants.{Reported}
+use Rattle.report.specs.declared.Pair.{Pair}
+use Rattle.report.specs.declared.Report.{Report}
+use Rattle.report.proofs.Answered.{refused, reported, pairs-are, lent-first, then-account}
+use Rattle.report.proofs.Job.{reportable}
 use borrow.Author.Needs.{needs}
 use Rattle.report.proofs.float_report.Statement.{statement}
 use Rattle.report.proofs.float_report.Tie as tie
+
+-- the same by other names
+reportable-same :
+    {n : ℕ} {values : List ℤ} {weights : List ℕ} {rows rows′ shares shares′ : List ℤ} → rows′ ≡ rows → shares′ ≡ shares →
+    Reportable n values weights rows shares → Reportable n values weights rows′ shares′
+reportable-same e f r = rw (e, f) r
+
+report-same :
+    {pair : Pair} {pairs pairs′ : List Pair} → pairs ≡ pairs′ →
+    _≡_ {A = Report} (record { whole = Reported pair; classes = pairs }) (record { whole = Reported pair; classes = pairs′ })
+report-same e = rw e refl
 
 -- the two lists of floats fit
 abbrev start : tie.After-judge-lent → tie.Start
@@ -110,7 +129,15 @@ module _ (c : tie.After-class-account) where
   as-long : length numerators ≡ 9 * n
   as-long = class-locals-length n values weights classes
 
+  -- the two lists that it is lent here
+  abbrev own : List (ℕ × ℕ)
+  own = (27, 27) ∷ (9 * n, 9 * n) ∷ []
+
   module _ (z : c .class-account .result ≡ 0) where
+    taken : first-broken (class-rules n values weights classes own) ≡ 0
+    unfolding class-refusal
+    taken = sym found ∙ z
+
     rows-left : c .class-account .last .1 .1 .1 .1 .0 ≡ class-sums n values weights classes
     rows-left = c .class-account .ensures .1 .0 ∙ worked-when-taken _ _ _ (sym (c .class-account .ensures .0) ∙ z)
 
@@ -145,12 +172,11 @@ report-job-requires : tie.Need-report-job-requires
 report-job-requires c κs =
     let e = c .before .before .before .before in
     let b = e .before .before .before in
+    let z = e .if2 .left in
+    let held = front {A = ℤ} _ _ (numerators b) _ (numerators-left b z) (as-long b) in
     let lists = lists-fit (judged b) in (
-      sym (found b) ∙ e .if2 .left,
-      (
-        rows-left b (e .if2 .left),
-        (front {A = ℤ} _ _ (numerators b) _ (numerators-left b (e .if2 .left)) (as-long b), lists),
-      ),
+      reportable-same (rows-left b z) held (reportable (n b) (values b) (weights b) (classes b) (own b) (taken b z)),
+      (lists .0, lists .1 ∙ sym (ap length held ∙ as-long b)),
     )
 
 same-length : tie.Need-same-length
@@ -164,8 +190,13 @@ returns-3 c =
     let done = c .before .before .before .before in
     let e = done .before .before .before .before .before in
     let b = e .before .before .before in
+    let z = e .if2 .left in
     let said = done .report-job .ensures in
-    reported _ _ _ _ _ _ _ _ _ (sym (reports b) ∙ sym (found b) ∙ e .if2 .left) (said .0) (said .1 .0) (said .1 .1)
+    let held = front {A = ℤ} _ _ (numerators b) _ (numerators-left b z) (as-long b) in
+    reported _ _ _ _ _ _ _ _ _ (sym (reports b) ∙ sym (found b) ∙ z)
+    (said .0 ∙ report-same (pairs-are (n b) (values b) (weights b) (classes b) _ (rows-left b z)))
+    (said .1 .0)
+    (said .1 .1 ∙ ap (local-figures (spread-of (at (values b)) (n b))) held)
 
 pub float-report-spec : {M : Type 1} → statement M
 float-report-spec =

@@ -1,24 +1,23 @@
 -- `report_job` meets its contract: the account is worked into a local array, and each coefficient is formed from what it promises.
 -- Assumes nothing.
 use mathlib.Core.Path.{_≡_, refl, sym, ap, _∙_}
-use mathlib.Core.List.{List, [], _∷_}
-use Prim.Native.Nat.{ℕ, _*_, _≤_, _<_}
+use mathlib.Core.List.{List}
+use Prim.Native.Nat.{ℕ}
 use lib.Ieee.{Float}
 use lib.IntN.{ℤ}
 use lib.ListN.{length}
 use lib.Seq.{length-take-le}
 use mir.Syntax.{w64}
-use Rattle.whole.specs.Rules.{first-broken, ratio-limit}
+use Rattle.whole.specs.Rules.{ratio-limit}
 use Rattle.whole.specs.Table.{table, at, pair-at}
 use Rattle.whole.proofs.Lists.{front, front-le, front-length}
 use Rattle.whole.proofs.Machine.{told, rd, r64}
 use Rattle.whole.proofs.Table.{table-cong}
 use Rattle.account.specs.Measures.{spread-of}
 use Rattle.account.specs.Answers.{class-row, job-locals}
-use Rattle.account.specs.Classes.{row-at, class-row-of, class-rules, class-refusal}
-use Rattle.account.proofs.ClassTheorems.{account-taken, zones-in-range, class-sums-row, class-locals-length}
+use Rattle.account.specs.Classes.{row-at}
 use Rattle.account.specs.declared.ClassRow.{ClassRow}
-use Rattle.report.specs.Coefficients.{pair-of, job-pair, class-pair, local-figures}
+use Rattle.report.specs.Coefficients.{pair-of, job-pair, local-figures}
 use Rattle.report.specs.FloatReport.{no-pair}
 use Rattle.report.specs.declared.Pair.{Pair}
 use Rattle.report.specs.declared.Report.{Report}
@@ -29,34 +28,21 @@ use borrow.Author.Needs.{needs}
 use Rattle.report.proofs.working.report_job.Statement.{statement}
 use Rattle.report.proofs.working.report_job.Tie as tie
 
--- the job is accepted
-abbrev lent : tie.Start → List (ℕ × ℕ)
-lent s = (27, 27) ∷ (9 * s .args .n, 9 * s .args .n) ∷ []
-
-taken :
-    (s : tie.Start) →
-    first-broken (class-rules (s .args .n) (s .args .values .now) (s .args .weights .now) (s .args .classes .now) (lent s)) ≡ 0
-unfolding class-refusal
-taken s = s .pre .0
-
-few : (s : tie.Start) → s .args .n ≤ 64
-few s = zones-in-range _ _ _ _ (lent s) (taken s) .1
-
 array-borrow-prefix-numerators : tie.Need-array-borrow-prefix-numerators
-array-borrow-prefix-numerators c = few (c .before .before .before .before)
+array-borrow-prefix-numerators c = c .before .before .before .pre .0 .zones
 
 slice-aggregate-job-sums : tie.Need-slice-aggregate-job-sums
-slice-aggregate-job-sums c = sym (length-take-le _ _ (few (c .before .before .before .before .before)))
+slice-aggregate-job-sums c = sym (length-take-le _ _ (c .before .before .before .before .pre .0 .zones))
 
 job-sums-requires : tie.Need-job-sums-requires
 job-sums-requires c κs =
-    let s = c .before .before .before .before .before in
-    account-taken _ _ _ _ (lent s) (taken s) _ (length-take-le _ _ (few s))
+    let p = c .before .before .before .before .pre .0 in
+    p .accepted _ (length-take-le _ _ (p .zones))
 
 -- what the account answered and left
 module _ (c : tie.After-job-sums) where
   abbrev s : tie.Start
-  s = c .before .before .before .before .before .before
+  s = c .before .before .before .before .before
 
   abbrev n : ℕ
   n = s .args .n
@@ -66,9 +52,6 @@ module _ (c : tie.After-job-sums) where
 
   abbrev weights : List ℕ
   weights = s .args .weights .now
-
-  abbrev classes : List ℕ
-  classes = s .args .classes .now
 
   abbrev spread : ℤ
   spread = spread-of (at values) n
@@ -80,7 +63,7 @@ module _ (c : tie.After-job-sums) where
   spread-read : r64 (c .job-sums .result .spread) ≡ spread
   spread-read =
       let e = job.spread-is n values weights (c .job-sums .result) (c .job-sums .ensures .0) in
-      rd w64 (told spread ratio-limit e (job.job-limits n values weights classes (lent s) (taken s) .local-divisor)) tt .same
+      rd w64 (told spread ratio-limit e (s .pre .0 .whole .spread-limit)) tt .same
 
   abbrev answered : ClassRow
   answered = let r = c .job-sums .result in record { weight = r .weight; cross = r .cross; squares = r .squares }
@@ -89,7 +72,7 @@ module _ (c : tie.After-job-sums) where
   row-is = job.row-is n values weights (c .job-sums .result) (c .job-sums .ensures .0)
 
   sums-read : read answered ≡ class-row (pair-at weights n) (at values) n
-  sums-read = row-read n spread answered (formable-same refl row-is (job.job-formable n values weights classes (lent s) (taken s))) ∙ row-is
+  sums-read = row-read n spread answered (formable-same refl row-is (s .pre .0 .whole)) ∙ row-is
 
 -- the places after it
 abbrev numbers : tie.After-struct-told4 → tie.After-job-sums
@@ -115,27 +98,24 @@ put-figures-requires : tie.Need-put-figures-requires
 put-figures-requires c κs =
     let b = numbers (c .before .before) in
     let held = front {A = ℤ} _ _ (job-locals (n b) (values b) (weights b)) _ (b .job-sums .ensures .1) (as-long b) in (
-      numerators-same (spread-read b) held (job.job-numerators _ _ _ _ (lent (s b)) (taken (s b))),
-      s b .pre .1 .1 .1 .0 ∙ sym (ap length held ∙ as-long b),
+      numerators-same (spread-read b) held (s b .pre .0 .numerators),
+      s b .pre .1 .0 ∙ sym (ap length held ∙ as-long b),
     )
 
 put-figures-requires-2 : tie.Need-put-figures-requires-2
 put-figures-requires-2 c κs =
     let b = first-put (c .before .before .before) in
-    let p = s b .pre .1 .1 in (
-      numerators-same (spread-read b) (p .0) (job.class-numerators _ _ _ _ (lent (s b)) (taken (s b))),
-      p .1 .1 ∙ sym (ap length (p .0) ∙ class-locals-length (n b) (values b) (weights b) (classes b)),
-    )
+    (numerators-same (spread-read b) refl (s b .pre .0 .class-numerators), s b .pre .1 .1)
 
 pair-requires : tie.Need-pair-requires
 pair-requires c κs =
     let b = second-put (c .before .before) in
-    formable-same (spread-read b) (sums-read b) (job.job-formable _ _ _ _ (lent (s b)) (taken (s b)))
+    formable-same (spread-read b) (sums-read b) (s b .pre .0 .whole)
 
 class-pairs-requires : tie.Need-class-pairs-requires
 class-pairs-requires c κs =
     let b = second-put (c .before .before .before) in
-    rows-same (spread-read b) (s b .pre .1 .0) (job.class-rows _ _ _ _ (lent (s b)) (taken (s b)))
+    rows-same (spread-read b) refl (s b .pre .0 .class-rows)
 
 same-length : tie.Need-same-length
 same-length c = search needs
@@ -152,18 +132,11 @@ module _ (b : tie.After-job-sums) where
   whole-is pair e =
       e ∙ ap (λ v. pair-of (n b) v (read (answered b))) (spread-read b) ∙ ap (pair-of (n b) (spread b)) (sums-read b)
 
-  row-holds : (k : ℕ) → k < 9 → row-at (s b .args .rows .now) k ≡ class-row-of (n b) (values b) (weights b) (classes b) k
-  row-holds k h = ap (λ l. row-at l k) (s b .pre .1 .0) ∙ class-sums-row (n b) (values b) (weights b) (classes b) k h
-
   classes-are :
       (pairs : List Pair) →
       pairs ≡ table (λ k. pair-of (n b) (r64 (b .job-sums .result .spread)) (row-at (s b .args .rows .now) k)) 9 →
-      pairs ≡ table (class-pair (n b) (values b) (weights b) (classes b)) 9
-  unfolding class-pair
-  classes-are pairs e =
-      e
-      ∙ table-cong _ _ 9 no-pair
-      (λ k h. ap (λ v. pair-of (n b) v (row-at (s b .args .rows .now) k)) (spread-read b) ∙ ap (pair-of (n b) (spread b)) (row-holds k h))
+      pairs ≡ table (λ k. pair-of (n b) (spread b) (row-at (s b .args .rows .now) k)) 9
+  classes-are pairs e = e ∙ table-cong _ _ 9 no-pair (λ k h. ap (λ v. pair-of (n b) v (row-at (s b .args .rows .now) k)) (spread-read b))
 
   figures-are :
       (numerators wanted : List ℤ) (figures : List Float) → numerators ≡ wanted →
@@ -185,7 +158,7 @@ returns c =
       both _ _ _ _ (whole-is b _ (c .before .before .pair .ensures)) (classes-are b _ (c .before .class-pairs .ensures)),
       (
         figures-are b _ _ _ held (first .put-figures .ensures),
-        figures-are b _ _ _ (s b .pre .1 .1 .0) (second .put-figures2 .ensures),
+        figures-are b _ _ _ refl (second .put-figures2 .ensures),
       ),
     )
 
