@@ -69,35 +69,21 @@ pub fn class_pair(n: usize, spread: i64, rows: &[i64], k: usize) -> Pair
 }
 
 // The pairs of the nine classes.
-pub struct ClassPairs {
-    pub pairs: [Pair; 9],
-}
-
-pub fn class_pairs(n: usize, spread: i64, rows: &[i64]) -> ClassPairs
+pub fn class_pairs(n: usize, spread: i64, rows: &[i64]) -> [Pair; 9]
     requires { ⌜ FormableRows n spread (now rows) ⌝ }
-    ensures { λ r. ⌜ r .pairs ≡ table (λ k. pair-of n spread (row-at (now (rows .entry)) k)) 9 ⌝ }
+    ensures { λ r. ⌜ r ≡ table (λ k. pair-of n spread (row-at (now (rows .entry)) k)) 9 ⌝ }
 {
-    let pair_0 = class_pair(n, spread, rows, 0);
-    let pair_1 = class_pair(n, spread, rows, 1);
-    let pair_2 = class_pair(n, spread, rows, 2);
-    let pair_3 = class_pair(n, spread, rows, 3);
-    let pair_4 = class_pair(n, spread, rows, 4);
-    let pair_5 = class_pair(n, spread, rows, 5);
-    let pair_6 = class_pair(n, spread, rows, 6);
-    let pair_7 = class_pair(n, spread, rows, 7);
-    let pair_8 = class_pair(n, spread, rows, 8);
-    let pairs = [
-        pair_0,
-        pair_1,
-        pair_2,
-        pair_3,
-        pair_4,
-        pair_5,
-        pair_6,
-        pair_7,
-        pair_8,
-    ];
-    ClassPairs { pairs: pairs }
+    [
+        class_pair(n, spread, rows, 0),
+        class_pair(n, spread, rows, 1),
+        class_pair(n, spread, rows, 2),
+        class_pair(n, spread, rows, 3),
+        class_pair(n, spread, rows, 4),
+        class_pair(n, spread, rows, 5),
+        class_pair(n, spread, rows, 6),
+        class_pair(n, spread, rows, 7),
+        class_pair(n, spread, rows, 8),
+    ]
 }
 
 // The local Moran of each local numerator of a list.

@@ -57,7 +57,7 @@ pub fn float_report(
         values,
         weights,
         classes,
-        &mut rows[..27],
+        &mut rows,
         &mut numerators[..places],
     );
     if refusal != 0 {
@@ -67,7 +67,7 @@ pub fn float_report(
         n,
         values,
         weights,
-        &rows[..27],
+        &rows,
         &numerators[..places],
         locals,
         parts,

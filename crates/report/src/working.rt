@@ -107,10 +107,8 @@ pub fn report_job(
             squares: squares,
         },
     );
-    let pairs = forming::class_pairs(n, spread, rows);
-    let class_pairs = pairs.pairs;
     Report {
         whole: Answer::Reported(whole),
-        classes: class_pairs,
+        classes: forming::class_pairs(n, spread, rows),
     }
 }

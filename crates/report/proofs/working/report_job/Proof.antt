@@ -151,11 +151,11 @@ both pair pair′ pairs pairs′ e f = rw (e, f) refl
 
 returns : tie.Need-returns
 returns c =
-    let second = c .before .before .before .before .before in
+    let second = c .before .before .before .before in
     let first = second .before .before .before .before in
     let b = first-put first in
     let held = front {A = ℤ} _ _ (job-locals (n b) (values b) (weights b)) _ (b .job-sums .ensures .1) (as-long b) in (
-      both _ _ _ _ (whole-is b _ (c .before .before .pair .ensures)) (classes-are b _ (c .before .class-pairs .ensures)),
+      both _ _ _ _ (whole-is b _ (c .before .pair .ensures)) (classes-are b _ (c .class-pairs .ensures)),
       (
         figures-are b _ _ _ held (first .put-figures .ensures),
         figures-are b _ _ _ refl (second .put-figures2 .ensures),
