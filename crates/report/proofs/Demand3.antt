@@ -130,6 +130,13 @@ module _ (n : ℕ) (values : List ℤ) (weights classes : List ℕ) (before : Le
   unfolding report-refusal
   taken = report-none
 
+  -- 18 does not apply to a local figure either, of the job or of a class
+  pub local-never-18 : (i : ℕ) → i < n → nearest-refusal (at (account.job-locals n values weights) i) spread ≡ 0
+  local-never-18 i h = ratio-taken _ _ (job.local-ratio n values weights classes lent taken i h)
+
+  pub class-local-never-18 : (t : ℕ) → t < 9 * n → nearest-refusal (at (class-locals n values weights classes) t) spread ≡ 0
+  class-local-never-18 t h = ratio-taken _ _ (job.class-local-ratio n values weights classes lent taken t h)
+
   -- the sums of the job
   abbrev sums : declared.Sums
   sums = record {
