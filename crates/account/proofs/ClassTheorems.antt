@@ -13,7 +13,7 @@ use Rattle.whole.specs.Search.{any-above}
 use Rattle.whole.specs.Sum.{sum}
 use Rattle.whole.specs.Table.{at, pair-at}
 use Rattle.whole.proofs.Lists.{within}
-use Rattle.whole.proofs.Rules.{first-none, both-hold, first-least, sizes-let-in}
+use Rattle.whole.proofs.Rules.{first-none, both-hold, first-least, first-applies, sizes-let-in}
 use Rattle.whole.proofs.Search.{all-within}
 use Rattle.whole.proofs.TableRows as rows
 use Rattle.account.specs.Measures.{deviation-of, weight-of, cross-of, squares-of, local-of}
@@ -137,8 +137,13 @@ class-taken n values weights classes locals lent taken l low fit =
     let later = both-hold (above-8 classes) 0 job (tt, (tt, (tt, (tt, (tt, tt))))) (both .1) none in
     both-hold (job ++ above-8 classes) 0 (size-rules n lengths) (tt, (tt, tt)) sizes later
 
--- ---- the refusal is the least number that applies
+-- ---- the refusal is the least number that applies: it applies, and no number below it does
 module _ (n : ℕ) (values : List ℤ) (weights classes : List ℕ) (lent : List (ℕ × ℕ)) where
+  pub class-refusal-applies :
+      (first-broken (class-rules n values weights classes lent) ≡ 0 → ⊥) →
+      Applies (first-broken (class-rules n values weights classes lent)) (class-rules n values weights classes lent)
+  class-refusal-applies = first-applies (class-rules n values weights classes lent)
+
   pub class-refusal-least :
       (number : ℕ) → Applies number (class-rules n values weights classes lent) →
       first-broken (class-rules n values weights classes lent) ≤ number
