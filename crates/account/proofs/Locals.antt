@@ -1,14 +1,15 @@
 -- The deviations and the local numerators as the code holds them in lists, and what is known of the sums that are told. Assumes nothing.
 use mathlib.Core.Path.{_≡_, refl, ap, _∙_}
 use mathlib.Core.List.{List}
-use Prim.Native.Nat.{ℕ}
+use Prim.Native.Nat.{ℕ, _<_}
 use native.Mathlib.Nat as N
 use lib.IntN.{ℤ, pos}
+use lib.ListN.{length}
 use Rattle.whole.specs.Sum.{sum}
 use Rattle.whole.specs.Table.{table, at, pair-at}
 use Rattle.whole.proofs.Machine.{Is, told}
 use Rattle.whole.proofs.Sum.{sum-cong}
-use Rattle.whole.proofs.Table.{table-at, table-cong}
+use Rattle.whole.proofs.Table.{table-length, table-at, table-cong}
 use Rattle.account.specs.Measures.{total-of, deviation-of, spread-of, weight-of, cross-of, squares-of, local-of}
 use Rattle.account.specs.Answers.{job-locals}
 use Rattle.account.specs.Steps.{Sized, Valued, Weighted, Job}
@@ -17,6 +18,18 @@ use Rattle.account.proofs.Reading.{table-sized, weight-le}
 use Rattle.account.proofs.Running.{total-runs}
 use Rattle.account.proofs.Sizes.{deviation-size, spread-of-size, weight-size, squares-size, local-size, cross-size}
 
+-- ---- the local numerators of a job by their places
+pub job-locals-length : (n : ℕ) (values : List ℤ) (weights : List ℕ) → length (job-locals n values weights) ≡ n
+unfolding job-locals
+job-locals-length n values weights = table-length (local-of (pair-at weights n) (deviation-of (at values) n) n) n
+
+pub job-locals-at :
+    (n : ℕ) (values : List ℤ) (weights : List ℕ) (i : ℕ) → i < n →
+    at (job-locals n values weights) i ≡ local-of (pair-at weights n) (deviation-of (at values) n) n i
+unfolding job-locals
+job-locals-at n values weights i h = table-at (local-of (pair-at weights n) (deviation-of (at values) n) n) n i (pos 0) h
+
+-- ---- in the code's lists
 pub deviations-sized : (values : List ℤ) (n : ℕ) (d : List ℤ) → Valued values n → d ≡ table (deviation-of (at values) n) n → Sized 12800000 d n
 deviations-sized values n d v e = table-sized 12800000 n (deviation-of (at values) n) d e (deviation-size (at values) n (v .zones) (v .near .size))
 
@@ -40,9 +53,8 @@ module _ (values : List ℤ) (weights : List ℕ) (n : ℕ) (r : Job values weig
 
     -- they add up to P
     pub locals-cross : sum (at out) n ≡ cross-of (pair-at weights n) (deviation-of (at values) n) n
-    unfolding job-locals
     locals-cross =
-        sum-cong _ _ n (λ i p. ap (λ l. at l i) q ∙ table-at (local-of (pair-at weights n) (deviation-of (at values) n) n) n i (pos 0) p)
+        sum-cong _ _ n (λ i p. ap (λ l. at l i) q ∙ job-locals-at n values weights i p)
         ∙ locals-sum (pair-at weights n) (deviation-of (at values) n) n
 
 -- ---- y, told to be one of the sums, is that number and within an i64

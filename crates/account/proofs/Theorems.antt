@@ -31,8 +31,9 @@ use Rattle.account.proofs.Adding as adding
 use Rattle.account.proofs.Locals.{locals-cross}
 use Rattle.account.proofs.Reading.{weight-le}
 use Rattle.account.proofs.Sizes.{deviation-size, spread-of-size, weight-sharp, squares-sharp, local-sharp, cross-sharp}
--- stated where it is proved: W is not below 0, whatever the weights
+-- stated where they are proved: W is not below 0, whatever the weights; what stands at each place of the list of local numerators
 pub use Rattle.account.proofs.Adding.{weight-above}
+pub use Rattle.account.proofs.Locals.{job-locals-length, job-locals-at}
 
 -- ---- the squares of d sum to n × M
 pub deviations-squared-sum : (x : ℕ → ℤ) (n : ℕ) → sum (λ i. square (deviation-of x n i)) n ≡ pos n *ℤ spread-of x n

@@ -30,8 +30,8 @@ use Rattle.account.proofs.ClassTheorems as classes-promise
 use Rattle.account.proofs.Theorems as account-promise
 use Rattle.account.specs.declared.Sums as declared
 use Rattle.report.specs.Coefficients.{coefficient, pair-of, job-pair, class-pair, local-figures}
-use Rattle.report.specs.FloatReport.{number-of, pair-in, report-refusal, no-pair, report-whole, report-classes, report-locals, report-parts}
-use Rattle.report.specs.Demand3.{Lent, HandedOut, AcceptedJob, Contracts, Shows, HasPair, Share, Demand3}
+use Rattle.report.specs.FloatReport.{number-of, pair-in, report-refusal, no-pair, report-whole, report-classes, report-figures, report-parts}
+use Rattle.report.specs.Demand3.{Lent, HandedOut, AcceptedJob, Contracts, Shows, HasPair, LocalFigure, Demand3}
 use Rattle.report.specs.Steps.{Ratio, Formable}
 use Rattle.report.specs.declared.Answer.{Answer}
 use Rattle.report.specs.declared.Answer.the-variants.{Refused, Reported}
@@ -52,11 +52,11 @@ shown : (weight p q : ℤ) → is-zero weight ≡ false → Ratio p q → Shows 
 unfolding coefficient
 shown weight p q e r = rw e (float-nearest p q (ratio-taken p q r))
 
-share :
+local-figure :
     (spread : ℤ) (numerators : List ℤ) (i : ℕ) → i < length numerators → Ratio (at numerators i) spread →
-    Share (at numerators i) spread (local-figures spread numerators) i
+    LocalFigure (at numerators i) spread (local-figures spread numerators) i
 unfolding local-figures
-share spread numerators i h r =
+local-figure spread numerators i h r =
     rw (table-at (λ i. nearest-float (at numerators i) spread) (length numerators) i (ofBits binary64 0) h)
     (float-nearest (at numerators i) spread (ratio-taken (at numerators i) spread r))
 
@@ -101,7 +101,7 @@ module _ (n : ℕ) (values : List ℤ) (weights classes : List ℕ) (before : Le
   pub report-leaves :
       (report-refusal n values weights classes (before .figures) (before .parts) ≡ 0 → ⊥) →
       (out .after .figures ≡ before .figures) × (out .after .parts ≡ before .parts)
-  unfolding report-locals report-parts
+  unfolding report-figures report-parts
   report-leaves f = (c .figures-lent ∙ kept-when-refused _ _ _ f, c .parts-lent ∙ kept-when-refused _ _ _ f)
 
 -- ---- the calls on an accepted job
@@ -175,7 +175,7 @@ module _ (n : ℕ) (values : List ℤ) (weights classes : List ℕ) (before : Le
     pairs-hold = c .class-pairs ∙ worked-when-taken _ _ _ report-none
 
     figures-hold : out .after .figures ≡ local-figures spread (account.job-locals n values weights)
-    unfolding report-locals
+    unfolding report-figures
     figures-hold = c .figures-lent ∙ worked-when-taken _ _ _ report-none
 
     parts-hold : out .after .parts ≡ local-figures spread (class-locals n values weights classes)
@@ -190,7 +190,7 @@ module _ (n : ℕ) (values : List ℤ) (weights classes : List ℕ) (before : Le
     pair-holds k h = ap (λ (l : List Pair). getD l k no-pair) pairs-hold ∙ table-at (class-pair n values weights classes) 9 k no-pair h
 
     local-holds : (i : ℕ) → i < n → at (out .after .locals) i ≡ local-of (pair-at weights n) (deviation-of (at values) n) n i
-    local-holds i h = ap (λ (l : List ℤ). at l i) locals-hold ∙ job.locals-at n values weights i h
+    local-holds i h = ap (λ (l : List ℤ). at l i) locals-hold ∙ account-promise.job-locals-at n values weights i h
 
     class-local-holds : (k i : ℕ) → k < 9 → i < n → at (out .after .class-locals) (k * n + i) ≡ class-local-of n values weights classes k i
     class-local-holds k i h p =
@@ -210,19 +210,19 @@ module _ (n : ℕ) (values : List ℤ) (weights classes : List ℕ) (before : Le
         subst (λ (r : ClassRow). HasPair n spread r (getD (out .report .classes) k no-pair)) (sym (row-holds k h))
         (subst (HasPair n spread (class-row-of n values weights classes k)) (sym (pair-holds k h)) (class-has k))
 
-    local-share : (i : ℕ) → i < n → Share (at (out .after .locals) i) spread (out .after .figures) i
-    local-share i h =
+    local-holds-figure : (i : ℕ) → i < n → LocalFigure (at (out .after .locals) i) spread (out .after .figures) i
+    local-holds-figure i h =
         let numerators = account.job-locals n values weights in
-        let place : i < length numerators = omega (arith, job.locals-length n values weights) in
-        rw (locals-hold, figures-hold) (share spread numerators i place (job.local-ratio n values weights classes lent taken i h))
+        let place : i < length numerators = omega (arith, account-promise.job-locals-length n values weights) in
+        rw (locals-hold, figures-hold) (local-figure spread numerators i place (job.local-ratio n values weights classes lent taken i h))
 
-    class-share : (k i : ℕ) → k < 9 → i < n → Share (at (out .after .class-locals) (k * n + i)) spread (out .after .parts) (k * n + i)
-    class-share k i h p =
+    class-holds-figure : (k i : ℕ) → k < 9 → i < n → LocalFigure (at (out .after .class-locals) (k * n + i)) spread (out .after .parts) (k * n + i)
+    class-holds-figure k i h p =
         let numerators = class-locals n values weights classes in
         let within : k * n + i < 9 * n = omega (arith, N.mul-le-mul-right n h) in
         let place : k * n + i < length numerators = omega (arith, classes-promise.class-locals-length n values weights classes) in
         rw (class-locals-hold, parts-hold)
-        (share spread numerators (k * n + i) place (job.class-local-ratio n values weights classes lent taken (k * n + i) within))
+        (local-figure spread numerators (k * n + i) place (job.class-local-ratio n values weights classes lent taken (k * n + i) within))
 
     -- how they add up
     class-adds : (k : ℕ) → k < 9 → sum (λ i. at (out .after .class-locals) (k * n + i)) n ≡ row-at (out .after .rows) k .cross
@@ -252,9 +252,9 @@ module _ (n : ℕ) (values : List ℤ) (weights classes : List ℕ) (before : Le
       reported = reported;
       weight = account-promise.weight-one n values weights (before .locals) (a .account-accepts);
       whole = whole-pair;
-      local = local-share;
+      local = local-holds-figure;
       class = class-pair-holds;
-      class-local = class-share;
+      class-local = class-holds-figure;
       locals-add-up = sum-cong _ _ n local-holds ∙ account-promise.locals-add-up (pair-at weights n) (at values) n;
       class-locals-add-up = class-adds;
       zone-adds-up = zone-adds;

@@ -4,33 +4,20 @@ use mathlib.Core.List.{List}
 use Prim.Native.Nat.{ℕ, _*_, _≤_, _<_}
 use native.Mathlib.Omega.{arith}
 use lib.IntN.{ℤ, pos}
-use lib.ListN.{length}
 use lib.Signed.{_≤ℤ_}
 use Rattle.whole.specs.Rules.{first-broken}
 use Rattle.whole.specs.Table.{at, pair-at}
-use Rattle.whole.proofs.Table.{table-length, table-at}
 use Rattle.whole.proofs.TableRows.{rows-each}
 use Rattle.account.specs.Measures.{deviation-of, spread-of, local-of}
 use Rattle.account.specs.Limits.{Limits}
 use Rattle.account.specs.Answers.{five, class-row, job-figures, job-locals}
 use Rattle.account.specs.Classes.{class-weight, class-row-of, class-local-of, class-sums, class-locals, class-rules}
 use Rattle.account.specs.Refusals.{account-refusal}
-use Rattle.account.proofs.Theorems.{accepted-limits, spread-one, weight-above}
+use Rattle.account.proofs.Theorems.{accepted-limits, spread-one, weight-above, job-locals-length, job-locals-at}
 use Rattle.account.proofs.ClassTheorems.{account-taken, zones-in-range, class-limits, class-sums-length, class-sums-row, class-locals-length}
 use Rattle.account.specs.declared.ClassRow.{ClassRow}
 use Rattle.account.specs.declared.Sums as declared
 use Rattle.report.specs.Steps.{Ratio, Formable, FormableRows, Numerators, Reportable}
-
--- ---- the local numerators of a job by their places
-pub locals-length : (n : ℕ) (values : List ℤ) (weights : List ℕ) → length (job-locals n values weights) ≡ n
-unfolding job-locals
-locals-length n values weights = table-length (local-of (pair-at weights n) (deviation-of (at values) n) n) n
-
-pub locals-at :
-    (n : ℕ) (values : List ℤ) (weights : List ℕ) (i : ℕ) → i < n →
-    at (job-locals n values weights) i ≡ local-of (pair-at weights n) (deviation-of (at values) n) n i
-unfolding job-locals
-locals-at n values weights i h = table-at (local-of (pair-at weights n) (deviation-of (at values) n) n) n i (pos 0) h
 
 -- ---- the sums that the account answers
 module _ (n : ℕ) (values : List ℤ) (weights : List ℕ) (sums : declared.Sums) (e : five sums ≡ job-figures n values weights) where
@@ -49,7 +36,7 @@ module _ (n : ℕ) (values : List ℤ) (weights classes : List ℕ) (lent : List
     (taken : first-broken (class-rules n values weights classes lent) ≡ 0) where
   -- the account's own refusal
   none : account-refusal n values weights (job-locals n values weights) ≡ 0
-  none = account-taken n values weights classes lent taken (job-locals n values weights) (locals-length n values weights)
+  none = account-taken n values weights classes lent taken (job-locals n values weights) (job-locals-length n values weights)
 
   job-limits : Limits (pair-at weights n) (at values) n
   job-limits = accepted-limits n values weights (job-locals n values weights) none
@@ -85,23 +72,23 @@ module _ (n : ℕ) (values : List ℤ) (weights classes : List ℕ) (lent : List
     each = λ k h. rw (class-sums-row n values weights classes k h) (class-formable k);
   }
 
-  share :
+  local-within :
       (f : ℕ → ℕ → ℕ) → Limits f (at values) n → (i : ℕ) → i < n →
       Ratio (local-of f (deviation-of (at values) n) n i) (spread-of (at values) n)
-  share f limits i h = record { one = varied; divisor = limits .local-divisor; numerator = limits .local-numerator i h }
+  local-within f limits i h = record { one = varied; divisor = limits .local-divisor; numerator = limits .local-numerator i h }
 
   pub local-ratio : (i : ℕ) → i < n → Ratio (at (job-locals n values weights) i) (spread-of (at values) n)
-  local-ratio i h = rw (locals-at n values weights i h) (share (pair-at weights n) job-limits i h)
+  local-ratio i h = rw (job-locals-at n values weights i h) (local-within (pair-at weights n) job-limits i h)
 
   pub class-local-ratio : (t : ℕ) → t < 9 * n → Ratio (at (class-locals n values weights classes) t) (spread-of (at values) n)
   unfolding class-locals class-local-of
   class-local-ratio t h =
       rows-each (class-local-of n values weights classes) (λ (z : ℤ). Ratio z (spread-of (at values) n)) 9 n (pos 0)
-      (λ k i p q. share (class-weight weights classes n k) (class-limits n values weights classes lent taken k) i q) t h
+      (λ k i p q. local-within (class-weight weights classes n k) (class-limits n values weights classes lent taken k) i q) t h
 
   job-numerators : Numerators (spread-of (at values) n) (job-locals n values weights)
   job-numerators =
-      let l = locals-length n values weights in
+      let l = job-locals-length n values weights in
       let range = zones-in-range n values weights classes lent taken in
       record { few = omega (arith, range .1); each = λ i h. local-ratio i (omega arith) }
 

@@ -17,7 +17,7 @@ use Rattle.account.specs.declared.Answer as account-answer
 use Rattle.account.specs.declared.Answer.the-variants.{Accounted}
 use Rattle.account.specs.declared.ClassRow.{ClassRow}
 use Rattle.account.specs.declared.Sums.{Sums}
-use Rattle.report.specs.FloatReport.{number-of, pair-in, report-refusal, no-pair, report-whole, report-classes, report-locals, report-parts}
+use Rattle.report.specs.FloatReport.{number-of, pair-in, report-refusal, no-pair, report-whole, report-classes, report-figures, report-parts}
 use Rattle.report.specs.declared.Answer.the-variants.{Reported}
 use Rattle.report.specs.declared.Coefficient.{Coefficient}
 use Rattle.report.specs.declared.Coefficient.the-variants.{Figure, Weightless}
@@ -28,14 +28,18 @@ use Rattle.report.specs.declared.Report.{Report}
 
 -- the lent lists before the calls
 pub record Lent : Type 0 where
+  -- for the local numerators of the job
   pub locals : List ℤ
+  -- for the nine class rows, and the local numerators of each class
   pub rows : List ℤ
   pub class-locals : List ℤ
+  -- for the local Moran of each zone, and of each zone in each class
   pub figures : List Float
   pub parts : List Float
 
 -- what the calls answer, and the lent lists after them
 pub record HandedOut : Type 0 where
+  -- of the account, of the class account and of the float report
   pub answer : account-answer.Answer
   pub number : ℕ
   pub report : Report
@@ -64,7 +68,7 @@ module _ (n : ℕ) (values : List ℤ) (weights classes : List ℕ) where
     pub report-number : number-of (out .report .whole) ≡ report-refusal n values weights classes (before .figures) (before .parts)
     pub whole-pair : pair-in (out .report .whole) ≡ report-whole n values weights classes (before .figures) (before .parts)
     pub class-pairs : out .report .classes ≡ report-classes n values weights classes (before .figures) (before .parts)
-    pub figures-lent : out .after .figures ≡ report-locals n values weights classes (before .figures) (before .parts)
+    pub figures-lent : out .after .figures ≡ report-figures n values weights classes (before .figures) (before .parts)
     pub parts-lent : out .after .parts ≡ report-parts n values weights classes (before .figures) (before .parts)
 
 -- ---- what holds of it
@@ -81,8 +85,8 @@ pub record HasPair (n : ℕ) (spread : ℤ) (row : ClassRow) (pair : Pair) : Typ
   pub none : (pos 1 ≤ℤ row .weight → ⊥) → pair ≡ no-pair
 
 -- the i-th float of a list is the nearest to L / M
-abbrev pub Share : ℤ → ℤ → List Float → ℕ → Type 0
-Share numerator spread figures i = IsNearest numerator spread (toBits binary64 (getD figures i (ofBits binary64 0)))
+abbrev pub LocalFigure : ℤ → ℤ → List Float → ℕ → Type 0
+LocalFigure numerator spread figures i = IsNearest numerator spread (toBits binary64 (getD figures i (ofBits binary64 0)))
 
 pub record Demand3 (n : ℕ) (out : HandedOut) : Type 0 where
   -- nothing is refused: the account answers its sums, and the report its pair
@@ -94,11 +98,11 @@ pub record Demand3 (n : ℕ) (out : HandedOut) : Type 0 where
   -- the whole job has weight and its pair; each zone its local figure
   pub weight : pos 1 ≤ℤ sums .weight
   pub whole : HasPair n (sums .spread) (record { weight = sums .weight; cross = sums .cross; squares = sums .squares }) pair
-  pub local : (i : ℕ) → i < n → Share (at (out .after .locals) i) (sums .spread) (out .after .figures) i
+  pub local : (i : ℕ) → i < n → LocalFigure (at (out .after .locals) i) (sums .spread) (out .after .figures) i
   -- each class has its pair exactly when it has weight; each zone its local figure in each class, always
   pub class : (k : ℕ) → k < 9 → HasPair n (sums .spread) (row-at (out .after .rows) k) (getD (out .report .classes) k no-pair)
   pub class-local :
-      (k i : ℕ) → k < 9 → i < n → Share (at (out .after .class-locals) (k * n + i)) (sums .spread) (out .after .parts) (k * n + i)
+      (k i : ℕ) → k < 9 → i < n → LocalFigure (at (out .after .class-locals) (k * n + i)) (sums .spread) (out .after .parts) (k * n + i)
   -- the local numerators of the job, and of each class, add up to its numerator; those of a zone over the nine classes to the zone's own
   pub locals-add-up : sum (at (out .after .locals)) n ≡ sums .cross
   pub class-locals-add-up : (k : ℕ) → k < 9 → sum (λ i. at (out .after .class-locals) (k * n + i)) n ≡ row-at (out .after .rows) k .cross

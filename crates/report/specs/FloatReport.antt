@@ -31,34 +31,34 @@ pair-in (Reported pair) = pair ∷ []
 
 -- the refusal, 0 where no rule is broken: 1 to 7, then 9, with the lengths of the two lent lists
 unfoldable pub report-refusal : ℕ → List ℤ → List ℕ → List ℕ → List Float → List Float → ℕ
-report-refusal n values weights classes locals parts =
-    first-broken (class-rules n values weights classes ((length locals, n) ∷ (length parts, 9 * n) ∷ []))
+report-refusal n values weights classes figures parts =
+    first-broken (class-rules n values weights classes ((length figures, n) ∷ (length parts, 9 * n) ∷ []))
 
 -- a class that has no coefficient
 abbrev pub no-pair : Pair
 no-pair = record { moran = Weightless; geary = Weightless }
 
-module _ (n : ℕ) (values : List ℤ) (weights classes : List ℕ) (locals parts : List Float) where
+module _ (n : ℕ) (values : List ℤ) (weights classes : List ℕ) (figures parts : List Float) where
   -- the global Moran and Geary
   unfoldable pub report-whole : List Pair
-  report-whole = unless-refused (report-refusal n values weights classes locals parts) (job-pair n values weights ∷ []) []
+  report-whole = unless-refused (report-refusal n values weights classes figures parts) (job-pair n values weights ∷ []) []
 
   -- the pair of each class
   unfoldable pub report-classes : List Pair
   report-classes =
-      unless-refused (report-refusal n values weights classes locals parts)
+      unless-refused (report-refusal n values weights classes figures parts)
       (table (class-pair n values weights classes) 9)
       (table (λ k. no-pair) 9)
 
   -- the local Moran of each zone, and of each zone in each class, class by class
-  unfoldable pub report-locals : List Float
-  report-locals =
-      unless-refused (report-refusal n values weights classes locals parts)
+  unfoldable pub report-figures : List Float
+  report-figures =
+      unless-refused (report-refusal n values weights classes figures parts)
       (local-figures (spread-of (at values) n) (job-locals n values weights))
-      locals
+      figures
 
   unfoldable pub report-parts : List Float
   report-parts =
-      unless-refused (report-refusal n values weights classes locals parts)
+      unless-refused (report-refusal n values weights classes figures parts)
       (local-figures (spread-of (at values) n) (class-locals n values weights classes))
       parts

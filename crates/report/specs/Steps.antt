@@ -41,11 +41,11 @@ pub record Numerators (spread : ℤ) (numerators : List ℤ) : Type 0 where
   pub few : length numerators ≤ 576
   pub each : (k : ℕ) → k < length numerators → Ratio (at numerators k) spread
 
--- an accepted job, and what its class account left: the nine rows, and in `shares` the local numerators of each class
-pub record Reportable (n : ℕ) (values : List ℤ) (weights : List ℕ) (rows shares : List ℤ) : Type 0 where
+-- an accepted job, and what its class account left: the nine rows, and the local numerators of each class
+pub record Reportable (n : ℕ) (values : List ℤ) (weights : List ℕ) (rows class-locals : List ℤ) : Type 0 where
   pub zones : n ≤ 64
   pub accepted : (locals : List ℤ) → length locals ≡ n → account-refusal n values weights locals ≡ 0
   pub whole : Formable n (spread-of (at values) n) (class-row (pair-at weights n) (at values) n)
   pub numerators : Numerators (spread-of (at values) n) (job-locals n values weights)
   pub class-rows : FormableRows n (spread-of (at values) n) rows
-  pub class-numerators : Numerators (spread-of (at values) n) shares
+  pub class-numerators : Numerators (spread-of (at values) n) class-locals

@@ -3,7 +3,7 @@ mod forming;
 mod working;
 
 ghost use mathlib.Core.Path.{_≡_};
-ghost use Rattle.report.specs.FloatReport.{number-of, pair-in, report-refusal, report-whole, report-classes, report-locals, report-parts};
+ghost use Rattle.report.specs.FloatReport.{number-of, pair-in, report-refusal, report-whole, report-classes, report-figures, report-parts};
 
 // A coefficient: the nearest float to its exact ratio. A class without weight has none, and says so.
 pub enum Coefficient {
@@ -29,23 +29,23 @@ pub struct Report {
     pub classes: [Pair; 9],
 }
 
-// Works the float report of the job, whose pairs have the classes lent: `locals` has n places for the local Moran of each zone, and
+// Works the float report of the job, whose pairs have the classes lent: `figures` has n places for the local Moran of each zone, and
 // `parts` 9 × n for those in class 0, in class 1, .. Both are left as they were where the job is refused.
 pub fn float_report(
     n: usize,
     values: &[i32],
     weights: &[u8],
     classes: &[u8],
-    locals: &mut [f64],
+    figures: &mut [f64],
     parts: &mut [f64],
 ) -> Report
-    ensures number { λ r. ⌜ number-of (r .whole) ≡ report-refusal n (now (values .entry)) (now (weights .entry)) (now (classes .entry)) (now (locals .entry)) (now (parts .entry)) ⌝ }
-    ensures whole { λ r. ⌜ pair-in (r .whole) ≡ report-whole n (now (values .entry)) (now (weights .entry)) (now (classes .entry)) (now (locals .entry)) (now (parts .entry)) ⌝ }
-    ensures pairs { λ r. ⌜ r .classes ≡ report-classes n (now (values .entry)) (now (weights .entry)) (now (classes .entry)) (now (locals .entry)) (now (parts .entry)) ⌝ }
-    ensures zones { λ _. ⌜ now (locals .exit) ≡ report-locals n (now (values .entry)) (now (weights .entry)) (now (classes .entry)) (now (locals .entry)) (now (parts .entry)) ⌝ }
-    ensures parts { λ _. ⌜ now (parts .exit) ≡ report-parts n (now (values .entry)) (now (weights .entry)) (now (classes .entry)) (now (locals .entry)) (now (parts .entry)) ⌝ }
+    ensures number { λ r. ⌜ number-of (r .whole) ≡ report-refusal n (now (values .entry)) (now (weights .entry)) (now (classes .entry)) (now (figures .entry)) (now (parts .entry)) ⌝ }
+    ensures whole { λ r. ⌜ pair-in (r .whole) ≡ report-whole n (now (values .entry)) (now (weights .entry)) (now (classes .entry)) (now (figures .entry)) (now (parts .entry)) ⌝ }
+    ensures pairs { λ r. ⌜ r .classes ≡ report-classes n (now (values .entry)) (now (weights .entry)) (now (classes .entry)) (now (figures .entry)) (now (parts .entry)) ⌝ }
+    ensures figures { λ _. ⌜ now (figures .exit) ≡ report-figures n (now (values .entry)) (now (weights .entry)) (now (classes .entry)) (now (figures .entry)) (now (parts .entry)) ⌝ }
+    ensures parts { λ _. ⌜ now (parts .exit) ≡ report-parts n (now (values .entry)) (now (weights .entry)) (now (classes .entry)) (now (figures .entry)) (now (parts .entry)) ⌝ }
 {
-    let lent = working::judge_lent(n, locals.len(), parts.len());
+    let lent = working::judge_lent(n, figures.len(), parts.len());
     if lent != 0 {
         return working::refused(lent);
     }
@@ -69,7 +69,7 @@ pub fn float_report(
         weights,
         &rows,
         &numerators[..places],
-        locals,
+        figures,
         parts,
     )
 }

@@ -22,8 +22,8 @@ ghost use Rattle.report.specs.Steps.{Reportable};
 ghost use Rattle.report.specs.declared.Answer.the-variants.{Refused, Reported};
 
 // 1 and 2, of n and the two lists of floats.
-pub fn judge_lent(n: usize, locals: usize, parts: usize) -> u8
-    ensures { λ r. ⌜ r ≡ first-broken (size-rules n ((locals, n) ∷ (parts, 9 * n) ∷ [])) ⌝ }
+pub fn judge_lent(n: usize, figures: usize, parts: usize) -> u8
+    ensures { λ r. ⌜ r ≡ first-broken (size-rules n ((figures, n) ∷ (parts, 9 * n) ∷ [])) ⌝ }
 {
     if n < 2 {
         return 1;
@@ -31,7 +31,7 @@ pub fn judge_lent(n: usize, locals: usize, parts: usize) -> u8
     if n > 64 {
         return 1;
     }
-    if locals != n {
+    if figures != n {
         return 2;
     }
     if parts != 9 * n {
@@ -73,31 +73,31 @@ pub fn job_sums(n: usize, values: &[i32], weights: &[u8], numerators: &mut [i64]
     }
 }
 
-// The report of an accepted job, whose class account left `rows`, and in `shares` the local numerators of each class.
+// The report of an accepted job, whose class account left `rows`, and in `numerators` the local numerators of each class.
 pub fn report_job(
     n: usize,
     values: &[i32],
     weights: &[u8],
     rows: &[i64],
-    shares: &[i64],
-    locals: &mut [f64],
+    numerators: &[i64],
+    figures: &mut [f64],
     parts: &mut [f64],
 ) -> Report
-    requires { ⌜ Reportable n (now values) (now weights) (now rows) (now shares) ⌝ }
-    requires { ⌜ length (now locals) ≡ n ⌝ }
-    requires { ⌜ length (now parts) ≡ length (now shares) ⌝ }
+    requires { ⌜ Reportable n (now values) (now weights) (now rows) (now numerators) ⌝ }
+    requires { ⌜ length (now figures) ≡ n ⌝ }
+    requires { ⌜ length (now parts) ≡ length (now numerators) ⌝ }
     ensures { λ r. ⌜ r ≡ record { whole = Reported (job-pair n (now (values .entry)) (now (weights .entry))); classes = table (λ k. pair-of n (spread-of (at (now (values .entry))) n) (row-at (now (rows .entry)) k)) 9 } ⌝ }
-    ensures { λ _. ⌜ now (locals .exit) ≡ local-figures (spread-of (at (now (values .entry))) n) (job-locals n (now (values .entry)) (now (weights .entry))) ⌝ }
-    ensures { λ _. ⌜ now (parts .exit) ≡ local-figures (spread-of (at (now (values .entry))) n) (now (shares .entry)) ⌝ }
+    ensures { λ _. ⌜ now (figures .exit) ≡ local-figures (spread-of (at (now (values .entry))) n) (job-locals n (now (values .entry)) (now (weights .entry))) ⌝ }
+    ensures { λ _. ⌜ now (parts .exit) ≡ local-figures (spread-of (at (now (values .entry))) n) (now (numerators .entry)) ⌝ }
 {
-    let mut numerators: [i64; 64] = [0; 64];
-    let sums = job_sums(n, values, weights, &mut numerators[..n]);
+    let mut own: [i64; 64] = [0; 64];
+    let sums = job_sums(n, values, weights, &mut own[..n]);
     let spread = sums.spread;
     let weight = sums.weight;
     let cross = sums.cross;
     let squares = sums.squares;
-    forming::put_figures(spread, &numerators[..n], locals);
-    forming::put_figures(spread, shares, parts);
+    forming::put_figures(spread, &own[..n], figures);
+    forming::put_figures(spread, numerators, parts);
     let whole = forming::pair(
         n,
         spread,

@@ -7,6 +7,6 @@ pub record Room (lengths : Lengths) : Type 0 where
   pub values : lengths .values ≤ 66
   pub locals : lengths .locals ≤ 66
   pub rows : lengths .rows ≤ 30
-  pub shares : lengths .shares ≤ 600
+  pub numerators : lengths .numerators ≤ 600
   pub figures : lengths .figures ≤ 66
   pub parts : lengths .parts ≤ 600

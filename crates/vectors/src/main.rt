@@ -30,7 +30,7 @@ fn run_job(name: &[u8], n: usize, bytes: &[u8], weights: &[u8], classes: &[u8], 
         weights,
         classes,
         lengths.rows,
-        lengths.shares,
+        lengths.numerators,
     );
     working::work_report(
         name,

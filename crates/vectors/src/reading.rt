@@ -15,7 +15,7 @@ pub struct Lengths {
     pub locals: usize,
     // the class account's nine rows, and its local numerators of each class
     pub rows: usize,
-    pub shares: usize,
+    pub numerators: usize,
     // the report's local Moran of each zone, and of each zone in each class
     pub figures: usize,
     pub parts: usize,
@@ -46,7 +46,7 @@ pub fn lengths_at(bytes: &[u8], at: usize) -> Lengths
         classes: two_at(bytes, at + 3),
         locals: byte_at(bytes, at + 5),
         rows: byte_at(bytes, at + 6),
-        shares: two_at(bytes, at + 7),
+        numerators: two_at(bytes, at + 7),
         figures: byte_at(bytes, at + 9),
         parts: two_at(bytes, at + 10),
     }
@@ -65,7 +65,7 @@ pub fn has_room(lengths: Lengths) -> bool
     if lengths.rows > 30 {
         return false;
     }
-    if lengths.shares > 600 {
+    if lengths.numerators > 600 {
         return false;
     }
     if lengths.figures > 66 {

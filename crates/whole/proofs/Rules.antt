@@ -1,6 +1,6 @@
 -- Laws of `first-broken`: what a judge that tests rule by rule has shown, and that its answer is the least number that applies.
 -- Assumes nothing.
-use mathlib.Core.Path.{_≡_, refl, sym, _∙_, subst}
+use mathlib.Core.Path.{_≡_, refl, sym, ap, _∙_, subst}
 use mathlib.Core.Bool.{Bool, true, false, not, cond, _||_}
 use mathlib.Core.List.{List, [], _∷_, _++_}
 use mathlib.Core.Logic.{inl, inr, ⊎-elim}
@@ -103,3 +103,16 @@ sizes-hold n lengths e =
 
 pub sizes-let-in : (n : ℕ) (lengths : List (ℕ × ℕ)) → Sizes n lengths → first-broken (size-rules n lengths) ≡ 0
 sizes-let-in n lengths s = rw (le-ltb n 2 (s .two), le-ltb 64 n (s .zones), s .fitting) refl
+
+-- a number that n or some lists give is given by more lists too, where these do not fit whenever those do not
+pub sizes-first :
+    (n : ℕ) (lengths more : List (ℕ × ℕ)) (rest : List Rule) (r : ℕ) → (misfits lengths ≡ true → misfits more ≡ true) →
+    r ≡ first-broken (size-rules n lengths) → (r ≡ 0 → ⊥) → r ≡ first-broken (size-rules n more ++ rest)
+sizes-first n lengths more rest r too e f = go (outside 2 64 n) (misfits lengths) (misfits more) too e
+  where
+    go :
+        (range some all : Bool) → (some ≡ true → all ≡ true) → r ≡ cond range 1 (cond some 2 0) →
+        r ≡ cond range 1 (cond all 2 (first-broken rest))
+    go true some all h g = g
+    go false true all h g = g ∙ sym (ap (λ (t : Bool). cond {A = ℕ} t 2 (first-broken rest)) (h refl))
+    go false false all h g = absurd (f g)

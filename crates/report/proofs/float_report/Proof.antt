@@ -28,8 +28,8 @@ use Rattle.report.proofs.float_report.Tie as tie
 
 -- the same by other names
 reportable-same :
-    {n : ℕ} {values : List ℤ} {weights : List ℕ} {rows rows′ shares shares′ : List ℤ} → rows′ ≡ rows → shares′ ≡ shares →
-    Reportable n values weights rows shares → Reportable n values weights rows′ shares′
+    {n : ℕ} {values : List ℤ} {weights : List ℕ} {rows rows′ numerators numerators′ : List ℤ} → rows′ ≡ rows → numerators′ ≡ numerators →
+    Reportable n values weights rows numerators → Reportable n values weights rows′ numerators′
 reportable-same e f r = rw (e, f) r
 
 report-same :
@@ -42,7 +42,7 @@ abbrev start : tie.After-judge-lent → tie.Start
 start c = c .before .before .before .before .before
 
 abbrev lengths : tie.Start → List (ℕ × ℕ)
-lengths s = (length (s .args .locals .now), s .args .n) ∷ (length (s .args .parts .now), 9 * s .args .n) ∷ []
+lengths s = (length (s .args .figures .now), s .args .n) ∷ (length (s .args .parts .now), 9 * s .args .n) ∷ []
 
 none : (c : tie.Else1) → first-broken (size-rules (start (c .before) .args .n) (lengths (start (c .before)))) ≡ 0
 none c = sym (c .before .judge-lent .ensures) ∙ c .if1 .left
@@ -53,10 +53,10 @@ sized c = sizes-hold _ (lengths (start (c .before))) (none c)
 lists-fit :
     (c : tie.Else1) →
     let a = start (c .before) .args in
-    (length (a .locals .now) ≡ a .n) × (length (a .parts .now) ≡ 9 * a .n)
+    (length (a .figures .now) ≡ a .n) × (length (a .parts .now) ≡ 9 * a .n)
 lists-fit c =
     let a = start (c .before) .args in
-    let first = fits (length (a .locals .now)) (a .n) ((length (a .parts .now), 9 * a .n) ∷ []) (sized c .fitting) in
+    let first = fits (length (a .figures .now)) (a .n) ((length (a .parts .now), 9 * a .n) ∷ []) (sized c .fitting) in
     (first .0, fits (length (a .parts .now)) (9 * a .n) [] (first .1) .0)
 
 judge-lent-requires : tie.Need-judge-lent-requires
@@ -120,8 +120,8 @@ module _ (c : tie.After-class-account) where
   found =
       c .class-account .ensures .0 ∙ ap (class-refusal 27 n values weights classes 27) (length-take-le _ _ (room judged))
 
-  reports : refusal ≡ report-refusal n values weights classes (s .args .locals .now) (s .args .parts .now)
-  reports = then-account n values weights classes (s .args .locals .now) (s .args .parts .now) (none judged)
+  reports : refusal ≡ report-refusal n values weights classes (s .args .figures .now) (s .args .parts .now)
+  reports = then-account n values weights classes (s .args .figures .now) (s .args .parts .now) (none judged)
 
   abbrev numerators : List ℤ
   numerators = class-locals n values weights classes

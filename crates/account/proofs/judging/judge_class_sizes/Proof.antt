@@ -1,30 +1,27 @@
 -- `judge_class_sizes` meets its contract: the first lists are judged as the account's, then the others, each by a test. Assumes nothing.
 use mathlib.Core.Path.{_≡_, refl, sym, _∙_}
-use mathlib.Core.Bool.{Bool, true, false, not, cond, _||_}
+use mathlib.Core.Bool.{Bool, true, false, not, _||_, true≢false}
+use mathlib.Core.List.{List, [], _∷_}
 use Prim.Native.Nat.{ℕ, _*_}
 use native.Mathlib.Omega.{arith}
 use borrow.Author.Tests.{le-ltb, eq-eqb, ne-eqb}
 use lib.Dec.{eqb}
-use Rattle.whole.specs.Rules.{outside}
+use Rattle.whole.proofs.Rules.{sizes-first}
+use Rattle.account.specs.Refusals.{account-lengths}
 use Rattle.account.proofs.Accepted.{Fitting, fitting}
 use Rattle.account.proofs.Reading.{few}
 use Rattle.account.proofs.judging.judge_class_sizes.Statement.{statement}
 use Rattle.account.proofs.judging.judge_class_sizes.Tie as tie
 
--- a number that two lists give is given whatever the others' lengths are
-already :
-    (range first second others : Bool) (r : ℕ) → r ≡ cond range 1 (cond (first || (second || (false || false))) 2 0) → (r ≡ 0 → ⊥) →
-    r ≡ cond range 1 (cond (first || (second || others)) 2 0)
-already true first second others r e f = e
-already false true second others r e f = e
-already false false true others r e f = e
-already false false false others r e f = absurd (f e)
-
--- n places for n local numerators, which the class account does not have
-fits-itself :
-    (n : ℕ) (range first second : Bool) →
-    _≡_ {A = ℕ} (cond range 1 (cond (first || (second || (not (eqb n n) || false))) 2 0)) (cond range 1 (cond (first || (second || (false || false))) 2 0))
-fits-itself n range first second = rw (eq-eqb n n refl) refl
+-- where the first two lists do not fit, all do not; the account's third has n places for n local numerators
+also :
+    (first second : Bool) (n : ℕ) (others : Bool) → (first || (second || (not (eqb n n) || false))) ≡ true →
+    (first || (second || others)) ≡ true
+also true second n others e = refl
+also false true n others e = refl
+also false false n others e =
+    let z : (not (eqb n n) || false) ≡ false = rw (eq-eqb n n refl) refl in
+    absurd (true≢false (sym e ∙ z))
 
 -- n and the first two lists fit
 sized : (c : tie.Else1) → let a = c .before .before .args in Fitting (a .n) (a .values) (a .weights) (a .n)
@@ -36,10 +33,10 @@ judge-sizes-requires c κs = tt
 returns : tie.Need-returns
 returns c =
     let a = c .before .before .args in
-    let range = outside 2 64 (a .n) in
-    let first = not (eqb (a .values) (a .n)) in
-    let second = not (eqb (a .weights) (a .n * a .n)) in
-    already range first second _ _ (c .before .judge-sizes .ensures ∙ fits-itself (a .n) range first second) (c .if1 .taken)
+    let n = a .n in
+    let own = account-lengths n (a .values) (a .weights) n in
+    let all : List (ℕ × ℕ) = (a .values, n) ∷ (a .weights, n * n) ∷ (a .classes, n * n) ∷ (a .rows, a .room) ∷ (a .locals, 9 * n) ∷ [] in
+    sizes-first n own all [] _ (also (not (eqb (a .values) n)) (not (eqb (a .weights) (n * n))) n _) (c .before .judge-sizes .ensures) (c .if1 .taken)
 
 mul-if2 : tie.Need-mul-if2
 mul-if2 c = omega (arith, few _ (sized c .zones))

@@ -16,6 +16,7 @@ use Rattle.whole.proofs.Table.{table-cong}
 use Rattle.account.specs.Measures.{spread-of}
 use Rattle.account.specs.Answers.{class-row, job-locals}
 use Rattle.account.specs.Classes.{row-at}
+use Rattle.account.proofs.Theorems.{job-locals-length}
 use Rattle.account.specs.declared.ClassRow.{ClassRow}
 use Rattle.report.specs.Coefficients.{pair-of, job-pair, local-figures}
 use Rattle.report.specs.FloatReport.{no-pair}
@@ -28,8 +29,8 @@ use borrow.Author.Needs.{needs}
 use Rattle.report.proofs.working.report_job.Statement.{statement}
 use Rattle.report.proofs.working.report_job.Tie as tie
 
-array-borrow-prefix-numerators : tie.Need-array-borrow-prefix-numerators
-array-borrow-prefix-numerators c = c .before .before .before .pre .0 .zones
+array-borrow-prefix-own : tie.Need-array-borrow-prefix-own
+array-borrow-prefix-own c = c .before .before .before .pre .0 .zones
 
 slice-aggregate-job-sums : tie.Need-slice-aggregate-job-sums
 slice-aggregate-job-sums c = sym (length-take-le _ _ (c .before .before .before .before .pre .0 .zones))
@@ -57,7 +58,7 @@ module _ (c : tie.After-job-sums) where
   spread = spread-of (at values) n
 
   as-long : length (job-locals n values weights) ≡ n
-  as-long = job.locals-length n values weights
+  as-long = job-locals-length n values weights
 
   -- the spread, and the three sums, as they are read
   spread-read : r64 (c .job-sums .result .spread) ≡ spread
@@ -84,8 +85,8 @@ first-put c = numbers (c .before .before .before)
 abbrev second-put : tie.After-put-figures2 → tie.After-job-sums
 second-put c = first-put (c .before .before .before .before)
 
-array-share-prefix-numerators : tie.Need-array-share-prefix-numerators
-array-share-prefix-numerators c =
+array-share-prefix-own : tie.Need-array-share-prefix-own
+array-share-prefix-own c =
     let b = numbers c in
     front-le {A = ℤ} _ _ (job-locals (n b) (values b) (weights b)) _ (b .job-sums .ensures .1) (as-long b)
 
@@ -166,10 +167,10 @@ pub report-job-spec : {M : Type 1} → statement M
 report-job-spec =
     tie.close
     (tie.spec
-    array-borrow-prefix-numerators
+    array-borrow-prefix-own
     slice-aggregate-job-sums
     job-sums-requires
-    array-share-prefix-numerators
+    array-share-prefix-own
     slice-aggregate-put-figures
     put-figures-requires
     put-figures-requires-2
