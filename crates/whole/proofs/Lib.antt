@@ -7,6 +7,10 @@ pub mod Pairs
 pub mod Table
 pub mod TableRows
 pub mod Search
+pub mod Compare
+pub mod Counting
+pub mod Permutation
+pub mod Order
 pub mod Rules
 pub mod Machine
 pub mod Sign

@@ -20,10 +20,14 @@ module _ (test : ℕ → Bool) where
   unfolding some
   some-zero = refl
 
+  -- one more, as a loop looks at it
+  pub some-next : (n : ℕ) → some test (n + 1) ≡ (some test n || test n)
+  unfolding some
+  some-next n = ap (some test) (add-one n)
+
   -- none so far, and not here
   pub some-more : (n : ℕ) → some test n ≡ false → test n ≡ false → some test (n + 1) ≡ false
-  unfolding some
-  some-more n p q = ap (some test) (add-one n) ∙ rw (p, q) refl
+  some-more n p q = some-next n ∙ rw (p, q) refl
 
   -- one that passes
   some-hit : (n k : ℕ) → k < n → test k ≡ true → some test n ≡ true
@@ -55,6 +59,11 @@ module _ (test : ℕ → Bool) where
 
   pub some-done : (i n : ℕ) → i ≡ n → some test i ≡ false → false ≡ some test n
   some-done i n l e = sym (ap (some test) (sym l) ∙ e)
+
+pub some-cong : (a b : ℕ → Bool) (n : ℕ) → ((k : ℕ) → k < n → a k ≡ b k) → some a n ≡ some b n
+unfolding some
+some-cong a b zero h = refl
+some-cong a b (suc n) h = rw (some-cong a b n (λ k p. h k (omega arith)), h n (omega arith)) refl
 
 -- ---- where no number of a list is beyond the limit, and where none is above it
 pub none-beyond : (limit : ℕ) (numbers : List ℤ) → any-beyond limit numbers ≡ false → (k : ℕ) → k < length numbers → natAbs (at numbers k) ≤ limit

@@ -1,10 +1,10 @@
 -- Laws of `table`, and of a loop that writes one from the front. Assumes nothing.
 use mathlib.Core.Path.{_≡_, refl, sym, ap, _∙_}
-use mathlib.Core.List.{List}
-use Prim.Native.Nat.{ℕ, zero, suc, _+_, _<_}
+use mathlib.Core.List.{List, _∷_}
+use Prim.Native.Nat.{ℕ, zero, suc, _+_, _≤_, _<_}
 use native.Mathlib.Decide.{ℕ-discrete}
 use native.Mathlib.Omega.{arith}
-use lib.ListN.{length, getD, set}
+use lib.ListN.{length, getD, set, take}
 use lib.Seq.{ext-getD, getD-set-same, getD-set-other}
 use Rattle.whole.specs.Table.{table}
 
@@ -26,6 +26,13 @@ module _ {A : Type 0} where
 
   pub table-cong : (f g : ℕ → A) (n : ℕ) (d : A) → ((k : ℕ) → k < n → f k ≡ g k) → table f n ≡ table g n
   table-cong f g n d h = is-table g n d (table f n) (table-length f n) (λ k p. table-at f n k d p ∙ h k p)
+
+  -- its first m
+  pub table-front : (f : ℕ → A) (m n : ℕ) → m ≤ n → take m (table f n) ≡ table f m
+  unfolding table
+  table-front f zero n h = refl
+  table-front f (suc m) zero h = let z : ⊥ = omega arith in absurd z
+  table-front f (suc m) (suc n) h = ap (λ l. f zero ∷ l) (table-front (λ k. f (suc k)) m n (omega arith))
 
   -- one more store
   pub stored :

@@ -3,4 +3,5 @@ pub mod Integer
 pub mod Sum
 pub mod Table
 pub mod Search
+pub mod Order
 pub mod Rules

@@ -1,7 +1,7 @@
--- A bounded search, and two searches of a list. Assumes nothing.
-use mathlib.Core.Bool.{Bool, false, _||_}
+-- A bounded search: whether a number passes a test, how many do, and which is the first; two searches of a list. Assumes nothing.
+use mathlib.Core.Bool.{Bool, false, cond, _||_}
 use mathlib.Core.List.{List}
-use Prim.Native.Nat.{ℕ, zero, suc}
+use Prim.Native.Nat.{ℕ, zero, suc, _+_}
 use lib.Dec.{ltb}
 use lib.IntN.{ℤ}
 use lib.ListN.{length, getD}
@@ -12,6 +12,16 @@ use Rattle.whole.specs.Table.{at}
 unfoldable pub some : (ℕ → Bool) → ℕ → Bool
 some test zero = false
 some test (suc n) = some test n || test n
+
+-- how many numbers below n pass the test
+unfoldable pub count : (ℕ → Bool) → ℕ → ℕ
+count test zero = 0
+count test (suc n) = count test n + cond (test n) 1 0
+
+-- the first number that passes the test, n where none below n does
+unfoldable pub first : (ℕ → Bool) → ℕ → ℕ
+first test zero = 0
+first test (suc n) = cond (test 0) 0 (suc (first (λ k. test (suc k)) n))
 
 -- a number of the list is beyond the limit in size
 unfoldable pub any-beyond : ℕ → List ℤ → Bool
