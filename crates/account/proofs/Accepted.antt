@@ -1,24 +1,27 @@
 -- What a job is like in which no rule is broken. Assumes nothing.
-use mathlib.Core.Path.{_≡_}
-use mathlib.Core.Bool.{false}
+use mathlib.Core.Path.{_≡_, refl, sym, _∙_}
+use mathlib.Core.Bool.{Bool, true, false, not, _||_, true≢false}
 use mathlib.Core.List.{List, [], _∷_, _++_}
 use Prim.Native.Nat.{ℕ, _*_, _≤_, _<_}
 use native.Mathlib.Omega.{arith}
-use borrow.Author.Tests.{ltb-false}
-use lib.Dec.{ltb}
+use borrow.Author.Tests.{eq-eqb, ltb-false}
+use lib.Dec.{ltb, eqb}
 use lib.IntN.{ℤ, natAbs}
 use lib.ListN.{length, getD}
 use Rattle.whole.specs.Integer.{is-zero}
+use Rattle.whole.specs.Order.{lacks}
 use Rattle.whole.specs.Rules.{Rule, first-broken, misfits, size-rules}
-use Rattle.whole.proofs.Rules.{holds, first-none, fits, sizes-hold}
+use Rattle.whole.proofs.Rules.{holds, first-none, both-hold, fits, sizes-hold, sizes-let-in}
 use Rattle.whole.proofs.Search.{some-none, none-beyond, none-above}
 use Rattle.whole.proofs.Size.{some-size}
 use Rattle.whole.specs.Table.{at, pair-at}
 use Rattle.whole.specs.Search.{any-beyond, any-above}
 use Rattle.account.specs.Measures.{weight-of, spread-of}
-use Rattle.account.specs.Refusals.{any-on-diagonal, job-rules, account-lengths, account-rules, account-refusal}
+use Rattle.account.specs.Refusals.{any-on-diagonal, job-rules, job-lengths, call-rules, account-rules, account-refusal}
 use Rattle.account.specs.Classes.{class-rules, class-refusal}
-use Rattle.account.specs.Steps.{Sized, Weighted, Job}
+use Rattle.account.specs.Rank.{shuffle-count, any-lacking, rank-rules, rank-refusal}
+use Rattle.account.specs.Steps.{Sized, Weighted, Job, Shuffles}
+use Rattle.account.proofs.Shuffled.{at-most-499}
 
 -- ---- what a rule that holds tells
 pub near : (limit : ℕ) (numbers : List ℤ) (n : ℕ) → length numbers ≡ n → any-beyond limit numbers ≡ false → Sized limit numbers n
@@ -31,22 +34,40 @@ pub clear-of : (weights : List ℕ) (n : ℕ) → any-on-diagonal n weights ≡ 
 unfolding any-on-diagonal
 clear-of weights n e i h = let q = ltb-false 0 (pair-at weights n i i) (some-none (λ i. ltb 0 (pair-at weights n i i)) n i e h) in omega arith
 
--- ---- a job in which 1 and 2 hold: the sizes are good
-pub record Fitting (n values weights locals : ℕ) : Type 0 where
+-- ---- a call on a job in which 1 and 2 hold: the sizes are good
+pub record Fitting (n values weights : ℕ) (lent : List (ℕ × ℕ)) : Type 0 where
   pub two : 2 ≤ n
   pub zones : n ≤ 64
   pub values-fit : values ≡ n
   pub weights-fit : weights ≡ n * n
-  pub locals-fit : locals ≡ n
+  pub lent-fit : misfits lent ≡ false
 
 pub fitting :
-    (n values weights locals : ℕ) → first-broken (size-rules n (account-lengths n values weights locals)) ≡ 0 → Fitting n values weights locals
-fitting n values weights locals e =
-    let s = sizes-hold n (account-lengths n values weights locals) e in
-    let l1 = fits values n ((weights, n * n) ∷ (locals, n) ∷ []) (s .fitting) in
-    let l2 = fits weights (n * n) ((locals, n) ∷ []) (l1 .1) in
-    let l3 = fits locals n [] (l2 .1) in
-    record { two = s .two; zones = s .zones; values-fit = l1 .0; weights-fit = l2 .0; locals-fit = l3 .0 }
+    (n values weights : ℕ) (lent : List (ℕ × ℕ)) → first-broken (size-rules n (job-lengths n values weights lent)) ≡ 0 → Fitting n values weights lent
+fitting n values weights lent e =
+    let s = sizes-hold n (job-lengths n values weights lent) e in
+    let l1 = fits values n ((weights, n * n) ∷ lent) (s .fitting) in
+    let l2 = fits weights (n * n) lent (l1 .1) in
+    record { two = s .two; zones = s .zones; values-fit = l1 .0; weights-fit = l2 .0; lent-fit = l2 .1 }
+
+-- other lists, which fit too
+pub fitted :
+    (n values weights : ℕ) (lent others : List (ℕ × ℕ)) → Fitting n values weights lent → misfits others ≡ false →
+    first-broken (size-rules n (job-lengths n values weights others)) ≡ 0
+fitted n values weights lent others f e =
+    let all : misfits (job-lengths n values weights others) ≡ false = rw (eq-eqb values n (f .values-fit), eq-eqb weights (n * n) (f .weights-fit), e) refl in
+    sizes-let-in n (job-lengths n values weights others) (record { two = f .two; zones = f .zones; fitting = all })
+
+-- where a job's two lists do not fit, with n places beside them, they do not with any further lists
+pub also-misfits :
+    (n values weights : ℕ) (lent : List (ℕ × ℕ)) → misfits (job-lengths n values weights ((n, n) ∷ [])) ≡ true →
+    misfits (job-lengths n values weights lent) ≡ true
+also-misfits n values weights lent = go (not (eqb values n)) (not (eqb weights (n * n)))
+  where
+    go : (first second : Bool) → (first || (second || (not (eqb n n) || false))) ≡ true → (first || (second || misfits lent)) ≡ true
+    go true second e = refl
+    go false true e = refl
+    go false false e = let z : (not (eqb n n) || false) ≡ false = rw (eq-eqb n n refl) refl in absurd (true≢false (sym e ∙ z))
 
 -- ---- a job in which 3 to 7 hold
 pub record Kept (n : ℕ) (values : List ℤ) (weights : List ℕ) : Type 0 where
@@ -74,45 +95,58 @@ kept n values weights zones l m e =
       varied = some-size (spread-of (at values) n) (e7 .0);
     }
 
--- ---- a job in which 1 to 7 hold
-pub record Accepted (n : ℕ) (values : List ℤ) (weights : List ℕ) (locals : List ℤ) : Type 0 where
+-- ---- a call on a job in which 1 to 7 hold
+pub record Called (n : ℕ) (values : List ℤ) (weights : List ℕ) (lent : List (ℕ × ℕ)) : Type 0 where
+  pub sizes : Fitting n (length values) (length weights) lent
+  pub job : first-broken (job-rules n values weights) ≡ 0
+
+module _ (n : ℕ) (values : List ℤ) (weights : List ℕ) (lent : List (ℕ × ℕ)) where
+  -- what is judged besides holds too
+  pub called :
+      (besides : List Rule) → first-broken (call-rules n values weights lent besides) ≡ 0 →
+      Called n values weights lent × (first-broken besides ≡ 0)
+  unfolding call-rules job-rules
+  called besides e =
+      let lengths = job-lengths n (length values) (length weights) lent in
+      let both = first-none (job-rules n values weights ++ besides) 0 (size-rules n lengths) (tt, (tt, tt)) e in
+      let rest = first-none besides 0 (job-rules n values weights) (tt, (tt, (tt, (tt, (tt, tt))))) (both .1) in
+      (record { sizes = fitting n (length values) (length weights) lent (both .0); job = rest .0 }, rest .1)
+
+  module _ (c : Called n values weights lent) where
+    pub good : Kept n values weights
+    good = let f = c .sizes in kept n values weights (f .zones) (f .values-fit) (f .weights-fit) (c .job)
+
+    -- another call on the job, where its lists fit and what it judges besides holds
+    pub let-in :
+        (others : List (ℕ × ℕ)) (besides : List Rule) → misfits others ≡ false → first-broken besides ≡ 0 →
+        first-broken (call-rules n values weights others besides) ≡ 0
+    unfolding call-rules job-rules
+    let-in others besides fit e =
+        let lengths = job-lengths n (length values) (length weights) others in
+        let sizes = fitted n (length values) (length weights) lent others (c .sizes) fit in
+        let later = both-hold besides 0 (job-rules n values weights) (tt, (tt, (tt, (tt, (tt, tt))))) (c .job) e in
+        both-hold (job-rules n values weights ++ besides) 0 (size-rules n lengths) (tt, (tt, tt)) sizes later
+
+-- ---- of the account and of the hot list
+pub record Accepted {A : Type 0} (n : ℕ) (values : List ℤ) (weights : List ℕ) (places : List A) : Type 0 where
   pub two : 2 ≤ n
   pub good : Kept n values weights
-  pub room : length locals ≡ n
+  pub room : length places ≡ n
+
+pub account-called :
+    {A : Type 0} (n : ℕ) (values : List ℤ) (weights : List ℕ) (places : List A) → account-refusal n values weights places ≡ 0 →
+    Called n values weights ((length places, n) ∷ [])
+unfolding account-refusal account-rules
+account-called n values weights places e = called n values weights ((length places, n) ∷ []) [] e .0
 
 pub accepted :
-    (n : ℕ) (values : List ℤ) (weights : List ℕ) (locals : List ℤ) → account-refusal n values weights locals ≡ 0 → Accepted n values weights locals
-unfolding account-refusal account-rules
-accepted n values weights locals e =
-    let sizes = size-rules n (account-lengths n (length values) (length weights) (length locals)) in
-    let both = first-none (job-rules n values weights) 0 sizes (tt, (tt, tt)) e in
-    let f = fitting n (length values) (length weights) (length locals) (both .0) in
-    record { two = f .two; good = kept n values weights (f .zones) (f .values-fit) (f .weights-fit) (both .1); room = f .locals-fit }
+    {A : Type 0} (n : ℕ) (values : List ℤ) (weights : List ℕ) (places : List A) → account-refusal n values weights places ≡ 0 →
+    Accepted n values weights places
+accepted n values weights places e =
+    let c = account-called n values weights places e in
+    record { two = c .sizes .two; good = good n values weights _ c; room = fits (length places) n [] (c .sizes .lent-fit) .0 }
 
--- ---- a job with classes, which is lent further lists
-abbrev pub class-lengths : ℕ → ℕ → ℕ → ℕ → List (ℕ × ℕ) → List (ℕ × ℕ)
-class-lengths n values weights classes lent = (values, n) ∷ (weights, n * n) ∷ (classes, n * n) ∷ lent
-
--- in which 1 and 2 hold
-pub record ClassFitting (n values weights classes : ℕ) (lent : List (ℕ × ℕ)) : Type 0 where
-  pub two : 2 ≤ n
-  pub zones : n ≤ 64
-  pub values-fit : values ≡ n
-  pub weights-fit : weights ≡ n * n
-  pub classes-fit : classes ≡ n * n
-  pub lent-fit : misfits lent ≡ false
-
-pub class-fitting :
-    (n values weights classes : ℕ) (lent : List (ℕ × ℕ)) →
-    first-broken (size-rules n (class-lengths n values weights classes lent)) ≡ 0 → ClassFitting n values weights classes lent
-class-fitting n values weights classes lent e =
-    let s = sizes-hold n (class-lengths n values weights classes lent) e in
-    let l1 = fits values n ((weights, n * n) ∷ (classes, n * n) ∷ lent) (s .fitting) in
-    let l2 = fits weights (n * n) ((classes, n * n) ∷ lent) (l1 .1) in
-    let l3 = fits classes (n * n) lent (l2 .1) in
-    record { two = s .two; zones = s .zones; values-fit = l1 .0; weights-fit = l2 .0; classes-fit = l3 .0; lent-fit = l3 .1 }
-
--- in which 1 to 7 and 9 hold
+-- ---- of a call on a job with classes, which is lent further lists
 pub record Classed (n : ℕ) (values : List ℤ) (weights classes : List ℕ) (lent : List (ℕ × ℕ)) : Type 0 where
   pub two : 2 ≤ n
   pub good : Kept n values weights
@@ -120,22 +154,25 @@ pub record Classed (n : ℕ) (values : List ℤ) (weights classes : List ℕ) (l
   pub low : (k : ℕ) → k < n * n → getD classes k 0 ≤ 8
   pub lent-fit : misfits lent ≡ false
 
+pub class-called :
+    (n : ℕ) (values : List ℤ) (weights classes : List ℕ) (lent : List (ℕ × ℕ)) → first-broken (class-rules n values weights classes lent) ≡ 0 →
+    Called n values weights ((length classes, n * n) ∷ lent) × (any-above 8 classes ≡ false)
+unfolding class-rules
+class-called n values weights classes lent e =
+    let c = called n values weights ((length classes, n * n) ∷ lent) ((any-above 8 classes, 9) ∷ []) e in
+    (c .0, holds (any-above 8 classes) 8 0 (c .1) .0)
+
 pub classed :
-    (n : ℕ) (values : List ℤ) (weights classes : List ℕ) (lent : List (ℕ × ℕ)) →
-    first-broken (class-rules n values weights classes lent) ≡ 0 → Classed n values weights classes lent
-unfolding class-rules job-rules
+    (n : ℕ) (values : List ℤ) (weights classes : List ℕ) (lent : List (ℕ × ℕ)) → first-broken (class-rules n values weights classes lent) ≡ 0 →
+    Classed n values weights classes lent
 classed n values weights classes lent e =
-    let above-8 : List Rule = (any-above 8 classes, 9) ∷ [] in
-    let lengths = class-lengths n (length values) (length weights) (length classes) lent in
-    let both = first-none (job-rules n values weights ++ above-8) 0 (size-rules n lengths) (tt, (tt, tt)) e in
-    let f = class-fitting n (length values) (length weights) (length classes) lent (both .0) in
-    let rest = first-none above-8 0 (job-rules n values weights) (tt, (tt, (tt, (tt, (tt, tt))))) (both .1) in
-    let e9 = holds (any-above 8 classes) 8 0 (rest .1) in record {
-      two = f .two;
-      good = kept n values weights (f .zones) (f .values-fit) (f .weights-fit) (rest .0);
-      classes-fit = f .classes-fit;
-      low = λ k h. none-above 8 classes (e9 .0) k (omega (arith, f .classes-fit));
-      lent-fit = f .lent-fit;
+    let c = class-called n values weights classes lent e in
+    let l = fits (length classes) (n * n) lent (c .0 .sizes .lent-fit) in record {
+      two = c .0 .sizes .two;
+      good = good n values weights _ (c .0);
+      classes-fit = l .0;
+      low = λ k h. none-above 8 classes (c .1) k (omega (arith, l .0));
+      lent-fit = l .1;
     }
 
 -- and of the class account's refusal
@@ -153,3 +190,34 @@ class-accepted room n values weights classes rows locals e =
     let l1 = fits rows room ((locals, 9 * n) ∷ []) (w .lent-fit) in
     let l2 = fits locals (9 * n) [] (l1 .1) in
     record { whole = w; rows-fit = l1 .0; locals-fit = l2 .0 }
+
+-- ---- of a rank: the shuffles are whole rows, and none lacks a zone number
+pub record RankAccepted (n : ℕ) (values : List ℤ) (weights shuffles : List ℕ) : Type 0 where
+  pub two : 2 ≤ n
+  pub good : Kept n values weights
+  pub rows : Shuffles shuffles n (shuffle-count n (length shuffles))
+
+pub rank-called :
+    (n : ℕ) (values : List ℤ) (weights shuffles : List ℕ) → rank-refusal n values weights shuffles ≡ 0 →
+    Called n values weights ((length shuffles, shuffle-count n (length shuffles) * n) ∷ []) × (any-lacking n shuffles ≡ false)
+unfolding rank-refusal rank-rules
+rank-called n values weights shuffles e =
+    let c = called n values weights ((length shuffles, shuffle-count n (length shuffles) * n) ∷ []) ((any-lacking n shuffles, 13) ∷ []) e in
+    (c .0, holds (any-lacking n shuffles) 12 0 (c .1) .0)
+
+pub rank-accepted :
+    (n : ℕ) (values : List ℤ) (weights shuffles : List ℕ) → rank-refusal n values weights shuffles ≡ 0 →
+    RankAccepted n values weights shuffles
+unfolding any-lacking
+rank-accepted n values weights shuffles e =
+    let c = rank-called n values weights shuffles e in
+    let rows = shuffle-count n (length shuffles) in record {
+      two = c .0 .sizes .two;
+      good = good n values weights _ (c .0);
+      rows = record {
+        zones = c .0 .sizes .zones;
+        few = at-most-499 n (length shuffles);
+        count = fits (length shuffles) (rows * n) [] (c .0 .sizes .lent-fit) .0;
+        full = λ r h. some-none (λ r. lacks (pair-at shuffles n r) n) rows r (c .1) h;
+      };
+    }

@@ -36,6 +36,12 @@ module _ (f g : ℕ → ℕ → ℕ) (n : ℕ) (same : (i j : ℕ) → i < n →
       ap (λ z. z *ℤ sum (λ j. pos (f i j) *ℤ d j) n) (alike i p)
       ∙ ap (λ z. e i *ℤ z) (sum-cong _ _ n (λ j q. ap (λ v. pos v *ℤ d j) (same i j p q) ∙ ap (λ z. pos (g i j) *ℤ z) (alike j q)))
 
+pub cross-alike : (f : ℕ → ℕ → ℕ) (n : ℕ) (d e : ℕ → ℤ) → ((i : ℕ) → i < n → d i ≡ e i) → cross-of f d n ≡ cross-of f e n
+unfolding cross-of pairs-of row-of
+cross-alike f n d e alike =
+    sum-cong _ _ n
+    (λ i p. sum-cong _ _ n (λ j q. ap (λ z. pos (f i j) *ℤ (z *ℤ d j)) (alike i p) ∙ ap (λ z. pos (f i j) *ℤ (e i *ℤ z)) (alike j q)))
+
 -- ---- the local numerators add up to P
 pub locals-sum : (f : ℕ → ℕ → ℕ) (d : ℕ → ℤ) (n : ℕ) → sum (λ i. local-of f d n i) n ≡ cross-of f d n
 unfolding local-of cross-of pairs-of row-of

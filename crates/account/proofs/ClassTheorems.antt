@@ -1,27 +1,27 @@
 -- What the buyer asks for of the classes, for every job with classes 0 to 8: limits, and that the classes add up. Assumes nothing.
 use mathlib.Core.Path.{_≡_, refl, sym, ap, _∙_}
 use mathlib.Core.Bool.{false}
-use mathlib.Core.List.{List, [], _∷_, _++_}
+use mathlib.Core.List.{List, [], _∷_}
 use Prim.Native.Nat.{ℕ, _+_, _*_, _≤_, _<_}
 use native.Mathlib.Nat as N
 use native.Mathlib.Omega.{arith}
 use borrow.Author.Tests.{eq-eqb}
 use lib.IntN.{ℤ, pos, _*ℤ_}
 use lib.ListN.{length, getD}
-use Rattle.whole.specs.Rules.{Rule, first-broken, Applies, misfits, size-rules}
+use Rattle.whole.specs.Rules.{first-broken, Applies, misfits}
 use Rattle.whole.specs.Search.{any-above}
 use Rattle.whole.specs.Sum.{sum}
 use Rattle.whole.specs.Table.{at, pair-at}
 use Rattle.whole.proofs.Lists.{within}
-use Rattle.whole.proofs.Rules.{first-none, both-hold, first-least, first-applies, sizes-let-in}
+use Rattle.whole.proofs.Rules.{first-least, first-applies}
 use Rattle.whole.proofs.Search.{all-within}
 use Rattle.whole.proofs.TableRows as rows
 use Rattle.account.specs.Measures.{deviation-of, weight-of, cross-of, squares-of, local-of}
 use Rattle.account.specs.Limits.{Limits}
-use Rattle.account.specs.Refusals.{job-rules, account-lengths, account-rules, account-refusal}
+use Rattle.account.specs.Refusals.{job-rules, call-rules, account-rules, account-refusal}
 use Rattle.account.specs.Answers.{class-row}
 use Rattle.account.specs.Classes.{class-weight, class-row-of, class-local-of, sum-at, row-at, class-sums, class-locals, class-rules}
-use Rattle.account.proofs.Accepted.{fitting, classed, class-fitting, class-lengths}
+use Rattle.account.proofs.Accepted.{let-in, account-called, classed, class-called}
 use Rattle.account.proofs.Adding.{locals-sum, weight-parts, cross-parts, squares-parts, local-parts}
 use Rattle.account.proofs.ByClass.{class-le, counts-once}
 use Rattle.account.proofs.Reading.{weight-le}
@@ -57,25 +57,16 @@ module _ (n : ℕ) (values : List ℤ) (weights classes : List ℕ) where
   unfolding class-local-of class-row-of class-row
   class-adds-up k = locals-sum (class-weight weights classes n k) (deviation-of (at values) n) n
 
--- rule 9
-abbrev above-8 : List ℕ → List Rule
-above-8 classes = (any-above 8 classes, 9) ∷ []
-
 -- ---- where nothing is refused
 module _ (n : ℕ) (values : List ℤ) (weights classes : List ℕ) (lent : List (ℕ × ℕ))
     (taken : first-broken (class-rules n values weights classes lent) ≡ 0) where
   -- the account refuses nothing either
   pub account-taken : (locals : List ℤ) → length locals ≡ n → account-refusal n values weights locals ≡ 0
-  unfolding account-refusal account-rules class-rules job-rules
+  unfolding account-refusal account-rules
   account-taken locals l =
-      let lengths = class-lengths n (length values) (length weights) (length classes) lent in
-      let both = first-none (job-rules n values weights ++ (above-8 classes)) 0 (size-rules n lengths) (tt, (tt, tt)) taken in
-      let f = class-fitting n (length values) (length weights) (length classes) lent (both .0) in
-      let rest = first-none (above-8 classes) 0 (job-rules n values weights) (tt, (tt, (tt, (tt, (tt, tt))))) (both .1) in
-      let own = account-lengths n (length values) (length weights) (length locals) in
-      let fit : misfits own ≡ false = rw (eq-eqb (length values) n (f .values-fit), eq-eqb (length weights) (n * n) (f .weights-fit), eq-eqb (length locals) n l) refl in
-      let sizes = sizes-let-in n own (record { two = f .two; zones = f .zones; fitting = fit }) in
-      both-hold (job-rules n values weights) 0 (size-rules n own) (tt, (tt, tt)) sizes (rest .0)
+      let-in n values weights _ (class-called n values weights classes lent taken .0) ((length locals, n) ∷ []) []
+      (rw (eq-eqb (length locals) n l) refl)
+      refl
 
   -- n is 2 to 64
   pub zones-in-range : (2 ≤ n) × (n ≤ 64)
@@ -124,18 +115,11 @@ pub class-taken :
     account-refusal n values weights locals ≡ 0 →
     length classes ≡ n * n → ((p : ℕ) → p < n * n → getD classes p 0 ≤ 8) → misfits lent ≡ false →
     first-broken (class-rules n values weights classes lent) ≡ 0
-unfolding account-refusal account-rules class-rules job-rules
+unfolding class-rules
 class-taken n values weights classes locals lent taken l low fit =
-    let job = job-rules n values weights in
-    let lengths = class-lengths n (length values) (length weights) (length classes) lent in
-    let own = account-lengths n (length values) (length weights) (length locals) in
-    let both = first-none job 0 (size-rules n own) (tt, (tt, tt)) taken in
-    let f = fitting n (length values) (length weights) (length locals) (both .0) in
-    let none : first-broken (above-8 classes) ≡ 0 = rw (all-within 8 classes (λ p h. low p (omega arith))) refl in
-    let all : misfits lengths ≡ false = rw (eq-eqb (length values) n (f .values-fit), eq-eqb (length weights) (n * n) (f .weights-fit), eq-eqb (length classes) (n * n) l, fit) refl in
-    let sizes = sizes-let-in n lengths (record { two = f .two; zones = f .zones; fitting = all }) in
-    let later = both-hold (above-8 classes) 0 job (tt, (tt, (tt, (tt, (tt, tt))))) (both .1) none in
-    both-hold (job ++ above-8 classes) 0 (size-rules n lengths) (tt, (tt, tt)) sizes later
+    let-in n values weights _ (account-called n values weights locals taken) ((length classes, n * n) ∷ lent) ((any-above 8 classes, 9) ∷ [])
+    (rw (eq-eqb (length classes) (n * n) l, fit) refl)
+    (rw (all-within 8 classes (λ p h. low p (omega arith))) refl)
 
 -- ---- the refusal is the least number that applies: it applies, and no number below it does
 module _ (n : ℕ) (values : List ℤ) (weights classes : List ℕ) (lent : List (ℕ × ℕ)) where
@@ -147,6 +131,6 @@ module _ (n : ℕ) (values : List ℤ) (weights classes : List ℕ) (lent : List
   pub class-refusal-least :
       (number : ℕ) → Applies number (class-rules n values weights classes lent) →
       first-broken (class-rules n values weights classes lent) ≤ number
-  unfolding class-rules job-rules
+  unfolding class-rules call-rules job-rules
   class-refusal-least number =
       first-least 0 number (class-rules n values weights classes lent) (tt, (tt, (tt, (tt, (tt, (tt, (tt, (tt, tt))))))))

@@ -5,7 +5,11 @@ pub mod Reading
 pub mod Running
 pub mod Locals
 pub mod ByClass
+pub mod Shuffled
+pub mod HotOrder
+pub mod Tallied
 pub mod Accepted
+pub mod Judged
 pub mod Answered
 pub mod Theorems
 pub mod ClassTheorems

@@ -21,7 +21,7 @@ use Rattle.whole.proofs.SumSize.{sum-above, terms-zero}
 use Rattle.whole.specs.Table.{at, pair-at}
 use Rattle.account.specs.Measures.{total-of, deviation-of, spread-of, weight-of, cross-of, squares-of, local-of}
 use Rattle.account.specs.Limits.{Limits}
-use Rattle.account.specs.Refusals.{job-rules, account-rules, account-refusal}
+use Rattle.account.specs.Refusals.{job-rules, call-rules, account-rules, account-refusal}
 use Rattle.account.specs.Answers.{five, number-of, figures-of, job-figures, job-locals, account-figures, account-locals}
 use Rattle.account.specs.declared.Sums.{Sums}
 use Rattle.account.specs.declared.Answer.{Answer}
@@ -115,14 +115,14 @@ module _ (n : ℕ) (values : List ℤ) (weights : List ℕ) (locals : List ℤ) 
   spread-one = one-of _ (adding.spread-above (at values) n) (accepted n values weights locals taken .good .varied)
 
 -- ---- the refusal is the least number that applies: it applies, and no number below it does
-module _ (n : ℕ) (values : List ℤ) (weights : List ℕ) (locals : List ℤ) where
+module _ {A : Type 0} (n : ℕ) (values : List ℤ) (weights : List ℕ) (locals : List A) where
   pub refusal-applies :
       (account-refusal n values weights locals ≡ 0 → ⊥) → Applies (account-refusal n values weights locals) (account-rules n values weights locals)
   unfolding account-refusal
   refusal-applies = first-applies (account-rules n values weights locals)
 
   pub refusal-least : (number : ℕ) → Applies number (account-rules n values weights locals) → account-refusal n values weights locals ≤ number
-  unfolding account-refusal account-rules job-rules
+  unfolding account-refusal account-rules call-rules job-rules
   refusal-least number = first-least 0 number (account-rules n values weights locals) (tt, (tt, (tt, (tt, (tt, (tt, (tt, tt)))))))
 
 -- ---- an answer is known by its number and its figures, so that the contract leaves no second answer open

@@ -1,17 +1,17 @@
 -- The class account: each ordered pair has a class 0 to 8, 0 being unclassed. For each class, W, P, G and L(i) are taken over its pairs
 -- only; d and M stay those of the whole job. Assumes nothing.
 use mathlib.Core.Bool.{cond}
-use mathlib.Core.List.{List, [], _∷_, _++_}
+use mathlib.Core.List.{List, [], _∷_}
 use Prim.Native.Nat.{ℕ, zero, suc, _+_, _*_}
 use lib.Dec.{eqb}
 use lib.IntN.{ℤ}
 use lib.ListN.{length}
-use Rattle.whole.specs.Rules.{Rule, first-broken, unless-refused, size-rules}
+use Rattle.whole.specs.Rules.{Rule, first-broken, unless-refused}
 use Rattle.whole.specs.Search.{any-above}
 use Rattle.whole.specs.Table.{table, table-rows, at, pair-at}
 use Rattle.account.specs.Measures.{deviation-of, local-of}
 use Rattle.account.specs.Answers.{class-row}
-use Rattle.account.specs.Refusals.{job-rules}
+use Rattle.account.specs.Refusals.{call-rules}
 use Rattle.account.specs.declared.ClassRow.{ClassRow}
 
 -- the weight that counts in class k: w(i,j) where k is the class of (i,j), and 0 elsewhere
@@ -51,8 +51,7 @@ class-locals n values weights classes = table-rows (class-local-of n values weig
 -- 1 to 7, then 9, of a call on a job with classes; `lent` has the lengths of its further lists, with those that they must have
 unfoldable pub class-rules : ℕ → List ℤ → List ℕ → List ℕ → List (ℕ × ℕ) → List Rule
 class-rules n values weights classes lent =
-    size-rules n ((length values, n) ∷ (length weights, n * n) ∷ (length classes, n * n) ∷ lent)
-    ++ (job-rules n values weights ++ ((any-above 8 classes, 9) ∷ []))
+    call-rules n values weights ((length classes, n * n) ∷ lent) ((any-above 8 classes, 9) ∷ [])
 
 -- the class account's refusal, 0 where no rule is broken; its nine rows lie in a list of `room` places
 unfoldable pub class-refusal : ℕ → ℕ → List ℤ → List ℕ → List ℕ → ℕ → ℕ → ℕ

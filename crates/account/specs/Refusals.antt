@@ -28,17 +28,23 @@ job-rules n values weights =
     ∷ (is-zero (spread-of (at values) n), 7)
     ∷ []
 
--- ---- the account
+-- ---- a call on a job
 
--- its lists' lengths, with those that they must have: n values, n × n weights, n places for the local numerators
-abbrev pub account-lengths : ℕ → ℕ → ℕ → ℕ → List (ℕ × ℕ)
-account-lengths n values weights locals = (values, n) ∷ (weights, n * n) ∷ (locals, n) ∷ []
+-- the lengths of a job's lists and of the further ones that the call is lent, with those that they must have
+abbrev pub job-lengths : ℕ → ℕ → ℕ → List (ℕ × ℕ) → List (ℕ × ℕ)
+job-lengths n values weights lent = (values, n) ∷ (weights, n * n) ∷ lent
+
+-- 1 to 7, then what the call judges besides
+unfoldable pub call-rules : ℕ → List ℤ → List ℕ → List (ℕ × ℕ) → List Rule → List Rule
+call-rules n values weights lent besides =
+    size-rules n (job-lengths n (length values) (length weights) lent) ++ (job-rules n values weights ++ besides)
+
+-- ---- the account, and the hot list: each is lent a list of n places, for the local numerators or for the zone numbers
 
 -- 1 to 7
-unfoldable pub account-rules : ℕ → List ℤ → List ℕ → List ℤ → List Rule
-account-rules n values weights locals =
-    size-rules n (account-lengths n (length values) (length weights) (length locals)) ++ job-rules n values weights
+unfoldable pub account-rules : {A : Type 0} → ℕ → List ℤ → List ℕ → List A → List Rule
+account-rules n values weights places = call-rules n values weights ((length places, n) ∷ []) []
 
 -- its refusal, 0 where no rule is broken
-unfoldable pub account-refusal : ℕ → List ℤ → List ℕ → List ℤ → ℕ
-account-refusal n values weights locals = first-broken (account-rules n values weights locals)
+unfoldable pub account-refusal : {A : Type 0} → ℕ → List ℤ → List ℕ → List A → ℕ
+account-refusal n values weights places = first-broken (account-rules n values weights places)

@@ -1,14 +1,16 @@
 // The judges: each answers the number of the first broken rule, 0 where none is broken, and stores nothing.
 use crate::differences;
+use crate::shuffling;
 use crate::working;
 ghost use mathlib.Core.Path.{_≡_};
-ghost use mathlib.Core.List.{[], _∷_, _++_};
+ghost use mathlib.Core.List.{[], _∷_};
 ghost use Prim.Native.Nat.{_*_, _≤_};
 ghost use lib.ListN.{length};
 ghost use Rattle.whole.specs.Rules.{first-broken, size-rules};
 ghost use Rattle.whole.specs.Search.{any-beyond, any-above};
-ghost use Rattle.account.specs.Refusals.{any-on-diagonal, job-rules, account-lengths};
+ghost use Rattle.account.specs.Refusals.{any-on-diagonal, job-rules, job-lengths, call-rules};
 ghost use Rattle.account.specs.Classes.{class-refusal};
+ghost use Rattle.account.specs.Rank.{shuffle-count, rank-refusal};
 
 // Whether some value is beyond 100,000 in size.
 pub fn any_beyond(values: &[i32]) -> bool
@@ -59,9 +61,9 @@ pub fn any_on_diagonal(n: usize, weights: &[u8]) -> bool
     false
 }
 
-// 1 and 2: n, and the lengths of the account's three lists.
-pub fn judge_sizes(n: usize, values: usize, weights: usize, locals: usize) -> u8
-    ensures { λ r. ⌜ r ≡ first-broken (size-rules n (account-lengths n values weights locals)) ⌝ }
+// 1 and 2: n, and the lengths of a job's two lists and of the n places that are lent.
+pub fn judge_sizes(n: usize, values: usize, weights: usize, places: usize) -> u8
+    ensures { λ r. ⌜ r ≡ first-broken (size-rules n (job-lengths n values weights ((places, n) ∷ []))) ⌝ }
 {
     if n < 2 {
         return 1;
@@ -75,7 +77,7 @@ pub fn judge_sizes(n: usize, values: usize, weights: usize, locals: usize) -> u8
     if weights != n * n {
         return 2;
     }
-    if locals != n {
+    if places != n {
         return 2;
     }
     0
@@ -106,11 +108,12 @@ pub fn judge_job(n: usize, values: &[i32], weights: &[u8]) -> u8
     0
 }
 
-// 1 to 7: the account's refusal. The local list's content is not judged, so its length is all that is asked for.
-pub fn judge_account(n: usize, values: &[i32], weights: &[u8], locals: usize) -> u8
-    ensures { λ r. ⌜ r ≡ first-broken (size-rules n (account-lengths n (length (now (values .entry))) (length (now (weights .entry))) locals) ++ job-rules n (now (values .entry)) (now (weights .entry))) ⌝ }
+// 1 to 7: the refusal of the account and of the hot list. What the n lent places hold is not judged, so their number is all that is
+// asked for.
+pub fn judge_account(n: usize, values: &[i32], weights: &[u8], places: usize) -> u8
+    ensures { λ r. ⌜ r ≡ first-broken (call-rules n (now (values .entry)) (now (weights .entry)) ((places, n) ∷ []) []) ⌝ }
 {
-    let sizes = judge_sizes(n, values.len(), weights.len(), locals);
+    let sizes = judge_sizes(n, values.len(), weights.len(), places);
     if sizes != 0 {
         return sizes;
     }
@@ -127,7 +130,7 @@ pub fn judge_class_sizes(
     rows: usize,
     locals: usize,
 ) -> u8
-    ensures { λ r. ⌜ r ≡ first-broken (size-rules n ((values, n) ∷ (weights, n * n) ∷ (classes, n * n) ∷ (rows, room) ∷ (locals, 9 * n) ∷ [])) ⌝ }
+    ensures { λ r. ⌜ r ≡ first-broken (size-rules n (job-lengths n values weights ((classes, n * n) ∷ (rows, room) ∷ (locals, 9 * n) ∷ []))) ⌝ }
 {
     let sizes = judge_sizes(n, values, weights, n);
     if sizes != 0 {
@@ -175,6 +178,42 @@ pub fn judge_classes(
     }
     if any_above(8, classes) {
         return 9;
+    }
+    0
+}
+
+// 1 and 2 of a rank: n, and the lengths of its three lists. The shuffles are 0 to 499 whole rows.
+pub fn judge_rank_sizes(n: usize, values: usize, weights: usize, shuffles: usize) -> u8
+    ensures { λ r. ⌜ r ≡ first-broken (size-rules n (job-lengths n values weights ((shuffles, shuffle-count n shuffles * n) ∷ []))) ⌝ }
+{
+    let sizes = judge_sizes(n, values, weights, n);
+    if sizes != 0 {
+        return sizes;
+    }
+    let rows = shuffles / n;
+    if rows > 499 {
+        return 2;
+    }
+    if shuffles != rows * n {
+        return 2;
+    }
+    0
+}
+
+// 1 to 7, then 13: the rank's refusal.
+pub fn judge_rank(n: usize, values: &[i32], weights: &[u8], shuffles: &[u8]) -> u8
+    ensures { λ r. ⌜ r ≡ rank-refusal n (now (values .entry)) (now (weights .entry)) (now (shuffles .entry)) ⌝ }
+{
+    let sizes = judge_rank_sizes(n, values.len(), weights.len(), shuffles.len());
+    if sizes != 0 {
+        return sizes;
+    }
+    let job = judge_job(n, values, weights);
+    if job != 0 {
+        return job;
+    }
+    if shuffling::any_lacking(n, shuffles, shuffles.len() / n) {
+        return 13;
     }
     0
 }

@@ -16,7 +16,7 @@ use Rattle.whole.proofs.Rules.{kept-when-refused, worked-when-taken, beside, si
 use Rattle.account.specs.Measures.{spread-of}
 use Rattle.account.specs.Answers.{job-locals}
 use Rattle.account.specs.Classes.{row-at, class-sums, class-locals, class-rules, class-refusal}
-use Rattle.account.specs.Refusals.{job-rules}
+use Rattle.account.specs.Refusals.{job-rules, job-lengths, call-rules}
 use Rattle.account.proofs.ClassTheorems.{class-sums-row}
 use Rattle.report.specs.Coefficients.{pair-of, job-pair, class-pair, local-figures}
 use Rattle.report.specs.FloatReport.{number-of, pair-in, report-refusal, no-pair, report-whole, report-classes, report-figures, report-parts}
@@ -91,17 +91,17 @@ module _ (n : ℕ) (values : List ℤ) (weights classes : List ℕ) where
       (figures parts : List Float) (r : ℕ) →
       r ≡ first-broken (size-rules n ((length figures, n) ∷ (length parts, 9 * n) ∷ [])) → (r ≡ 0 → ⊥) →
       r ≡ report-refusal n values weights classes figures parts
-  unfolding report-refusal class-rules
+  unfolding report-refusal class-rules call-rules
   lent-first figures parts r e f =
       let lent : List (ℕ × ℕ) = (length figures, n) ∷ (length parts, 9 * n) ∷ [] in
-      let all : List (ℕ × ℕ) = (length values, n) ∷ (length weights, n * n) ∷ (length classes, n * n) ∷ lent in
+      let all = job-lengths n (length values) (length weights) ((length classes, n * n) ∷ lent) in
       sizes-first n lent all (job-rules n values weights ++ ((any-above 8 classes, 9) ∷ [])) r (too lent) e f
 
   -- where the further lists of two calls fit, they are refused alike
   alike :
       (lent other : List (ℕ × ℕ)) → misfits lent ≡ false → misfits other ≡ false →
       first-broken (class-rules n values weights classes lent) ≡ first-broken (class-rules n values weights classes other)
-  unfolding class-rules
+  unfolding class-rules call-rules
   alike lent other e f = rw (e, f) refl
 
   -- so then the number is the class account's

@@ -1,37 +1,39 @@
 -- `judge_account` meets its contract: the sizes' number where there is one, else the job's. Assumes nothing.
-use mathlib.Core.Path.{sym, _∙_}
-use mathlib.Core.List.{List}
-use lib.ListN.{length}
-use Rattle.whole.specs.Rules.{Rule, size-rules}
-use Rattle.whole.proofs.Rules.{first-here, first-next}
-use Rattle.account.specs.Refusals.{job-rules, account-lengths}
+use mathlib.Core.Path.{_≡_, sym, _∙_}
+use mathlib.Core.List.{List, [], _∷_}
+use Prim.Native.Nat.{ℕ}
+use Rattle.whole.specs.Rules.{first-broken}
+use Rattle.account.specs.Refusals.{job-rules}
 use Rattle.account.proofs.Accepted.{fitting}
+use Rattle.account.proofs.Judged.{sizes-of, by-sizes, then-job}
 use Rattle.account.proofs.judging.judge_account.Statement.{statement}
 use Rattle.account.proofs.judging.judge_account.Tie as tie
 
--- the two lists of rules
-module _ (c : tie.After-shared-slice-known) where
-  abbrev sizes : List Rule
-  sizes = let a = c .before .args in size-rules (a .n) (account-lengths (a .n) (length (a .values .now)) (length (a .weights .now)) (a .locals))
+-- the list of n places
+abbrev lent : tie.Start → List (ℕ × ℕ)
+lent a = (a .args .places, a .args .n) ∷ []
 
-  abbrev rest : List Rule
-  rest = let a = c .before .args in job-rules (a .n) (a .values .now) (a .weights .now)
+-- the sizes are good
+sizes-good :
+    (c : tie.Else1) →
+    let s = c .before .before .before in first-broken (sizes-of (s .args .n) (s .args .values .now) (s .args .weights .now) (lent s) []) ≡ 0
+sizes-good c = sym (c .before .judge-sizes .ensures) ∙ c .if1 .left
 
 judge-sizes-requires : tie.Need-judge-sizes-requires
 judge-sizes-requires c κs = tt
 
 returns : tie.Need-returns
-returns c = let b = c .before .before in first-here (rest b) (sizes b) _ (c .before .judge-sizes .ensures) (c .if1 .taken)
+returns c = by-sizes _ _ _ (lent (c .before .before .before)) [] _ (c .before .judge-sizes .ensures) (c .if1 .taken)
 
 judge-job-requires : tie.Need-judge-job-requires
 judge-job-requires c κs =
-    let f = fitting _ _ _ _ (sym (c .before .judge-sizes .ensures) ∙ c .if1 .left) in
+    let f = fitting _ _ _ (lent (c .before .before .before)) (sizes-good c) in
     (f .zones, (f .values-fit, f .weights-fit))
 
 returns-2 : tie.Need-returns-2
+unfolding job-rules
 returns-2 c =
-    let b = c .before .before .before in
-    c .judge-job .ensures ∙ first-next (rest b) 0 (sizes b) (tt, (tt, tt)) (sym (c .before .before .judge-sizes .ensures) ∙ c .before .if1 .left)
+    then-job _ _ _ (lent (c .before .before .before .before)) [] _ (sizes-good (c .before)) (c .judge-job .ensures)
 
 pub judge-account-spec : {M : Type 1} → statement M
 judge-account-spec = tie.close (tie.spec judge-sizes-requires returns judge-job-requires returns-2)

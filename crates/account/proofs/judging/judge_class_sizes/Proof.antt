@@ -1,30 +1,18 @@
 -- `judge_class_sizes` meets its contract: the first lists are judged as the account's, then the others, each by a test. Assumes nothing.
-use mathlib.Core.Path.{_≡_, refl, sym, _∙_}
-use mathlib.Core.Bool.{Bool, true, false, not, _||_, true≢false}
+use mathlib.Core.Path.{sym, _∙_}
 use mathlib.Core.List.{List, [], _∷_}
 use Prim.Native.Nat.{ℕ, _*_}
 use native.Mathlib.Omega.{arith}
 use borrow.Author.Tests.{le-ltb, eq-eqb, ne-eqb}
-use lib.Dec.{eqb}
 use Rattle.whole.proofs.Rules.{sizes-first}
-use Rattle.account.specs.Refusals.{account-lengths}
-use Rattle.account.proofs.Accepted.{Fitting, fitting}
+use Rattle.account.specs.Refusals.{job-lengths}
+use Rattle.account.proofs.Accepted.{Fitting, fitting, also-misfits}
 use Rattle.account.proofs.Reading.{few}
 use Rattle.account.proofs.judging.judge_class_sizes.Statement.{statement}
 use Rattle.account.proofs.judging.judge_class_sizes.Tie as tie
 
--- where the first two lists do not fit, all do not; the account's third has n places for n local numerators
-also :
-    (first second : Bool) (n : ℕ) (others : Bool) → (first || (second || (not (eqb n n) || false))) ≡ true →
-    (first || (second || others)) ≡ true
-also true second n others e = refl
-also false true n others e = refl
-also false false n others e =
-    let z : (not (eqb n n) || false) ≡ false = rw (eq-eqb n n refl) refl in
-    absurd (true≢false (sym e ∙ z))
-
 -- n and the first two lists fit
-sized : (c : tie.Else1) → let a = c .before .before .args in Fitting (a .n) (a .values) (a .weights) (a .n)
+sized : (c : tie.Else1) → let a = c .before .before .args in Fitting (a .n) (a .values) (a .weights) ((a .n, a .n) ∷ [])
 sized c = fitting _ _ _ _ (sym (c .before .judge-sizes .ensures) ∙ c .if1 .left)
 
 judge-sizes-requires : tie.Need-judge-sizes-requires
@@ -34,9 +22,10 @@ returns : tie.Need-returns
 returns c =
     let a = c .before .before .args in
     let n = a .n in
-    let own = account-lengths n (a .values) (a .weights) n in
-    let all : List (ℕ × ℕ) = (a .values, n) ∷ (a .weights, n * n) ∷ (a .classes, n * n) ∷ (a .rows, a .room) ∷ (a .locals, 9 * n) ∷ [] in
-    sizes-first n own all [] _ (also (not (eqb (a .values) n)) (not (eqb (a .weights) (n * n))) n _) (c .before .judge-sizes .ensures) (c .if1 .taken)
+    let lent : List (ℕ × ℕ) = (a .classes, n * n) ∷ (a .rows, a .room) ∷ (a .locals, 9 * n) ∷ [] in
+    sizes-first n (job-lengths n (a .values) (a .weights) ((n, n) ∷ [])) (job-lengths n (a .values) (a .weights) lent) [] _
+    (also-misfits n (a .values) (a .weights) lent)
+    (c .before .judge-sizes .ensures) (c .if1 .taken)
 
 mul-if2 : tie.Need-mul-if2
 mul-if2 c = omega (arith, few _ (sized c .zones))

@@ -1,0 +1,82 @@
+-- The rank of a job: how many shuffles of its values have a P less than, equal to and greater than its own. The job itself is not counted.
+-- A list of shuffles has a row of n zone numbers for each. Assumes nothing.
+use mathlib.Core.Bool.{Bool, cond}
+use mathlib.Core.List.{List, [], _∷_}
+use Prim.Native.Nat.{ℕ, _*_, _/_}
+use lib.Dec.{ltb}
+use lib.IntN.{ℤ}
+use lib.ListN.{length}
+use lib.Signed.{ltZ}
+use Rattle.whole.specs.Integer.{equal}
+use Rattle.whole.specs.Order.{lacks}
+use Rattle.whole.specs.Rules.{Rule, first-broken, unless-refused}
+use Rattle.whole.specs.Search.{some, count}
+use Rattle.whole.specs.Table.{at, pair-at}
+use Rattle.account.specs.Measures.{deviation-of, cross-of}
+use Rattle.account.specs.Refusals.{call-rules}
+use Rattle.account.specs.declared.Counts.{Counts}
+use Rattle.account.specs.declared.RankAnswer.{RankAnswer}
+use Rattle.account.specs.declared.RankAnswer.the-variants.{Refused, Counted}
+
+-- ---- what is worked
+
+-- the number of shuffles in a list of that length: its whole rows of n, at most 499
+unfoldable pub shuffle-count : ℕ → ℕ → ℕ
+shuffle-count n length = let rows = length / n in cond (ltb 499 rows) 499 rows
+
+-- zone i takes the value of the zone named at place i
+abbrev pub shuffled : (ℕ → ℤ) → (ℕ → ℕ) → ℕ → ℤ
+shuffled x named i = x (named i)
+
+-- the P of values x
+unfoldable pub values-cross : ℕ → List ℕ → (ℕ → ℤ) → ℤ
+values-cross n weights x = cross-of (pair-at weights n) (deviation-of x n) n
+
+-- the P of the r-th shuffle
+unfoldable pub shuffle-cross : ℕ → List ℤ → List ℕ → List ℕ → ℕ → ℤ
+shuffle-cross n values weights shuffles r = values-cross n weights (shuffled (at values) (pair-at shuffles n r))
+
+-- less, equal, greater: how many of so many numbers are so, beside the number that is the job's own
+unfoldable pub compared : (ℕ → ℤ) → ℤ → ℕ → List ℕ
+compared numbers own many =
+    count (λ r. ltZ (numbers r) own) many ∷ count (λ r. equal (numbers r) own) many ∷ count (λ r. ltZ own (numbers r)) many ∷ []
+
+-- the shuffles by their P
+unfoldable pub job-rank : ℕ → List ℤ → List ℕ → List ℕ → List ℕ
+job-rank n values weights shuffles =
+    compared (shuffle-cross n values weights shuffles) (values-cross n weights (at values)) (shuffle-count n (length shuffles))
+
+-- ---- what is refused
+
+-- a shuffle lacks some zone number
+unfoldable pub any-lacking : ℕ → List ℕ → Bool
+any-lacking n shuffles = some (λ r. lacks (pair-at shuffles n r) n) (shuffle-count n (length shuffles))
+
+-- 1 to 7, then 13; the list of shuffles has nothing beside its 0 to 499 whole rows
+unfoldable pub rank-rules : ℕ → List ℤ → List ℕ → List ℕ → List Rule
+rank-rules n values weights shuffles =
+    call-rules n values weights ((length shuffles, shuffle-count n (length shuffles) * n) ∷ []) ((any-lacking n shuffles, 13) ∷ [])
+
+-- its refusal, 0 where no rule is broken
+unfoldable pub rank-refusal : ℕ → List ℤ → List ℕ → List ℕ → ℕ
+rank-refusal n values weights shuffles = first-broken (rank-rules n values weights shuffles)
+
+-- ---- what is answered
+
+-- less, equal and greater as the counts hold them
+abbrev pub three : Counts → List ℕ
+three counts = counts .less ∷ counts .equal ∷ counts .greater ∷ []
+
+-- the number of the refusal, 0 where nothing is refused
+unfoldable pub number-of : RankAnswer → ℕ
+number-of (Refused number) = number
+number-of (Counted counts) = 0
+
+-- the three counts, none where the call is refused
+unfoldable pub counts-of : RankAnswer → List ℕ
+counts-of (Refused number) = []
+counts-of (Counted counts) = three counts
+
+-- the counts that the call answers
+unfoldable pub rank-counts : ℕ → List ℤ → List ℕ → List ℕ → List ℕ
+rank-counts n values weights shuffles = unless-refused (rank-refusal n values weights shuffles) (job-rank n values weights shuffles) []

@@ -1,0 +1,73 @@
+// The rank's work on a job that was judged and accepted: S, d and the job's own P are worked once, then the P of each shuffle.
+use crate::Counts;
+use crate::deviations;
+use crate::shuffling;
+ghost use mathlib.Core.Path.{_≡_};
+ghost use Rattle.whole.specs.Table.{at, pair-at};
+ghost use Rattle.account.specs.Measures.{cross-of};
+ghost use Rattle.account.specs.Rank.{shuffled, values-cross, shuffle-cross, compared, three};
+ghost use Rattle.account.specs.Steps.{Sized, Weighted, Job, Shuffle, Shuffles};
+
+// The P of the deviations d: each row's weighted neighbours are added up first, and multiplied by the row's d once.
+pub fn cross_sum(n: usize, weights: &[u8], d: &[i64]) -> i64
+    requires { ⌜ Weighted (now weights) n ⌝ }
+    requires { ⌜ Sized 12800000 (now d) n ⌝ }
+    ensures { λ r. ⌜ r ≡ cross-of (pair-at (now (weights .entry)) n) (at (now (d .entry))) n ⌝ }
+{
+    let mut locals: [i64; 64] = [0; 64];
+    deviations::local_numerators(n, weights, d, &mut locals[..n]);
+    deviations::sum_of(n, &locals[..n])
+}
+
+// The P of shuffle r, from the job's deviations.
+pub fn shuffle_cross(n: usize, weights: &[u8], d: &[i64], shuffles: &[u8], r: usize) -> i64
+    requires { ⌜ Weighted (now weights) n ⌝ }
+    requires { ⌜ Sized 12800000 (now d) n ⌝ }
+    requires { ⌜ Shuffle (now shuffles) n r ⌝ }
+    ensures { λ p. ⌜ p ≡ cross-of (pair-at (now (weights .entry)) n) (shuffled (at (now (d .entry))) (pair-at (now (shuffles .entry)) n r)) n ⌝ }
+{
+    let mut moved: [i64; 64] = [0; 64];
+    shuffling::shuffle_deviations(n, d, shuffles, r, &mut moved[..n]);
+    cross_sum(n, weights, &moved[..n])
+}
+
+// How many shuffles have a P less than, equal to, greater than the job's own.
+pub fn tally(n: usize, weights: &[u8], d: &[i64], shuffles: &[u8], rows: usize) -> Counts
+    requires { ⌜ Weighted (now weights) n ⌝ }
+    requires { ⌜ Sized 12800000 (now d) n ⌝ }
+    requires { ⌜ Shuffles (now shuffles) n rows ⌝ }
+    ensures { λ c. ⌜ three c ≡ compared (λ r. cross-of (pair-at (now (weights .entry)) n) (shuffled (at (now (d .entry))) (pair-at (now (shuffles .entry)) n r)) n) (cross-of (pair-at (now (weights .entry)) n) (at (now (d .entry))) n) rows ⌝ }
+{
+    let own = cross_sum(n, weights, d);
+    let mut less: usize = 0;
+    let mut equal: usize = 0;
+    let mut greater: usize = 0;
+    let mut r: usize = 0;
+    while r < rows {
+        let cross = shuffle_cross(n, weights, d, shuffles, r);
+        if cross < own {
+            less += 1;
+        } else if own < cross {
+            greater += 1;
+        } else {
+            equal += 1;
+        }
+        r += 1;
+    }
+    Counts {
+        less: less,
+        equal: equal,
+        greater: greater,
+    }
+}
+
+// The rank of an accepted job.
+pub fn work_rank(n: usize, values: &[i32], weights: &[u8], shuffles: &[u8], rows: usize) -> Counts
+    requires { ⌜ Job (now values) (now weights) n ⌝ }
+    requires { ⌜ Shuffles (now shuffles) n rows ⌝ }
+    ensures { λ c. ⌜ three c ≡ compared (shuffle-cross n (now (values .entry)) (now (weights .entry)) (now (shuffles .entry))) (values-cross n (now (weights .entry)) (at (now (values .entry)))) rows ⌝ }
+{
+    let mut d: [i64; 64] = [0; 64];
+    deviations::deviations(n, values, &mut d[..n]);
+    tally(n, weights, &d[..n], shuffles, rows)
+}
