@@ -4,11 +4,13 @@
     job_vectors.py                    writes crates/vectors/stdin and crates/vectors/stdout
     job_vectors.py --check            says whether the two files are what this program makes
     job_vectors.py --compare PROGRAM  runs PROGRAM on some thousands of drawn jobs and compares every line; then looks at the numbers
-                                      that it printed: do they add up, and is each float the nearest to the ratio of its whole numbers
+                                      that it printed: do they add up, is each float the nearest to the ratio of its whole numbers, do
+                                      the local numerators fall along the hot list, and do the counts of the rank make up its shuffles
 
 The account here shares nothing with the proved one. It works as the papers write: from the mean as an exact fraction, the deviations
 z = x - mean, and the joins one by one (document 001, equations 9, 12 and 19; 003, 13.1 and 13.2). Coefficients are worked by those
-formulas; the whole numbers of document 01 are scaled from the same sums at the end.
+formulas; the whole numbers of document 01 are scaled from the same sums at the end. The hot list is Python's sort of the papers' local
+figures. Each shuffle is a job of its own here: the values are moved, and its mean and its sum of w z z are worked anew.
 """
 import functools
 import pathlib
@@ -27,7 +29,8 @@ READ = 65535  # as many bytes as one run is given
 CLASSES = range(9)
 LENT, FLOAT_LENT = '7', '3fe0000000000000'  # what every place of a lent list holds before the call: 7, or the bits of 0.5
 
-# how lines must begin by what document 01 prints of its cases (a) to (d) and of Example 2 of 000
+# how lines must begin: by what document 01 prints of its cases (a) to (d), of its whole report and of Example 2 of 000; and of A.4's job
+# its sums, and its rank among the 499 shuffles of A.5 from seed 1, as two other programs have worked them
 PRINTED = [
     'case-a account 9 42 4 -18 34 | 18 -9 -27',
     'case-b report bff0000000000000 3ff0000000000000 |',
@@ -36,7 +39,11 @@ PRINTED = [
     'case-d classes 0 | 0 0 0 6 96 0 2 -32 8 0 0 0',
     'case-d report 3fe0000000000000 3fd8000000000000 | - - 3ff0000000000000 0000000000000000 bff0000000000000 3ff8000000000000 - -'
     + 5 * ' - -' + ' | 4008000000000000 4000000000000000 bff0000000000000 0000000000000000 |',
+    'case-d hot 0 | 0 1 3 2',
+    'case-d rank 1 1 0',
     'example-2 account 1654 4572 14 -9416 1864 |',
+    'request-a4 account 85344 5929018368 18144 -1668068720640 53453138256 |',
+    'request-a4 rank 271 0 228',
 ]
 
 
@@ -49,36 +56,51 @@ class Job:
     values: list
     weights: list
     classes: list
+    shuffles: list
     # the lengths of the lists that are lent
     locals: int
     rows: int
     class_locals: int
     float_locals: int
     float_parts: int
+    zones: int
 
 
 def exact(n):
-    """The length that each list must have, in the order of a job's head."""
-    own = {'values': n, 'weights': n * n, 'classes': n * n}
-    return own | {'locals': n, 'rows': 27, 'class_locals': 9 * n, 'float_locals': n, 'float_parts': 9 * n}
+    """The length that each list must have, in the order of a job's head; of the shuffles, that of each row."""
+    own = {'values': n, 'weights': n * n, 'classes': n * n, 'shuffles': n}
+    return own | {'locals': n, 'rows': 27, 'class_locals': 9 * n, 'float_locals': n, 'float_parts': 9 * n, 'zones': n}
 
 
-LISTS, LENT_LISTS = list(exact(2))[:3], list(exact(2))[3:]
+LISTS, LENT_LISTS = list(exact(2))[:4], list(exact(2))[4:]
 CALLS = {
     'account': ['values', 'weights', 'locals'],
     'classes': ['values', 'weights', 'classes', 'rows', 'class_locals'],
     'report': ['values', 'weights', 'classes', 'float_locals', 'float_parts'],
+    'hot': ['values', 'weights', 'zones'],
+    'rank': ['values', 'weights', 'shuffles'],
 }
 
 
-def job(name, n, values, weights, classes=None):
+def job(name, n, values, weights, classes=None, shuffles=()):
     """A job whose lent lists have their exact lengths; all its pairs are in class 0 where no classes are given."""
     lent = {lent: size for lent, size in exact(n).items() if lent in LENT_LISTS}
-    return Job(name, n, values, weights, [0] * len(weights) if classes is None else classes, **lent)
+    named = [zone for row in shuffles for zone in row]
+    return Job(name, n, values, weights, [0] * len(weights) if classes is None else classes, named, **lent)
 
 
 def sizes(job):
     return {name: len(getattr(job, name)) for name in LISTS} | {name: getattr(job, name) for name in LENT_LISTS}
+
+
+def fits(job, name):
+    """Whether a list has its exact length, the shuffles 0 to 499 whole rows."""
+    size, wanted = sizes(job)[name], exact(job.n)[name]
+    return size in range(0, 500 * wanted, wanted) if name == 'shuffles' else size == wanted
+
+
+def rows_of(job):
+    return [job.shuffles[place:place + job.n] for place in range(0, len(job.shuffles), job.n)]
 
 
 def resize(job, name, size):
@@ -98,8 +120,8 @@ def put(job, **entries):
 
 def image(job):
     name = job.name.encode()
-    head = bytes([len(name)]) + name + struct.pack('<QBHHBBHBH', job.n, *sizes(job).values())
-    return head + struct.pack(f'<{len(job.values)}i', *job.values) + bytes(job.weights + job.classes)
+    head = bytes([len(name)]) + name + struct.pack('<QBHHHBBHBHB', job.n, *sizes(job).values())
+    return head + struct.pack(f'<{len(job.values)}i', *job.values) + bytes(job.weights + job.classes + job.shuffles)
 
 
 # ---- what is refused
@@ -109,7 +131,7 @@ def refusal(job, call):
     n = job.n
     if not 2 <= n <= 64:
         return 1
-    if any(sizes(job)[name] != exact(n)[name] for name in CALLS[call]):
+    if not all(fits(job, name) for name in CALLS[call]):
         return 2
     if max(abs(x) for x in job.values) > 100000:
         return 3
@@ -123,6 +145,8 @@ def refusal(job, call):
         return 7
     if 'classes' in CALLS[call] and max(job.classes) > 8:
         return 9
+    if 'shuffles' in CALLS[call] and any(set(row) != set(range(n)) for row in rows_of(job)):
+        return 13
     return 0
 
 
@@ -145,9 +169,9 @@ class Account:
     """A job that some call accepts, worked as the papers write."""
 
     def __init__(self, job):
-        mean = Fraction(sum(job.values), job.n)
         self.job = job
-        self.z = [x - mean for x in job.values]
+        self.mean = Fraction(sum(job.values), job.n)
+        self.z = [x - self.mean for x in job.values]
         self.square = sum(z * z for z in self.z)
         self.joins = [(place // job.n, place % job.n, w) for place, w in enumerate(job.weights) if w]
 
@@ -171,6 +195,23 @@ class Account:
         for i, j, w in self.joins:
             members[self.job.classes[i * self.job.n + j]].append((i, j, w))
         return [self.over(joins) for joins in members]
+
+    # the hot list, and the rank among the job's shuffles
+
+    def hot_zones(self):
+        return sorted(range(self.job.n), key=lambda zone: (-self.whole.local[zone], zone))
+
+    def cross(self):
+        """The sum of w z z once more, with z = x - mean multiplied out, so that whole numbers are added up."""
+        x = self.job.values
+        products = sum(w * x[i] * x[j] for i, j, w in self.joins)
+        ends = sum(w * (x[i] + x[j]) for i, j, w in self.joins)
+        return products - self.mean * ends + self.mean ** 2 * sum(w for _, _, w in self.joins)
+
+    def rank(self):
+        x, own = self.job.values, self.whole.cross
+        crosses = [Account(replace(self.job, values=[x[zone] for zone in row])).cross() for row in rows_of(self.job)]
+        return [sum(cross < own for cross in crosses), sum(cross == own for cross in crosses), sum(cross > own for cross in crosses)]
 
     # the whole numbers of document 01, whose deviations are n times those of the papers
 
@@ -237,9 +278,19 @@ def report_line(job, account):
     return line(job.name, 'report', *([figure(x) for x in ratios] for ratios in figures))
 
 
+def hot_line(job, account):
+    number = refusal(job, 'hot')
+    return line(job.name, 'hot', [number], [LENT] * job.zones if number else account.hot_zones())
+
+
+def rank_line(job, account):
+    number = refusal(job, 'rank')
+    return line(job.name, 'rank', ['refused', number] if number else account.rank())
+
+
 def lines(job):
     account = None if all(refusal(job, call) for call in CALLS) else Account(job)
-    return [account_line(job, account), classes_line(job, account), report_line(job, account)]
+    return [written(job, account) for written in (account_line, classes_line, report_line, hot_line, rank_line)]
 
 
 # ---- the jobs that are kept
@@ -260,42 +311,89 @@ def banded(places, bands):
     return all_pairs(len(places), band)
 
 
+def successor(state):
+    return 16807 * state % 2147483647
+
+
+def seeded(n, count, state):
+    """So many shuffles of A.5 from a state on, and the last state."""
+    rows = []
+    for _ in range(count):
+        row = list(range(n))
+        for i in range(n - 1, 0, -1):
+            state = successor(state)
+            place = state % (i + 1)
+            row[i], row[place] = row[place], row[i]
+        rows.append(row)
+    return rows, state
+
+
+def request_a4():
+    """The job of A.4 with the shuffles of A.5 from seed 1. The states are those that are published, or known from other programs."""
+    rows, last = seeded(64, 499, 1)
+    assert functools.reduce(lambda state, _: successor(state), range(10000), 1) == 1043618065
+    assert last == 137128920 and len({bytes(row) for row in rows}) == 499
+    steps = all_pairs(64, lambda i, j: min(8, abs(i - j) // 7))
+    return job('request-a4', 64, [i * i for i in range(64)], all_pairs(64, lambda i, j: (i + 2 * j) % 10), steps, rows)
+
+
+def largest(name, weights, classes):
+    """64 values at the limits, which alternate; two of its shuffles put the lowest and the highest into two halves."""
+    halves = [*range(0, 64, 2), *range(1, 64, 2)]
+    return job(name, 64, [100000 if i % 2 else -100000 for i in range(64)], weights, classes, [range(64), halves, halves[::-1]])
+
+
 def documents():
     """The cases of documents 01 and 02 and of document 000, and the limits."""
     yield job('case-a', 3, [1, 2, 6], both_ways(3, [(0, 1), (1, 2)]))
     yield job('case-b', 2, [0, 1], [0, 1, 1, 0])
     weights = [0, 3, 0, 0, 3, 0, 1, 0, 0, 1, 0, 0, 0, 0, 0, 0]
     yield job('case-c', 4, [1, 1, 3, 3], weights)
-    yield job('case-d', 4, [1, 1, 3, 3], weights, banded([(0, 0), (1, 0), (3, 0), (9, 9)], [1, 4]))
+    yield job('case-d', 4, [1, 1, 3, 3], weights, banded([(0, 0), (1, 0), (3, 0), (9, 9)], [1, 4]), [[0, 1, 2, 3], [2, 1, 0, 3]])
     edges = [(1, 2), (1, 6), (2, 3), (4, 5), (4, 7), (6, 7), (7, 8)]
     yield job('example-2', 8, [207, 202, 220, 207, 197, 220, 204, 197], both_ways(8, [(a - 1, b - 1) for a, b in edges]))
-    steps = all_pairs(64, lambda i, j: min(8, abs(i - j) // 7))
-    yield job('request-a4', 64, [i * i for i in range(64)], all_pairs(64, lambda i, j: (i + 2 * j) % 10), steps)
-    yield job('largest', 64, [100000 if i % 2 else -100000 for i in range(64)], all_pairs(64, lambda i, j: 9), [8] * 4096)
-    halves = all_pairs(64, lambda i, j: 9 if i // 32 == j // 32 else 0)
-    yield job('largest-cross', 64, [-100000] * 32 + [100000] * 32, halves, [1] * 2048 + [8] * 2048)
+    yield request_a4()
+    yield largest('largest', all_pairs(64, lambda i, j: 9), all_pairs(64, lambda i, j: 8 if (i + j) % 2 else 1))
+
+
+def ties():
+    """Equal local numerators, and shuffles that leave P as it is; then one whose inverse has a greater P, where its own is less."""
+    turned = [[0, 1, 2, 3, 4, 5], [1, 2, 3, 4, 5, 0], [5, 4, 3, 2, 1, 0], [1, 0, 2, 3, 4, 5], [0, 2, 4, 1, 3, 5]]
+    ring = both_ways(6, [(i, (i + 1) % 6) for i in range(6)])
+    path = both_ways(6, [(i, i + 1) for i in range(5)])
+    yield job('ring-of-two-values', 6, [0, 1] * 3, ring, None, turned)
+    yield job('ring-of-pairs', 6, [1, 1, 0, 0, 0, 0], ring, None, turned)
+    yield job('path-mirrored', 6, [5, 1, 2, 2, 1, 5], path, None, turned)
+    yield job('path-at-the-mean', 6, [0, 0, -1, 0, 1, 0], path, None, turned)
+    yield job('all-joined', 6, [-3, 3, -1, 1, 3, -3], all_pairs(6, lambda i, j: 9), None, turned)
+    yield job('one-way', 6, [4, 0, 4, 0, 0, 1], all_pairs(6, lambda i, j: i // 5), None, turned)
+    yield job('identities', 4, [0, 1, 2, 9], both_ways(4, [(0, 1), (1, 2), (2, 3)]), None, [[0, 1, 2, 3]] * 3)
+    yield job('two-zones', 2, [7, -7], [0, 1, 2, 0], None, [[0, 1], [1, 0]])
+    yield job('direction', 3, [2, 1, 6], both_ways(3, [(0, 1), (1, 2)]), None, [[1, 2, 0]])
 
 
 def ordinary(name):
     """A small job that breaks no rule, to be changed in a place or two."""
-    return job(name, 3, [1, 2, 6], both_ways(3, [(0, 1), (1, 2)]), [0, 1, 0, 1, 0, 2, 0, 2, 0])
+    classes, shuffles = [0, 1, 0, 1, 0, 2, 0, 2, 0], [[2, 1, 0], [1, 2, 0]]
+    return job(name, 3, [1, 2, 6], both_ways(3, [(0, 1), (1, 2)]), classes, shuffles)
 
 
 def broken_sizes():
-    """n beyond its limits; each list too short, too long and empty."""
+    """n beyond its limits; each list too short, too long and empty, the shuffles beside a row; a shuffle more than the 499 of A.4."""
     yield job('n-0', 0, [], [])
     yield job('n-1', 1, [5], [0])
-    yield job('n-65', 65, list(range(65)), all_pairs(65, lambda i, j: 1))
+    yield job('n-65', 65, list(range(65)), all_pairs(65, lambda i, j: 1), [], [range(65)])
     yield replace(ordinary('n-largest'), n=2 ** 64 - 1)
     yield replace(job('n-2-to-the-32', 0, [], []), n=2 ** 32)
     yield replace(ordinary('n-0-and-lengths'), n=0)
     for name, size in exact(3).items():
         for word, other in (('short', size - 1), ('long', size + 1), ('empty', 0)):
             yield resize(ordinary(f'{word}-{name}'), name, other)
+    yield job('rows-500', 2, [3, 8], [0, 1, 2, 0], None, [[0, 1], [1, 0]] * 250)
 
 
 def broken_entries():
-    """Each rule on values, weights and classes broken, or nearly."""
+    """Each rule on values, weights, classes and shuffles broken, or nearly."""
     for x in (100000, -100000, 100001, -100001, -2 ** 31, 2 ** 31 - 1):
         yield put(ordinary(f'value-{x}'), values=(1, x))
     for w in (9, 10, 255):
@@ -308,6 +406,10 @@ def broken_entries():
         yield put(ordinary(f'class-{k}'), classes=(1, k))
         yield put(ordinary(f'class-{k}-without-weight'), classes=(2, k))
         yield put(ordinary(f'class-{k}-on-the-diagonal'), classes=(8, k))
+    for zone in (0, 2, 3, 255):
+        yield put(ordinary(f'shuffle-{zone}'), shuffles=(1, zone))
+        yield put(ordinary(f'shuffle-{zone}-last'), shuffles=(5, zone))
+    yield replace(ordinary('shuffle-of-zeros'), shuffles=[0, 1, 2, 0, 0, 0])
 
 
 def broken_twice():
@@ -323,6 +425,16 @@ def broken_twice():
     yield replace(put(ordinary('rows-and-class'), classes=(3, 9)), rows=26)
     yield replace(put(ordinary('parts-and-weight'), weights=(1, 10)), float_parts=28)
     yield resize(put(ordinary('classes-and-value'), values=(1, 100001)), 'classes', 8)
+    yield put(ordinary('value-and-shuffle'), values=(1, 100001), shuffles=(0, 3))
+    yield put(ordinary('weight-and-shuffle'), weights=(1, 10), shuffles=(0, 3))
+    yield put(ordinary('diagonal-and-shuffle'), weights=(4, 1), shuffles=(0, 3))
+    yield replace(put(ordinary('no-weight-and-shuffle'), shuffles=(0, 3)), weights=[0] * 9)
+    yield replace(put(ordinary('equal-and-shuffle'), shuffles=(0, 3)), values=[4] * 3)
+    yield put(ordinary('class-and-shuffle'), classes=(3, 9), shuffles=(0, 3))
+    yield resize(put(ordinary('rows-and-value'), values=(1, 100001)), 'shuffles', 5)
+    yield resize(put(ordinary('rows-and-shuffle'), shuffles=(0, 3)), 'shuffles', 7)
+    yield replace(put(ordinary('zones-and-weight'), weights=(1, 10)), zones=4)
+    yield replace(ordinary('zones-and-n'), n=1, zones=4)
 
 
 # ---- jobs by chance
@@ -333,12 +445,38 @@ def drawn_classes(rng, n):
     return [rng.choice(among) for _ in range(n * n)] if among else all_pairs(n, lambda i, j: min(8, abs(i - j)))
 
 
-def drawn_job(rng, name, n):
+def drawn_row(rng, n):
+    """A shuffle: any, the identity, one turned or mirrored, or one in which two places are exchanged."""
+    row, turn, place = list(range(n)), rng.randrange(n), rng.randrange(n)
+    exchanged = [{turn: place, place: turn}.get(zone, zone) for zone in row]
+    return rng.choice((rng.sample(row, n), rng.sample(row, n), row, row[turn:] + row[:turn], row[::-1], exchanged))
+
+
+def drawn_shuffles(rng, n):
+    """None, a few, or now and then many."""
+    return [drawn_row(rng, n) for _ in range(rng.randrange(100) if rng.random() < 0.02 else rng.choice((0, 1, 2, 3, 4, 6)))]
+
+
+def drawn_alike(rng, n):
+    """Values and weights by which zones are alike in pairs, or all: two values that take turns, or a mirror; a ring, or all joined."""
+    a, b = rng.sample(range(-3, 4), 2)
+    half = rng.choices((a, b, 5), k=n // 2)
+    values = rng.choice(([a, b] * n, [a, a, b, b] * n, half + [b] * (n % 2) + half[::-1]))[:n]
+    weight, ring = rng.randint(1, 9), rng.random() < 0.5
+    return values, all_pairs(n, lambda i, j: weight if (i - j) % n in (1, n - 1) or not ring else 0)
+
+
+def drawn_unlike(rng, n):
     """Small and large values, dense and sparse weights; the first two zones have a join."""
     reach, dense = rng.choice((1, 9, 1000, 100000)), rng.choice((0.1, 0.3, 0.7, 1))
     values = [rng.randint(-reach, reach) for _ in range(n)]
-    weights = all_pairs(n, lambda i, j: rng.randint(1, 9) if i + j == 1 or rng.random() < dense else 0)
-    return job(name, n, values, weights, drawn_classes(rng, n))
+    return values, all_pairs(n, lambda i, j: rng.randint(1, 9) if i + j == 1 or rng.random() < dense else 0)
+
+
+def drawn_job(rng, name, n):
+    """One in six has zones that are alike."""
+    values, weights = drawn_alike(rng, n) if rng.random() < 1 / 6 else drawn_unlike(rng, n)
+    return job(name, n, values, weights, drawn_classes(rng, n), drawn_shuffles(rng, n))
 
 
 def damaged(rng, job):
@@ -351,6 +489,7 @@ def damaged(rng, job):
         put(job, weights=(place, rng.choice((10, 11, 255)))),
         put(job, weights=(-1, rng.randrange(1, 10))),
         put(job, classes=(place, rng.choice((9, 10, 255)))),
+        put(job, shuffles=(place, rng.choice((0, job.n % 256, 255)))),
         replace(job, weights=[0] * len(job.weights)),
         replace(job, values=job.values[:1] * len(job.values)),
     ))
@@ -369,13 +508,13 @@ def drawn(rng, count, zones):
 # ---- the kept files
 
 def kept():
-    jobs = [*documents(), *broken_sizes(), *broken_entries(), *broken_twice()]
-    jobs += drawn(random.Random(SEED), 24, (2, 3, 4, 5, 6, 8, 9, 12))
+    jobs = [*documents(), *ties(), *broken_sizes(), *broken_entries(), *broken_twice()]
+    jobs += drawn(random.Random(SEED), 20, (2, 3, 4, 5, 6, 8))
     given, written = b''.join(image(made) for made in jobs), [x for made in jobs for x in lines(made)]
     assert len(given) <= READ, 'the program reads at most 65,535 bytes'
     for begun in PRINTED:
         if not any(x.startswith(begun) for x in written):
-            sys.exit(f'document 01 prints what stands in "{begun}", and no line begins so')
+            sys.exit(f'a line must begin with "{begun}", and none does')
     return jobs, {'stdin': given, 'stdout': ''.join(x + '\n' for x in written).encode()}
 
 
@@ -391,16 +530,17 @@ def check():
 # ---- the printed numbers by themselves
 
 class Printed:
-    """The numbers in the three lines of a job that no call refused; floats stay words."""
+    """The numbers in the five lines of a job that no call refused; floats stay words."""
 
-    def __init__(self, n, written):
-        account, classes, report = ([entries.split() for entries in x.split(' ', 2)[2].split('|')] for x in written)
+    def __init__(self, job, written):
+        account, classes, report, hot, rank = ([entries.split() for entries in x.split(' ', 2)[2].split('|')] for x in written)
         (_, self.spread, *self.sums), self.locals = ([int(x) for x in entries] for entries in account)
         _, rows, class_locals = ([int(x) for x in entries] for entries in classes)
-        self.n, self.rows = n, [rows[place:place + 3] for place in range(0, 27, 3)]
-        self.class_locals = [class_locals[place:place + n] for place in range(0, 9 * n, n)]
+        self.n, self.rows = job.n, [rows[place:place + 3] for place in range(0, 27, 3)]
+        self.class_locals = [class_locals[place:place + job.n] for place in range(0, 9 * job.n, job.n)]
         self.pair, pairs, self.local_figures, self.parts = report
         self.pairs = [pairs[place:place + 2] for place in range(0, 18, 2)]
+        self.zones, self.counts, self.shuffles = [int(x) for x in hot[1]], [int(x) for x in rank[0]], len(job.shuffles) // job.n
 
     def count(self):
         """How many floats there are."""
@@ -410,6 +550,10 @@ class Printed:
         if weight <= 0:
             return ['-', '-']
         return [figure(Fraction(cross, weight * self.spread)), figure(Fraction((self.n - 1) * self.n * squares, 2 * weight * self.spread))]
+
+    def falls(self, zone, other):
+        """Whether the one may come before the other in the hot list."""
+        return self.locals[zone] > self.locals[other] or (self.locals[zone] == self.locals[other] and zone < other)
 
     def wrong(self):
         """What is amiss in them."""
@@ -421,6 +565,9 @@ class Printed:
             ('the nine rows and W, P, G', [sum(column) for column in zip(*self.rows)], self.sums),
             ('the pair of the job', self.pair, self.wanted_pair(*self.sums)),
             ('the pairs of the classes', self.pairs, [self.wanted_pair(*row) for row in self.rows]),
+            ('the hot list and the zones', sorted(self.zones), list(range(self.n))),
+            ('the hot list and L', [self.falls(*two) for two in zip(self.zones, self.zones[1:])], [True] * (self.n - 1)),
+            ('the three counts and the shuffles', [sum(self.counts), len(self.counts)], [self.shuffles, 3]),
             ('the local figures', self.local_figures + self.parts, [figure(Fraction(x, self.spread)) for x in numerators]),
         ] if found != wanted]
 
@@ -447,15 +594,16 @@ def batches(jobs):
 def compare_batch(program, batch):
     """Answers how many floats were compared."""
     found, figures = run(program, b''.join(image(made) for made in batch)), 0
-    if len(found) != 3 * len(batch):
+    calls = len(CALLS)
+    if len(found) != calls * len(batch):
         sys.exit(f'{len(batch)} jobs from {batch[0].name} on have {len(found)} lines')
     for k, made in enumerate(batch):
-        printed = found[3 * k:3 * k + 3]
+        printed = found[calls * k:calls * (k + 1)]
         for wanted, x in zip(lines(made), printed):
             if wanted != x:
                 sys.exit(f'{made}\nwanted: {wanted}\nfound:  {x}')
         if not is_refused(made):
-            numbers = Printed(made.n, printed)
+            numbers = Printed(made, printed)
             if numbers.wrong():
                 sys.exit(f'{made}\nprinted numbers that do not agree: {numbers.wrong()}')
             figures += numbers.count()
@@ -464,9 +612,9 @@ def compare_batch(program, batch):
 
 def compare_cut(program):
     """Inputs that are cut off: each whole job has its lines."""
-    jobs = [job('one', 2, [3, 5], [0, 1, 2, 0]), ordinary('two'), job('three', 2, [5, 3], [0, 1, 2, 0])]
+    jobs = [job('one', 2, [3, 5], [0, 1, 2, 0]), ordinary('two'), job('three', 2, [5, 3], [0, 1, 2, 0], None, [[1, 0]])]
     ends = [sum(len(image(made)) for made in jobs[:k + 1]) for k in range(3)]
-    cuts = range(0, ends[-1], 3)
+    cuts = range(ends[-1])
     for length in cuts:
         whole = sum(1 for end in ends if end <= length)
         if run(program, b''.join(image(made) for made in jobs)[:length]) != [x for made in jobs[:whole] for x in lines(made)]:
@@ -476,7 +624,7 @@ def compare_cut(program):
 
 def compare_room(program):
     """Lists as long as the program's arrays, and one longer, which ends the run."""
-    room = {'values': 66, 'locals': 66, 'rows': 30, 'class_locals': 600, 'float_locals': 66, 'float_parts': 600}
+    room = {'values': 66, 'locals': 66, 'rows': 30, 'class_locals': 600, 'float_locals': 66, 'float_parts': 600, 'zones': 66}
     for name, size in room.items():
         for over in (0, 1):
             jobs = [ordinary('one'), resize(ordinary('full'), name, size + over), ordinary('three')]
@@ -485,15 +633,27 @@ def compare_room(program):
     return 2 * len(room)
 
 
+def limits(rng):
+    """Jobs of the largest sums; and of the most shuffles, of one more, and of the most with the last of them wrong."""
+    yield largest('largest-one-class', all_pairs(64, lambda i, j: 9), [8] * 4096)
+    yield largest('largest-cross', all_pairs(64, lambda i, j: 0 if (i + j) % 2 else 9), [1] * 2048 + [8] * 2048)
+    yield largest('least-cross', all_pairs(64, lambda i, j: 9 if (i + j) % 2 else 0), [1] * 2048 + [8] * 2048)
+    for n in (2, 3, 33, 64):
+        rows, weights = [drawn_row(rng, n) for _ in range(500)], all_pairs(n, lambda i, j: (i + 2 * j) % 10)
+        for name, count in (('499-rows', 499), ('500-rows', 500), ('wrong-at-the-end', 499)):
+            made = job(f'{name}-of-{n}', n, [i * i for i in range(n)], weights, None, rows[:count])
+            yield put(made, shuffles=(-1, n)) if name == 'wrong-at-the-end' else made
+
+
 def compare(program):
     rng = random.Random(SEED + 1)
     jobs = [*drawn(rng, 3600, range(2, 13)), *drawn(rng, 600, range(13, 33)), *drawn(rng, 120, range(33, 65))]
-    jobs += [drawn_job(rng, f'largest-{k}', 64) for k in range(4)]
+    jobs += [*(drawn_job(rng, f'largest-{k}', 64) for k in range(4)), *limits(rng)]
     figures = sum(compare_batch(program, batch) for batch in batches(jobs))
     ended = compare_cut(program) + compare_room(program)
     refused = sum(1 for made in jobs if is_refused(made))
-    print(f'{len(jobs)} jobs equal, {refused} of them refused by some call; their printed numbers add up, and {figures} floats are the '
-          f'nearest to their ratios; {ended} inputs cut off, or with lists that just fit or do not, equal')
+    print(f'{len(jobs)} jobs equal, {refused} of them refused by some call; their printed numbers add up and are in order, and {figures} '
+          f'floats are the nearest to their ratios; {ended} inputs cut off, or with lists that just fit or do not, equal')
 
 
 def main():

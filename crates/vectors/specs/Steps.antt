@@ -10,3 +10,4 @@ pub record Room (lengths : Lengths) : Type 0 where
   pub numerators : lengths .numerators ≤ 600
   pub figures : lengths .figures ≤ 66
   pub parts : lengths .parts ≤ 600
+  pub zones : lengths .zones ≤ 66

@@ -1,9 +1,11 @@
-// The account, the class account and the float report of the jobs of standard input, a line for each of the three calls.
+// The account, the class account, the float report, the hot list and the rank of the jobs of standard input, a line for each of the five
+// calls.
 //
 // A job is the length of its name in a byte and the name; n in eight bytes; the lengths of its lists, values in a byte, weights in two,
-// classes in two, and of the lists to lend, local numerators in a byte, class rows in a byte, class local numerators in two, float
-// locals in a byte, float parts in two; the values in four bytes each, and the weights and the classes in one. Numbers have their
-// lowest byte first. tools/job_vectors.py makes the jobs, and what must be written, by an account of its own.
+// classes in two, shuffles in two, and of the lists to lend, local numerators in a byte, class rows in a byte, class local numerators in
+// two, float locals in a byte, float parts in two, the hot list's zones in a byte; the values in four bytes each, and the weights, the
+// classes and the shuffles in one. Numbers have their lowest byte first. tools/job_vectors.py makes the jobs, and what must be written,
+// by an account of its own.
 mod printing;
 mod reading;
 mod working;
@@ -13,8 +15,16 @@ ghost use Prim.Native.Nat.{_*_, _<_, _≤_};
 ghost use lib.ListN.{length};
 ghost use Rattle.vectors.specs.Steps.{Room};
 
-// Makes the three calls on one job.
-fn run_job(name: &[u8], n: usize, bytes: &[u8], weights: &[u8], classes: &[u8], lengths: Lengths)
+// Makes the five calls on one job.
+fn run_job(
+    name: &[u8],
+    n: usize,
+    bytes: &[u8],
+    weights: &[u8],
+    classes: &[u8],
+    shuffles: &[u8],
+    lengths: Lengths,
+)
     requires { ⌜ Room lengths ⌝ }
     requires { ⌜ 4 * lengths .values ≤ length (now bytes) ⌝ }
 {
@@ -41,6 +51,8 @@ fn run_job(name: &[u8], n: usize, bytes: &[u8], weights: &[u8], classes: &[u8], 
         lengths.figures,
         lengths.parts,
     );
+    working::work_hot_list(name, n, values, weights, lengths.zones);
+    working::work_rank(name, n, values, weights, shuffles);
 }
 
 // Runs the job at a place, and answers the place after it; the input's end where the job is not whole or its lists are too long.
@@ -51,10 +63,11 @@ fn run_one(input: &[u8], at: usize) -> usize
     let name = at + 1;
     let head = name + reading::byte_at(input, at);
     let lengths = reading::lengths_at(input, head + 8);
-    let values = head + 20;
+    let values = head + 23;
     let weights = values + 4 * lengths.values;
     let classes = weights + lengths.weights;
-    let next = classes + lengths.classes;
+    let shuffles = classes + lengths.classes;
+    let next = shuffles + lengths.shuffles;
     if input.len() < next {
         return input.len();
     }
@@ -64,7 +77,8 @@ fn run_one(input: &[u8], at: usize) -> usize
             words::long_at(input, head) as usize,
             &input[values..weights],
             &input[weights..classes],
-            &input[classes..next],
+            &input[classes..shuffles],
+            &input[shuffles..next],
             lengths,
         );
         return next;

@@ -1,4 +1,6 @@
 // What is written. A field begins with a space, and a list with a bar, so that an empty list is seen too.
+use account::Counts;
+use account::RankAnswer;
 use account::Sums;
 use report::Coefficient;
 use report::Pair;
@@ -55,6 +57,38 @@ pub fn print_list(list: &[i64]) {
         let whole = list[i];
         print_field(whole);
         i += 1;
+    }
+}
+
+pub fn print_zones(zones: &[u8]) {
+    io::write_all(1, b" |");
+    let mut i: usize = 0;
+    while i < zones.len() {
+        let zone = zones[i];
+        print_number(zone);
+        i += 1;
+    }
+}
+
+fn print_count(count: usize) {
+    io::write_all(1, b" ");
+    io::print_decimal(1, count as u64);
+}
+
+fn print_counts(counts: Counts) {
+    print_count(counts.less);
+    print_count(counts.equal);
+    print_count(counts.greater);
+}
+
+pub fn print_rank(answer: RankAnswer) {
+    match answer {
+        RankAnswer::Refused(number) => {
+            print_refusal(number);
+        }
+        RankAnswer::Counted(counts) => {
+            print_counts(counts);
+        }
     }
 }
 

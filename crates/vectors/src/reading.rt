@@ -6,11 +6,12 @@ ghost use Prim.Native.Nat.{_+_, _*_, _<_, _≤_};
 ghost use lib.ListN.{length};
 ghost use Rattle.vectors.specs.Steps.{Room};
 
-// The lengths of a job's lists: of its own three, and of the five that it lends.
+// The lengths of a job's lists: of its own four, and of the six that it lends.
 pub struct Lengths {
     pub values: usize,
     pub weights: usize,
     pub classes: usize,
+    pub shuffles: usize,
     // the account's local numerators
     pub locals: usize,
     // the class account's nine rows, and its local numerators of each class
@@ -19,6 +20,8 @@ pub struct Lengths {
     // the report's local Moran of each zone, and of each zone in each class
     pub figures: usize,
     pub parts: usize,
+    // the hot list
+    pub zones: usize,
 }
 
 pub fn byte_at(bytes: &[u8], at: usize) -> usize
@@ -39,16 +42,19 @@ pub fn lengths_at(bytes: &[u8], at: usize) -> Lengths
     ensures { λ r. ⌜ r .values < 256 ⌝ }
     ensures { λ r. ⌜ r .weights < 65536 ⌝ }
     ensures { λ r. ⌜ r .classes < 65536 ⌝ }
+    ensures { λ r. ⌜ r .shuffles < 65536 ⌝ }
 {
     Lengths {
         values: byte_at(bytes, at),
         weights: two_at(bytes, at + 1),
         classes: two_at(bytes, at + 3),
-        locals: byte_at(bytes, at + 5),
-        rows: byte_at(bytes, at + 6),
-        numerators: two_at(bytes, at + 7),
-        figures: byte_at(bytes, at + 9),
-        parts: two_at(bytes, at + 10),
+        shuffles: two_at(bytes, at + 5),
+        locals: byte_at(bytes, at + 7),
+        rows: byte_at(bytes, at + 8),
+        numerators: two_at(bytes, at + 9),
+        figures: byte_at(bytes, at + 11),
+        parts: two_at(bytes, at + 12),
+        zones: byte_at(bytes, at + 14),
     }
 }
 
@@ -72,6 +78,9 @@ pub fn has_room(lengths: Lengths) -> bool
         return false;
     }
     if lengths.parts > 600 {
+        return false;
+    }
+    if lengths.zones > 66 {
         return false;
     }
     true

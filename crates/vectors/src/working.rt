@@ -1,4 +1,4 @@
-// The three calls on a job. The lists are lent full of 7, or of 0.5, so that a place that a refused call wrote would be seen; each call
+// The five calls on a job. The lists are lent full of 7, or of 0.5, so that a place that a refused call wrote would be seen; each call
 // has a function of its own, since goals name every place of its arrays.
 use crate::printing;
 ghost use Prim.Native.Nat.{_≤_};
@@ -75,5 +75,25 @@ pub fn work_report(
     printing::print_pairs(pairs);
     printing::print_figures(&lent_locals[..locals]);
     printing::print_figures(&lent_parts[..parts]);
+    io::write_all(1, b"\n");
+}
+
+pub fn work_hot_list(name: &[u8], n: usize, values: &[i32], weights: &[u8], zones: usize)
+    requires { ⌜ zones ≤ 66 ⌝ }
+{
+    let mut lent: [u8; 66] = [7; 66];
+    let number = account::hot_list(n, values, weights, &mut lent[..zones]);
+    io::write_all(1, name);
+    io::write_all(1, b" hot");
+    printing::print_number(number);
+    printing::print_zones(&lent[..zones]);
+    io::write_all(1, b"\n");
+}
+
+pub fn work_rank(name: &[u8], n: usize, values: &[i32], weights: &[u8], shuffles: &[u8]) {
+    let answer = account::rank(n, values, weights, shuffles);
+    io::write_all(1, name);
+    io::write_all(1, b" rank");
+    printing::print_rank(answer);
     io::write_all(1, b"\n");
 }

@@ -10,7 +10,7 @@ use Rattle.vectors.proofs.run_job.Statement.{statement}
 use Rattle.vectors.proofs.run_job.Tie as tie
 
 abbrev start : tie.After-decode → tie.Start
-start c = c .before .before .before .before .before .before
+start c = c .before .before .before .before .before .before .before
 
 decoded-length : (c : tie.After-decode) → length (c .decode .last .1 .0) ≡ start c .args .lengths .values
 decoded-length c = c .decode .kept .1 .0 ∙ length-take-le _ _ (start c .pre .0 .values)
@@ -19,11 +19,11 @@ array-borrow-prefix-decoded : tie.Need-array-borrow-prefix-decoded
 array-borrow-prefix-decoded c = search needs
 
 slice-aggregate-decode : tie.Need-slice-aggregate-decode
-slice-aggregate-decode c = sym (length-take-le _ _ (c .before .before .before .before .before .pre .0 .values))
+slice-aggregate-decode c = sym (length-take-le _ _ (c .before .before .before .before .before .before .pre .0 .values))
 
 decode-requires : tie.Need-decode-requires
 decode-requires c κs =
-    let a = c .before .before .before .before .before in
+    let a = c .before .before .before .before .before .before in
     N.le-trans (N.mul-le-mul-left 4 (N.le-of-eq (length-take-le _ _ (a .pre .0 .values)))) (a .pre .1)
 
 array-share-prefix-decoded : tie.Need-array-share-prefix-decoded
@@ -47,6 +47,12 @@ work-classes-requires c κs = search needs
 work-report-requires : tie.Need-work-report-requires
 work-report-requires c κs = search needs
 
+work-hot-list-requires : tie.Need-work-hot-list-requires
+work-hot-list-requires c κs = search needs
+
+work-rank-requires : tie.Need-work-rank-requires
+work-rank-requires c κs = search needs
+
 returns : tie.Need-returns
 returns c = search needs
 
@@ -62,4 +68,6 @@ run-job-spec =
     work-account-requires
     work-classes-requires
     work-report-requires
+    work-hot-list-requires
+    work-rank-requires
     returns)

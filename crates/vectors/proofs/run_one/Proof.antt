@@ -30,6 +30,9 @@ add-weights c = search needs
 add-classes : tie.Need-add-classes
 add-classes c = search needs
 
+add-shuffles : tie.Need-add-shuffles
+add-shuffles c = search needs
+
 add-next : tie.Need-add-next
 add-next c = search needs
 
@@ -78,8 +81,19 @@ part-run-job-start-4 c = search needs
 part-run-job-end-4 : tie.Need-part-run-job-end-4
 part-run-job-end-4 c = search needs
 
+sub-run-job-5 : tie.Need-sub-run-job-5
+sub-run-job-5 c = search needs
+
+part-run-job-start-5 : tie.Need-part-run-job-start-5
+part-run-job-start-5 c = search needs
+
+part-run-job-end-5 : tie.Need-part-run-job-end-5
+part-run-job-end-5 c = search needs
+
 run-job-requires : tie.Need-run-job-requires
-run-job-requires c κs = let t = c .before .before .before .before .before in (t .before .has-room .ensures (t .if2 .taken), search needs)
+run-job-requires c κs =
+    let t = c .before .before .before .before .before .before in
+    (t .before .has-room .ensures (t .if2 .taken), search needs)
 
 returns-2 : tie.Need-returns-2
 returns-2 c = search needs
@@ -100,6 +114,7 @@ run-one-spec =
     mul-weights
     add-weights
     add-classes
+    add-shuffles
     add-next
     returns
     has-room-requires
@@ -116,6 +131,9 @@ run-one-spec =
     sub-run-job-4
     part-run-job-start-4
     part-run-job-end-4
+    sub-run-job-5
+    part-run-job-start-5
+    part-run-job-end-5
     run-job-requires
     returns-2
     returns-3)

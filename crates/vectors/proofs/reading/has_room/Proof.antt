@@ -23,8 +23,11 @@ returns-6 : tie.Need-returns-6
 returns-6 c = λ e. contrary e
 
 returns-7 : tie.Need-returns-7
-returns-7 c = search needs
+returns-7 c = λ e. contrary e
+
+returns-8 : tie.Need-returns-8
+returns-8 c = search needs
 
 pub has-room-spec : {M : Type 1} → statement M
 has-room-spec =
-    tie.close (tie.spec returns returns-2 returns-3 returns-4 returns-5 returns-6 returns-7)
+    tie.close (tie.spec returns returns-2 returns-3 returns-4 returns-5 returns-6 returns-7 returns-8)
