@@ -337,14 +337,8 @@ def request_a4():
     return job('request-a4', 64, [i * i for i in range(64)], all_pairs(64, lambda i, j: (i + 2 * j) % 10), steps, rows)
 
 
-def largest(name, weights, classes):
-    """64 values at the limits, which alternate; two of its shuffles put the lowest and the highest into two halves."""
-    halves = [*range(0, 64, 2), *range(1, 64, 2)]
-    return job(name, 64, [100000 if i % 2 else -100000 for i in range(64)], weights, classes, [range(64), halves, halves[::-1]])
-
-
 def documents():
-    """The cases of documents 01 and 02 and of document 000, and the limits."""
+    """The cases of documents 01 and 02 and of document 000."""
     yield job('case-a', 3, [1, 2, 6], both_ways(3, [(0, 1), (1, 2)]))
     yield job('case-b', 2, [0, 1], [0, 1, 1, 0])
     weights = [0, 3, 0, 0, 3, 0, 1, 0, 0, 1, 0, 0, 0, 0, 0, 0]
@@ -353,7 +347,6 @@ def documents():
     edges = [(1, 2), (1, 6), (2, 3), (4, 5), (4, 7), (6, 7), (7, 8)]
     yield job('example-2', 8, [207, 202, 220, 207, 197, 220, 204, 197], both_ways(8, [(a - 1, b - 1) for a, b in edges]))
     yield request_a4()
-    yield largest('largest', all_pairs(64, lambda i, j: 9), all_pairs(64, lambda i, j: 8 if (i + j) % 2 else 1))
 
 
 def ties():
@@ -633,8 +626,15 @@ def compare_room(program):
     return 2 * len(room)
 
 
+def largest(name, weights, classes):
+    """64 values at the limits, which alternate; two of its shuffles put the lowest and the highest into two halves."""
+    halves = [*range(0, 64, 2), *range(1, 64, 2)]
+    return job(name, 64, [100000 if i % 2 else -100000 for i in range(64)], weights, classes, [range(64), halves, halves[::-1]])
+
+
 def limits(rng):
     """Jobs of the largest sums; and of the most shuffles, of one more, and of the most with the last of them wrong."""
+    yield largest('largest-by-sign', all_pairs(64, lambda i, j: 9), all_pairs(64, lambda i, j: 8 if (i + j) % 2 else 1))
     yield largest('largest-one-class', all_pairs(64, lambda i, j: 9), [8] * 4096)
     yield largest('largest-cross', all_pairs(64, lambda i, j: 0 if (i + j) % 2 else 9), [1] * 2048 + [8] * 2048)
     yield largest('least-cross', all_pairs(64, lambda i, j: 9 if (i + j) % 2 else 0), [1] * 2048 + [8] * 2048)

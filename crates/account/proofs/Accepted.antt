@@ -43,7 +43,8 @@ pub record Fitting (n values weights : ℕ) (lent : List (ℕ × ℕ)) : Type 0 
   pub lent-fit : misfits lent ≡ false
 
 pub fitting :
-    (n values weights : ℕ) (lent : List (ℕ × ℕ)) → first-broken (size-rules n (job-lengths n values weights lent)) ≡ 0 → Fitting n values weights lent
+    (n values weights : ℕ) (lent : List (ℕ × ℕ)) → first-broken (size-rules n (job-lengths n values weights lent)) ≡ 0 →
+    Fitting n values weights lent
 fitting n values weights lent e =
     let s = sizes-hold n (job-lengths n values weights lent) e in
     let l1 = fits values n ((weights, n * n) ∷ lent) (s .fitting) in
@@ -55,7 +56,8 @@ pub fitted :
     (n values weights : ℕ) (lent others : List (ℕ × ℕ)) → Fitting n values weights lent → misfits others ≡ false →
     first-broken (size-rules n (job-lengths n values weights others)) ≡ 0
 fitted n values weights lent others f e =
-    let all : misfits (job-lengths n values weights others) ≡ false = rw (eq-eqb values n (f .values-fit), eq-eqb weights (n * n) (f .weights-fit), e) refl in
+    let lengths = job-lengths n values weights others in
+    let all : misfits lengths ≡ false = rw (eq-eqb values n (f .values-fit), eq-eqb weights (n * n) (f .weights-fit), e) refl in
     sizes-let-in n (job-lengths n values weights others) (record { two = f .two; zones = f .zones; fitting = all })
 
 -- where a job's two lists do not fit, with n places beside them, they do not with any further lists
@@ -155,7 +157,8 @@ pub record Classed (n : ℕ) (values : List ℤ) (weights classes : List ℕ) (l
   pub lent-fit : misfits lent ≡ false
 
 pub class-called :
-    (n : ℕ) (values : List ℤ) (weights classes : List ℕ) (lent : List (ℕ × ℕ)) → first-broken (class-rules n values weights classes lent) ≡ 0 →
+    (n : ℕ) (values : List ℤ) (weights classes : List ℕ) (lent : List (ℕ × ℕ)) →
+    first-broken (class-rules n values weights classes lent) ≡ 0 →
     Called n values weights ((length classes, n * n) ∷ lent) × (any-above 8 classes ≡ false)
 unfolding class-rules
 class-called n values weights classes lent e =
@@ -163,7 +166,8 @@ class-called n values weights classes lent e =
     (c .0, holds (any-above 8 classes) 8 0 (c .1) .0)
 
 pub classed :
-    (n : ℕ) (values : List ℤ) (weights classes : List ℕ) (lent : List (ℕ × ℕ)) → first-broken (class-rules n values weights classes lent) ≡ 0 →
+    (n : ℕ) (values : List ℤ) (weights classes : List ℕ) (lent : List (ℕ × ℕ)) →
+    first-broken (class-rules n values weights classes lent) ≡ 0 →
     Classed n values weights classes lent
 classed n values weights classes lent e =
     let c = class-called n values weights classes lent e in

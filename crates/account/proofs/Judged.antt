@@ -24,7 +24,8 @@ module _ (n : ℕ) (values : List ℤ) (weights : List ℕ) (lent : List (ℕ ×
       unfolding call-rules
       then-job e = e ∙ first-next (job-rules n values weights ++ besides) 0 sizes-of (tt, (tt, tt)) sizes-good
 
-      pub by-job : r ≡ first-broken (job-rules n values weights) → (r ≡ 0 → ⊥) → r ≡ first-broken (call-rules n values weights lent besides)
+      pub by-job :
+          r ≡ first-broken (job-rules n values weights) → (r ≡ 0 → ⊥) → r ≡ first-broken (call-rules n values weights lent besides)
       by-job e some = then-job (first-here besides (job-rules n values weights) r e some)
 
       pub by-rest :

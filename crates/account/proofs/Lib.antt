@@ -13,4 +13,6 @@ pub mod Judged
 pub mod Answered
 pub mod Theorems
 pub mod ClassTheorems
+pub mod HotTheorems
+pub mod RankTheorems
 pub mod Papers

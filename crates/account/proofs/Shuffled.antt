@@ -17,9 +17,9 @@ use Rattle.whole.specs.Table.{table, at, pair-at}
 use Rattle.whole.proofs.Permutation.{stands, full, permuted-sum}
 use Rattle.whole.proofs.Search.{some-next, some-found}
 use Rattle.whole.proofs.Table.{table-at}
-use Rattle.account.specs.Measures.{total-of, deviation-of, cross-of}
+use Rattle.account.specs.Measures.{total-of, deviation-of}
 use Rattle.account.specs.Rank.{shuffle-count, shuffled, values-cross, shuffle-cross}
-use Rattle.account.specs.Steps.{Sized, Weighted, Row, Shuffle, Shuffles}
+use Rattle.account.specs.Steps.{Sized, Weighted, Row, Shuffle, Shuffles, cross-held, cross-moved}
 use Rattle.account.proofs.Adding.{cross-alike}
 use Rattle.account.proofs.Reading.{weight-le}
 use Rattle.account.proofs.Sizes.{cross-size}
@@ -84,7 +84,9 @@ module _ (n : ℕ) (row : ℕ → ℕ) (i : ℕ) (named : List Bool) (l : length
   marked h k p = pick (ℕ-discrete (row i) k)
     where
       pick : Dec (row i ≡ k) → getD (set named (row i) true) k false ≡ some (λ i. eqb (row i) k) (i + 1)
-      pick (yes e) = rw e (getD-set-same named k true false (omega arith)) ∙ some-found (λ i. eqb (row i) k) (i + 1) i (omega arith) (eq-eqb (row i) k e)
+      pick (yes e) =
+          rw e (getD-set-same named k true false (omega arith))
+          ∙ some-found (λ i. eqb (row i) k) (i + 1) i (omega arith) (eq-eqb (row i) k e)
       pick (no e) = getD-set-other named (row i) k true false (λ f. e (sym f)) ∙ other k p e
 
   pub unmarked : n ≤ row i → (k : ℕ) → k < n → getD named k false ≡ some (λ i. eqb (row i) k) (i + 1)
@@ -100,7 +102,7 @@ module _ (d : List ℤ) (shuffles : List ℕ) (n r : ℕ) where
 
   pub shuffled-cross-size :
       (weights : List ℕ) → Weighted weights n → Sized 12800000 d n → Shuffle shuffles n r →
-      natAbs (cross-of (pair-at weights n) moved n) ≤ 6039797760000000000
+      natAbs (cross-moved weights n d shuffles r) ≤ 6039797760000000000
   shuffled-cross-size weights f s w =
       cross-size (pair-at weights n) n (f .zones) (weight-le weights n f) moved (shuffled-size 12800000 s w)
 
@@ -119,15 +121,15 @@ module _ (values : List ℤ) (weights : List ℕ) (n : ℕ) (d : List ℤ) (e : 
   held : (i : ℕ) → i < n → at d i ≡ deviation-of (at values) n i
   held i p = ap (λ l. at l i) e ∙ table-at (deviation-of (at values) n) n i (pos 0) p
 
-  pub own-cross : cross-of (pair-at weights n) (at d) n ≡ values-cross n weights (at values)
+  pub own-cross : cross-held weights n d ≡ values-cross n weights (at values)
   unfolding values-cross
   own-cross = cross-alike (pair-at weights n) n (at d) (deviation-of (at values) n) held
 
-  pub moved-cross :
+  pub its-cross :
       (shuffles : List ℕ) (r : ℕ) → lacks (pair-at shuffles n r) n ≡ false →
-      cross-of (pair-at weights n) (shuffled (at d) (pair-at shuffles n r)) n ≡ shuffle-cross n values weights shuffles r
+      cross-moved weights n d shuffles r ≡ shuffle-cross n values weights shuffles r
   unfolding shuffle-cross values-cross
-  moved-cross shuffles r all =
+  its-cross shuffles r all =
       let row = pair-at shuffles n r in
       cross-alike (pair-at weights n) n (shuffled (at d) row) (deviation-of (shuffled (at values) row) n)
       (λ i p. held (row i) (full row n all .into i p) ∙ sym (shuffled-deviation (at values) row n all i))

@@ -83,5 +83,7 @@ pub compared-cong :
     (a b : ℕ → ℤ) (own other : ℤ) (r : ℕ) → ((k : ℕ) → k < r → a k ≡ b k) → own ≡ other → compared a own r ≡ compared b other r
 unfolding compared
 compared-cong a b own other r h e =
-    rw (← e, count-cong (is-less a own) (is-less b own) r (λ k p. ap (λ z. ltZ z own) (h k p)), count-cong (is-equal a own) (is-equal b own) r (λ k p. ap (λ z. equal z own) (h k p)), count-cong (is-greater a own) (is-greater b own) r (λ k p. ap (ltZ own) (h k p)))
-    refl
+    let less = count-cong (is-less a own) (is-less b own) r (λ k p. ap (λ z. ltZ z own) (h k p)) in
+    let level = count-cong (is-equal a own) (is-equal b own) r (λ k p. ap (λ z. equal z own) (h k p)) in
+    let greater = count-cong (is-greater a own) (is-greater b own) r (λ k p. ap (ltZ own) (h k p)) in
+    rw (← e, less, level, greater) refl

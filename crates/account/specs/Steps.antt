@@ -9,7 +9,9 @@ use lib.ListN.{length, getD}
 use Rattle.whole.specs.Order.{lacks}
 use Rattle.whole.specs.Rules.{unless-refused}
 use Rattle.whole.specs.Table.{table, at, pair-at}
+use Rattle.account.specs.Measures.{cross-of}
 use Rattle.account.specs.Classes.{class-row-of, class-locals, class-refusal}
+use Rattle.account.specs.Rank.{shuffled}
 use Rattle.account.specs.declared.ClassRow.{ClassRow}
 use Rattle.account.specs.declared.rows.Worked.{Worked}
 
@@ -57,6 +59,13 @@ pub record Shuffles (shuffles : List ℕ) (n rows : ℕ) : Type 0 where
   pub few : rows ≤ 499
   pub count : length shuffles ≡ rows * n
   pub full : (r : ℕ) → r < rows → lacks (pair-at shuffles n r) n ≡ false
+
+-- the P of the deviations that a list holds, and of those that the zones take in shuffle r
+abbrev pub cross-held : List ℕ → ℕ → List ℤ → ℤ
+cross-held weights n d = cross-of (pair-at weights n) (at d) n
+
+abbrev pub cross-moved : List ℕ → ℕ → List ℤ → List ℕ → ℕ → ℤ
+cross-moved weights n d shuffles r = cross-of (pair-at weights n) (shuffled (at d) (pair-at shuffles n r)) n
 
 -- ---- the nine class rows on their way from the work to the store
 

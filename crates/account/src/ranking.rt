@@ -3,16 +3,15 @@ use crate::Counts;
 use crate::deviations;
 use crate::shuffling;
 ghost use mathlib.Core.Path.{_≡_};
-ghost use Rattle.whole.specs.Table.{at, pair-at};
-ghost use Rattle.account.specs.Measures.{cross-of};
-ghost use Rattle.account.specs.Rank.{shuffled, values-cross, shuffle-cross, compared, three};
-ghost use Rattle.account.specs.Steps.{Sized, Weighted, Job, Shuffle, Shuffles};
+ghost use Rattle.whole.specs.Table.{at};
+ghost use Rattle.account.specs.Rank.{values-cross, shuffle-cross, compared, three};
+ghost use Rattle.account.specs.Steps.{Sized, Weighted, Job, Shuffle, Shuffles, cross-held, cross-moved};
 
 // The P of the deviations d: each row's weighted neighbours are added up first, and multiplied by the row's d once.
 pub fn cross_sum(n: usize, weights: &[u8], d: &[i64]) -> i64
     requires { ⌜ Weighted (now weights) n ⌝ }
     requires { ⌜ Sized 12800000 (now d) n ⌝ }
-    ensures { λ r. ⌜ r ≡ cross-of (pair-at (now (weights .entry)) n) (at (now (d .entry))) n ⌝ }
+    ensures { λ r. ⌜ r ≡ cross-held (now (weights .entry)) n (now (d .entry)) ⌝ }
 {
     let mut locals: [i64; 64] = [0; 64];
     deviations::local_numerators(n, weights, d, &mut locals[..n]);
@@ -24,7 +23,7 @@ pub fn shuffle_cross(n: usize, weights: &[u8], d: &[i64], shuffles: &[u8], r: us
     requires { ⌜ Weighted (now weights) n ⌝ }
     requires { ⌜ Sized 12800000 (now d) n ⌝ }
     requires { ⌜ Shuffle (now shuffles) n r ⌝ }
-    ensures { λ p. ⌜ p ≡ cross-of (pair-at (now (weights .entry)) n) (shuffled (at (now (d .entry))) (pair-at (now (shuffles .entry)) n r)) n ⌝ }
+    ensures { λ p. ⌜ p ≡ cross-moved (now (weights .entry)) n (now (d .entry)) (now (shuffles .entry)) r ⌝ }
 {
     let mut moved: [i64; 64] = [0; 64];
     shuffling::shuffle_deviations(n, d, shuffles, r, &mut moved[..n]);
@@ -36,7 +35,7 @@ pub fn tally(n: usize, weights: &[u8], d: &[i64], shuffles: &[u8], rows: usize) 
     requires { ⌜ Weighted (now weights) n ⌝ }
     requires { ⌜ Sized 12800000 (now d) n ⌝ }
     requires { ⌜ Shuffles (now shuffles) n rows ⌝ }
-    ensures { λ c. ⌜ three c ≡ compared (λ r. cross-of (pair-at (now (weights .entry)) n) (shuffled (at (now (d .entry))) (pair-at (now (shuffles .entry)) n r)) n) (cross-of (pair-at (now (weights .entry)) n) (at (now (d .entry))) n) rows ⌝ }
+    ensures { λ c. ⌜ three c ≡ compared (cross-moved (now (weights .entry)) n (now (d .entry)) (now (shuffles .entry))) (cross-held (now (weights .entry)) n (now (d .entry))) rows ⌝ }
 {
     let own = cross_sum(n, weights, d);
     let mut less: usize = 0;

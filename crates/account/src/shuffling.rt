@@ -78,8 +78,7 @@ pub fn shuffle_deviations(n: usize, d: &[i64], shuffles: &[u8], r: usize, moved:
     let mut i: usize = 0;
     while i < n {
         let zone = shuffles[row + i] as usize;
-        let deviation = d[zone];
-        moved[i] = deviation;
+        moved[i] = d[zone];
         i += 1;
     }
 }

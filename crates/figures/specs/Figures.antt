@@ -4,14 +4,16 @@ use mathlib.Core.List.{List, [], _∷_}
 use Prim.Native.Nat.{ℕ, _^_}
 use lib.Dec.{eqb}
 use lib.Ieee.{binary64, toBits}
-use lib.IntN.{ℤ, pos, negsuc, _-ℤ_, _*ℤ_}
-use Rattle.whole.specs.Integer.{is-zero}
+use lib.IntN.{ℤ, pos, negsuc, _*ℤ_}
+use Rattle.whole.specs.Integer.{equal}
 use Rattle.whole.specs.Table.{at, pair-at}
 use Rattle.nearest.specs.Answers.{nearest-float}
 use Rattle.nearest.specs.Bits.{value-of}
 use Rattle.account.specs.Measures.{deviation-of, spread-of, weight-of, cross-of, squares-of}
 use Rattle.account.specs.Answers.{job-locals}
 use Rattle.account.specs.Classes.{class-row-of}
+use Rattle.account.specs.HotList.{hot-list}
+use Rattle.account.specs.Rank.{job-rank}
 use Rattle.report.specs.Coefficients.{job-pair, class-pair}
 use Rattle.report.specs.declared.Coefficient.{Coefficient}
 use Rattle.report.specs.declared.Coefficient.the-variants.{Figure, Weightless}
@@ -36,20 +38,25 @@ pub data Row : Type 0 where
   pair : Job → Printed → Printed → Row
   -- W, P, G, I and c of a class
   class : Job → ℕ → ℤ → ℤ → ℤ → Printed → Printed → Row
+  -- the zones of a job in hot-list order
+  hot : Job → List ℕ → Row
+  -- less, equal and greater: the rank of a job among shuffles
+  rank : Job → List ℕ → ℕ → ℕ → ℕ → Row
   -- the nearest float to p / q
   ratio : ℤ → ℤ → Printed → Row
 
 -- ---- whether a row is right
 
-abbrev pub same : List ℤ → List ℤ → Bool
-same [] [] = true
-same [] (b ∷ others) = false
-same (a ∷ numbers) [] = false
-same (a ∷ numbers) (b ∷ others) = is-zero (a -ℤ b) && same numbers others
+-- two lists are the same by a test of their elements
+abbrev pub same : {A : Type 0} → (A → A → Bool) → List A → List A → Bool
+same test [] [] = true
+same test [] (b ∷ others) = false
+same test (a ∷ list) [] = false
+same test (a ∷ list) (b ∷ others) = test a b && same test list others
 
 -- a float's bits are those of what is printed
 abbrev pub prints : Printed → ℕ → Bool
-prints (number z) b = is-zero (value-of b -ℤ z *ℤ pos (2 ^ 1074))
+prints (number z) b = equal (value-of b) (z *ℤ pos (2 ^ 1074))
 prints (bits n) b = eqb n b
 prints none b = false
 
@@ -64,7 +71,7 @@ right (sums job p w m g locals) =
     let n = job .zones in
     let x = at (job .values) in
     let f = pair-at (job .weights) n in
-    same (p ∷ w ∷ m ∷ g ∷ locals)
+    same equal (p ∷ w ∷ m ∷ g ∷ locals)
     (cross-of f (deviation-of x n) n ∷ weight-of f n ∷ spread-of x n ∷ squares-of f x n ∷ job-locals n (job .values) (job .weights))
 right (pair job moran geary) =
     let worked = job-pair (job .zones) (job .values) (job .weights) in
@@ -72,7 +79,10 @@ right (pair job moran geary) =
 right (class job k w p g moran geary) =
     let row = class-row-of (job .zones) (job .values) (job .weights) (job .classes) k in
     let worked = class-pair (job .zones) (job .values) (job .weights) (job .classes) k in
-    same (w ∷ p ∷ g ∷ []) (row .weight ∷ row .cross ∷ row .squares ∷ []) && shows moran (worked .moran) && shows geary (worked .geary)
+    same equal (w ∷ p ∷ g ∷ []) (row .weight ∷ row .cross ∷ row .squares ∷ []) && shows moran (worked .moran) && shows geary (worked .geary)
+right (hot job zones) = same eqb zones (hot-list (job .zones) (job .values) (job .weights))
+right (rank job shuffles less level greater) =
+    same eqb (less ∷ level ∷ greater ∷ []) (job-rank (job .zones) (job .values) (job .weights) shuffles)
 right (ratio p q printed) = prints printed (toBits binary64 (nearest-float p q))
 
 unfoldable pub all-right : List Row → Bool
@@ -109,7 +119,8 @@ reported = record {
   classes = 0 ∷ 1 ∷ 0 ∷ 0 ∷ 1 ∷ 0 ∷ 2 ∷ 0 ∷ 0 ∷ 2 ∷ 0 ∷ 0 ∷ 0 ∷ 0 ∷ 0 ∷ 0 ∷ [];
 }
 
--- ---- the table: (a); (b); (c), with I and c; (d), with the unclassed pairs; (g) and (h), two ties; (i), below 0; (j)
+-- ---- the table: (a); (b); (c), with I and c; (d), with the unclassed pairs; the report's hot-list order; (f), whose second shuffle
+-- exchanges the values of zones 0 and 2; (g) and (h), two ties; (i), below 0; (j)
 unfoldable pub published : List Row
 published =
     sums line-of-three (negsuc 17) (pos 4) (pos 42) (pos 34) (pos 18 ∷ negsuc 8 ∷ negsuc 26 ∷ [])
@@ -119,6 +130,8 @@ published =
     ∷ class reported 0 (pos 0) (pos 0) (pos 0) none none
     ∷ class reported 1 (pos 6) (pos 96) (pos 0) (bits 0x3FF0000000000000) (bits 0x0000000000000000)
     ∷ class reported 2 (pos 2) (negsuc 31) (pos 8) (bits 0xBFF0000000000000) (bits 0x3FF8000000000000)
+    ∷ hot reported (0 ∷ 1 ∷ 3 ∷ 2 ∷ [])
+    ∷ rank reported (0 ∷ 1 ∷ 2 ∷ 3 ∷ 2 ∷ 1 ∷ 0 ∷ 3 ∷ []) 1 1 0
     ∷ ratio (pos 9007199254740993) (pos 1) (number (pos 9007199254740992))
     ∷ ratio (pos 9007199254740995) (pos 1) (number (pos 9007199254740996))
     ∷ ratio (negsuc 0) (pos 3) (bits 0xBFD5555555555555)

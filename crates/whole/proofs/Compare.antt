@@ -1,13 +1,15 @@
 -- Two integers compared: one of less, equal and greater holds. Assumes nothing.
 use mathlib.Core.Path.{_≡_, refl, sym, ap, _∙_, subst}
-use mathlib.Core.Bool.{true, false, true≢false}
+use mathlib.Core.Bool.{Bool, true, false, true≢false}
+use Prim.Native.Nat.{ℕ, zero, suc, _*_, _<_}
 use native.Mathlib.Nat as N
+use native.Mathlib.Omega.{arith}
 use borrow.Author.Tests.{lt-ltb, le-ltb, eq-eqb, ne-eqb, ltb-true, ltb-false, eqb-true}
-use lib.IntN.{ℤ, pos, negsuc, natAbs, _-ℤ_, +ℤ-invr}
-use lib.Signed.{ltZ}
+use lib.IntN.{ℤ, pos, negsuc, negℤ, natAbs, _-ℤ_, _*ℤ_, +ℤ-invr}
+use lib.Signed.{ltZ, _≤ℤ_}
 use Rattle.whole.specs.Integer.{equal}
 use Rattle.whole.proofs.Integer.{equal-of-diff}
-use Rattle.whole.proofs.Size.{zero-of-size}
+use Rattle.whole.proofs.Size.{zero-of-size, one-above, one-some}
 
 -- ---- equal
 pub equal-same : (a : ℤ) → equal a a ≡ true
@@ -61,3 +63,43 @@ less-trans (negsuc a) (pos b) (pos c) h k = refl
 less-trans (negsuc a) (pos b) (negsuc c) h k = absurd (true≢false (sym k))
 less-trans (negsuc a) (negsuc b) (pos c) h k = refl
 less-trans (negsuc a) (negsuc b) (negsuc c) h k = lt-ltb c a (N.lt-trans (ltb-true c b k) (ltb-true b a h))
+
+-- ---- two numbers compare as their products by a number from 1 do
+-- a number below 0 and one that is not
+less-below : (k l : ℕ) → 0 < l → ltZ (negℤ (pos l)) (pos k) ≡ true
+less-below k zero h = let z : ⊥ = omega arith in absurd z
+less-below k (suc l) h = refl
+
+-- two numbers that are not above 0
+less-neg : (k l : ℕ) → k < l → ltZ (negℤ (pos l)) (negℤ (pos k)) ≡ true
+less-neg k zero h = let z : ⊥ = omega arith in absurd z
+less-neg zero (suc l) h = refl
+less-neg (suc k) (suc l) h = lt-ltb k l (omega arith)
+
+less-times : (a b : ℤ) (m : ℕ) → 0 < m → ltZ a b ≡ true → ltZ (a *ℤ pos m) (b *ℤ pos m) ≡ true
+less-times (pos a) (pos b) m h e = lt-ltb (a * m) (b * m) (N.mul-lt-mul-of-pos-right (ltb-true a b e) h)
+less-times (pos a) (negsuc b) m h e = absurd (true≢false (sym e))
+less-times (negsuc a) (pos b) m h e = less-below (b * m) (suc a * m) (N.mul-pos (N.zero-lt-suc a) h)
+less-times (negsuc a) (negsuc b) m h e =
+    let p = ltb-true b a e in less-neg (suc b * m) (suc a * m) (N.mul-lt-mul-of-pos-right {m = suc b} {n = suc a} (omega arith) h)
+
+module _ (a b : ℤ) (c : ℤ) (h : pos 1 ≤ℤ c) where
+  scaled : (x y : ℤ) → ltZ x y ≡ true → ltZ (x *ℤ c) (y *ℤ c) ≡ true
+  scaled x y e = rw (one-above c h) (less-times x y (natAbs c) (one-some c h) e)
+
+  pub less-scaled : ltZ (a *ℤ c) (b *ℤ c) ≡ ltZ a b
+  less-scaled = go (ltZ a b) (ltZ b a) refl refl
+    where
+      go : (s t : Bool) → ltZ a b ≡ s → ltZ b a ≡ t → ltZ (a *ℤ c) (b *ℤ c) ≡ s
+      go true t p q = scaled a b p
+      go false true p q = less-only (b *ℤ c) (a *ℤ c) (scaled b a q)
+      go false false p q = ap (λ z. ltZ (z *ℤ c) (b *ℤ c)) (one-number a b p q) ∙ not-itself (b *ℤ c)
+
+  pub equal-scaled : equal (a *ℤ c) (b *ℤ c) ≡ equal a b
+  equal-scaled = go (ltZ a b) (ltZ b a) refl refl
+    where
+      go : (s t : Bool) → ltZ a b ≡ s → ltZ b a ≡ t → equal (a *ℤ c) (b *ℤ c) ≡ equal a b
+      go true t p q = less-unequal (a *ℤ c) (b *ℤ c) (scaled a b p) ∙ sym (less-unequal a b p)
+      go false true p q = more-unequal (a *ℤ c) (b *ℤ c) (scaled b a q) ∙ sym (more-unequal a b q)
+      go false false p q =
+          ap (λ z. equal (z *ℤ c) (b *ℤ c)) (one-number a b p q) ∙ equal-same (b *ℤ c) ∙ sym (else-equal a b p q)

@@ -3,7 +3,7 @@ use mathlib.Core.Path.{_≡_, sym, _∙_}
 use Rattle.whole.proofs.Rules.{kept-when-refused, worked-when-taken}
 use Rattle.account.specs.Refusals.{account-rules, account-refusal}
 use Rattle.account.specs.HotList.{hot-zones}
-use Rattle.account.proofs.Accepted.{Accepted, accepted}
+use Rattle.account.proofs.Accepted.{accepted}
 use borrow.Author.Needs.{needs}
 use Rattle.account.proofs.hot_list.Statement.{statement}
 use Rattle.account.proofs.hot_list.Tie as tie

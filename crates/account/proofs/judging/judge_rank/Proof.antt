@@ -4,7 +4,7 @@ use mathlib.Core.List.{List, [], _∷_}
 use Prim.Native.Nat.{ℕ, _*_, _/_}
 use native.Mathlib.Omega.{arith}
 use lib.ListN.{length}
-use Rattle.whole.specs.Rules.{Rule, first-broken, size-rules}
+use Rattle.whole.specs.Rules.{Rule, first-broken}
 use Rattle.whole.specs.Search.{some}
 use Rattle.whole.proofs.Rules.{fits}
 use Rattle.account.specs.Refusals.{job-rules}

@@ -1,12 +1,10 @@
 -- `judge_rank_sizes` meets its contract: the first lists are judged as the account's, then the shuffles. Assumes nothing.
-use mathlib.Core.Path.{_≡_, refl, sym, ap, _∙_}
-use mathlib.Core.Bool.{not}
+use mathlib.Core.Path.{_≡_, sym, ap, _∙_}
 use mathlib.Core.List.{List, [], _∷_}
-use Prim.Native.Nat.{ℕ, _*_, _/_, _≤_}
+use Prim.Native.Nat.{ℕ, _*_, _/_}
 use native.Mathlib.Nat as N
 use native.Mathlib.Omega.{arith}
 use borrow.Author.Tests.{le-ltb, eq-eqb, ne-eqb}
-use lib.Dec.{eqb}
 use Rattle.whole.proofs.Rules.{sizes-first}
 use Rattle.account.specs.Rank.{shuffle-count}
 use Rattle.account.specs.Refusals.{job-lengths}
@@ -43,7 +41,8 @@ returns-2 : tie.Need-returns-2
 returns-2 c =
     let f = sized (c .before) in
     let a = c .before .before .before .args in
-    simp (le-ltb _ _ (f .two), le-ltb _ _ (f .zones), eq-eqb _ _ (f .values-fit), eq-eqb _ _ (f .weights-fit), ne-eqb _ _ (too-many (a .n) (a .shuffles) (omega (arith, f .two)) (c .if2 .taken)))
+    let e = too-many (a .n) (a .shuffles) (omega (arith, f .two)) (c .if2 .taken) in
+    simp (le-ltb _ _ (f .two), le-ltb _ _ (f .zones), eq-eqb _ _ (f .values-fit), eq-eqb _ _ (f .weights-fit), ne-eqb _ _ e)
 
 mul-if3 : tie.Need-mul-if3
 mul-if3 c = let a = c .before .before .before .args in omega (arith, N.div-mul-le-self (a .shuffles) (a .n))
@@ -52,13 +51,16 @@ returns-3 : tie.Need-returns-3
 returns-3 c =
     let f = sized (c .before .before) in
     let e = ap (λ k. k * c .before .before .before .before .args .n) (counted (c .before)) in
-    simp (le-ltb _ _ (f .two), le-ltb _ _ (f .zones), eq-eqb _ _ (f .values-fit), eq-eqb _ _ (f .weights-fit), ne-eqb _ _ (λ q. c .if3 .taken (q ∙ e)))
+    let a = c .before .before .before .before .args in
+    let g : a .shuffles ≡ shuffle-count (a .n) (a .shuffles) * a .n → ⊥ = λ q. c .if3 .taken (q ∙ e) in
+    simp (le-ltb _ _ (f .two), le-ltb _ _ (f .zones), eq-eqb _ _ (f .values-fit), eq-eqb _ _ (f .weights-fit), ne-eqb _ _ g)
 
 returns-4 : tie.Need-returns-4
 returns-4 c =
     let f = sized (c .before .before) in
     let e = ap (λ k. k * c .before .before .before .before .args .n) (counted (c .before)) in
-    simp (le-ltb _ _ (f .two), le-ltb _ _ (f .zones), eq-eqb _ _ (f .values-fit), eq-eqb _ _ (f .weights-fit), eq-eqb _ _ (c .if3 .left ∙ sym e))
+    let g = c .if3 .left ∙ sym e in
+    simp (le-ltb _ _ (f .two), le-ltb _ _ (f .zones), eq-eqb _ _ (f .values-fit), eq-eqb _ _ (f .weights-fit), eq-eqb _ _ g)
 
 pub judge-rank-sizes-spec : {M : Type 1} → statement M
 judge-rank-sizes-spec =

@@ -2,7 +2,7 @@
 -- Assumes nothing.
 use mathlib.Core.Path.{_≡_, sym, ap, _∙_}
 use mathlib.Core.List.{List}
-use Prim.Native.Nat.{ℕ, _≤_}
+use Prim.Native.Nat.{ℕ, _≤_, _<_}
 use lib.IntN.{ℤ, pos, natAbs}
 use lib.ListN.{length}
 use lib.Seq.{length-take-le}
@@ -13,8 +13,8 @@ use Rattle.whole.proofs.Lists.{front, front-le, front-length}
 use Rattle.whole.proofs.Machine.{told, rd}
 use Rattle.whole.proofs.Sum.{sum-cong}
 use Rattle.whole.proofs.Table.{table-length, table-at}
-use Rattle.account.specs.Measures.{cross-of, local-of}
-use Rattle.account.specs.Steps.{Sized}
+use Rattle.account.specs.Measures.{local-of}
+use Rattle.account.specs.Steps.{Sized, cross-held}
 use Rattle.account.proofs.Adding.{locals-sum}
 use Rattle.account.proofs.Reading.{table-sized, weight-le}
 use Rattle.account.proofs.Sizes.{local-size, cross-size}
@@ -29,27 +29,29 @@ module _ (c : tie.After-local-numerators) where
   abbrev n : ℕ
   n = a .args .n
 
+  abbrev f : ℕ → ℕ → ℕ
+  f = pair-at (a .args .weights .now) n
+
+  light : (i j : ℕ) → i < n → j < n → f i j ≤ 9
+  light = weight-le (a .args .weights .now) n (a .pre .0)
+
   abbrev local : ℕ → ℤ
-  local = local-of (pair-at (a .args .weights .now) n) (at (a .args .d .now)) n
+  local = local-of f (at (a .args .d .now)) n
 
   as-long : length (table local n) ≡ n
   as-long = table-length local n
 
   sized : (l : List ℤ) → l ≡ table local n → Sized 94371840000000000 l n
   sized l e =
-      let w = a .pre .0 in
-      table-sized 94371840000000000 n local l e
-      (local-size (pair-at (a .args .weights .now) n) n (w .zones) (weight-le (a .args .weights .now) n w) (at (a .args .d .now)) (a .pre .1 .size))
+      table-sized 94371840000000000 n local l e (local-size f n (a .pre .0 .zones) light (at (a .args .d .now)) (a .pre .1 .size))
 
-  size : natAbs (cross-of (pair-at (a .args .weights .now) n) (at (a .args .d .now)) n) ≤ 6039797760000000000
-  size =
-      let w = a .pre .0 in
-      cross-size (pair-at (a .args .weights .now) n) n (w .zones) (weight-le (a .args .weights .now) n w) (at (a .args .d .now)) (a .pre .1 .size)
+  size : natAbs (cross-held (a .args .weights .now) n (a .args .d .now)) ≤ 6039797760000000000
+  size = cross-size f n (a .pre .0 .zones) light (at (a .args .d .now)) (a .pre .1 .size)
 
-  adds-up : (l : List ℤ) → l ≡ table local n → sum (at l) n ≡ cross-of (pair-at (a .args .weights .now) n) (at (a .args .d .now)) n
+  adds-up : (l : List ℤ) → l ≡ table local n → sum (at l) n ≡ cross-held (a .args .weights .now) n (a .args .d .now)
   adds-up l e =
       sum-cong _ _ n (λ i p. ap (λ l. at l i) e ∙ table-at local n i (pos 0) p)
-      ∙ locals-sum (pair-at (a .args .weights .now) n) (at (a .args .d .now)) n
+      ∙ locals-sum f (at (a .args .d .now)) n
 
 array-borrow-prefix-locals : tie.Need-array-borrow-prefix-locals
 array-borrow-prefix-locals c = c .before .pre .0 .zones

@@ -1,4 +1,4 @@
--- `shuffle_cross` meets its contract: the deviations take their new zones in a local array, whose first n places are lent. Assumes nothing.
+-- `shuffle_cross` meets its contract: the zones take their deviations in a local array, whose first n places are lent. Assumes nothing.
 use mathlib.Core.Path.{_≡_, sym, ap, _∙_}
 use mathlib.Core.List.{List}
 use Prim.Native.Nat.{ℕ}
@@ -9,11 +9,9 @@ use mir.Syntax.{w64}
 use Rattle.whole.specs.Table.{table, at, pair-at}
 use Rattle.whole.proofs.Lists.{front, front-le, front-length}
 use Rattle.whole.proofs.Machine.{told, rd}
-use Rattle.whole.proofs.Permutation.{full}
 use Rattle.whole.proofs.Table.{table-length, table-at}
-use Rattle.account.specs.Measures.{cross-of}
 use Rattle.account.specs.Rank.{shuffled}
-use Rattle.account.specs.Steps.{Sized}
+use Rattle.account.specs.Steps.{Sized, cross-held, cross-moved}
 use Rattle.account.proofs.Adding.{cross-alike}
 use Rattle.account.proofs.Reading.{table-sized}
 use Rattle.account.proofs.Shuffled.{shuffled-size, shuffled-cross-size}
@@ -37,7 +35,9 @@ module _ (c : tie.After-shuffle-deviations) where
   sized : (l : List ℤ) → l ≡ table moved n → Sized 12800000 l n
   sized l e = table-sized 12800000 n moved l e (shuffled-size _ _ _ _ _ (a .pre .1 .0) (a .pre .1 .1))
 
-  same : (l : List ℤ) → l ≡ table moved n → cross-of (pair-at (a .args .weights .now) n) (at l) n ≡ cross-of (pair-at (a .args .weights .now) n) moved n
+  same :
+      (l : List ℤ) → l ≡ table moved n →
+      cross-held (a .args .weights .now) n l ≡ cross-moved (a .args .weights .now) n (a .args .d .now) (a .args .shuffles .now) (a .args .r)
   same l e = cross-alike (pair-at (a .args .weights .now) n) n (at l) moved (λ i p. ap (λ t. at t i) e ∙ table-at moved n i (pos 0) p)
 
 array-borrow-prefix-moved : tie.Need-array-borrow-prefix-moved
@@ -68,7 +68,8 @@ returns : tie.Need-returns
 returns c =
     let b = c .before .before .before in
     let e = same b _ (front {A = ℤ} _ _ (table (moved b) (n b)) _ (b .shuffle-deviations .ensures) (as-long b)) in
-    rd w64 (told _ 6039797760000000000 (c .cross-sum .ensures ∙ e) (shuffled-cross-size _ _ _ _ _ (a b .pre .0) (a b .pre .1 .0) (a b .pre .1 .1))) tt .same
+    let w = a b .pre in
+    rd w64 (told _ 6039797760000000000 (c .cross-sum .ensures ∙ e) (shuffled-cross-size _ _ _ _ _ (w .0) (w .1 .0) (w .1 .1))) tt .same
 
 pub shuffle-cross-spec : {M : Type 1} → statement M
 shuffle-cross-spec =

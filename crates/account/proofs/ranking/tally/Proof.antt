@@ -1,5 +1,5 @@
 -- `tally` meets its contract. The loop's invariant: the three counts are those of the shuffles passed. Assumes nothing.
-use mathlib.Core.Path.{_≡_, sym, ap, _∙_}
+use mathlib.Core.Path.{_≡_, ap, _∙_}
 use mathlib.Core.Bool.{Bool}
 use mathlib.Core.Logic.{⊎-elim}
 use Prim.Native.Nat.{ℕ, _+_, _-_, _≤_}
@@ -9,8 +9,8 @@ use lib.Signed.{ltZ}
 use mir.Syntax.{w64}
 use Rattle.whole.specs.Table.{at, pair-at}
 use Rattle.whole.proofs.Machine.{Is, told, rd, r64}
-use Rattle.account.specs.Measures.{cross-of}
-use Rattle.account.specs.Rank.{shuffled, compared}
+use Rattle.account.specs.Rank.{compared}
+use Rattle.account.specs.Steps.{cross-held, cross-moved}
 use Rattle.account.proofs.Reading.{weight-le}
 use Rattle.account.proofs.Shuffled.{shuffle-there, shuffled-cross-size}
 use Rattle.account.proofs.Sizes.{cross-size}
@@ -20,8 +20,7 @@ use Rattle.account.proofs.ranking.tally.Tie as tie
 
 abbrev Inv-loop : tie.InvT-loop
 Inv-loop n weights d shuffles rows own less₀ equal₀ greater₀ r₀ less equal greater r =
-    (r ≤ rows)
-    × Tallied (λ r. cross-of (pair-at weights n) (shuffled (at d) (pair-at shuffles n r)) n) (cross-of (pair-at weights n) (at d) n) less equal greater r
+    (r ≤ rows) × Tallied (cross-moved weights n d shuffles) (cross-held weights n d) less equal greater r
 
 abbrev μ-loop : tie.MeasureT-loop
 μ-loop n weights d shuffles rows own less₀ equal₀ greater₀ r₀ less equal greater r = rows - r
@@ -35,23 +34,22 @@ module _ (c : tie.After-shuffle-cross Inv-loop μ-loop) where
   a = b .before .before .before .before
 
   abbrev numbers : ℕ → ℤ
-  numbers r = cross-of (pair-at (a .args .weights .now) (a .args .n)) (shuffled (at (a .args .d .now)) (pair-at (a .args .shuffles .now) (a .args .n) r)) (a .args .n)
+  numbers = cross-moved (a .args .weights .now) (a .args .n) (a .args .d .now) (a .args .shuffles .now)
 
   abbrev own : ℤ
-  own = cross-of (pair-at (a .args .weights .now) (a .args .n)) (at (a .args .d .now)) (a .args .n)
+  own = cross-held (a .args .weights .now) (a .args .n) (a .args .d .now)
 
   shuffle-is : Is (r64 (c .shuffle-cross .result)) (numbers (b .loop .r)) 6039797760000000000
   shuffle-is =
-      rd w64
-      (told _ 6039797760000000000 (c .shuffle-cross .ensures) (shuffled-cross-size _ _ _ _ _ (a .pre .0) (a .pre .1 .0) (shuffle-there _ _ _ _ (a .pre .1 .1) (c .before .loop-test .taken))))
-      tt
+      let w = shuffle-there _ _ _ _ (a .pre .1 .1) (c .before .loop-test .taken) in
+      rd w64 (told _ 6039797760000000000 (c .shuffle-cross .ensures) (shuffled-cross-size _ _ _ _ _ (a .pre .0) (a .pre .1 .0) w)) tt
 
   own-is : Is (r64 (b .before .cross-sum .result)) own 6039797760000000000
   own-is =
       let w = a .pre .0 in
-      rd w64
-      (told _ 6039797760000000000 (b .before .cross-sum .ensures) (cross-size (pair-at (a .args .weights .now) (a .args .n)) (a .args .n) (w .zones) (weight-le _ _ w) (at (a .args .d .now)) (a .pre .1 .0 .size)))
-      tt
+      let f = pair-at (a .args .weights .now) (a .args .n) in
+      let size = cross-size f _ (w .zones) (weight-le _ _ w) (at (a .args .d .now)) (a .pre .1 .0 .size) in
+      rd w64 (told _ 6039797760000000000 (b .before .cross-sum .ensures) size) tt
 
   less : (t : Bool) → ltZ (r64 (c .shuffle-cross .result)) (r64 (b .before .cross-sum .result)) ≡ t → ltZ (numbers (b .loop .r)) own ≡ t
   less t e = cc (shuffle-is .same, own-is .same, e)

@@ -1,17 +1,17 @@
 -- `work_rank` meets its contract: the deviations are worked once, and a shuffle's deviations are the job's, shuffled. Assumes nothing.
 use mathlib.Core.Path.{_≡_, sym, _∙_}
 use mathlib.Core.List.{List}
-use Prim.Native.Nat.{ℕ}
 use lib.IntN.{ℤ}
 use lib.ListN.{length}
 use lib.Seq.{length-take-le}
-use Rattle.whole.specs.Table.{table, at, pair-at}
+use Rattle.whole.specs.Table.{table, at}
 use Rattle.whole.proofs.Lists.{front, front-le, front-length}
 use Rattle.whole.proofs.Table.{table-length}
-use Rattle.account.specs.Measures.{deviation-of, cross-of}
-use Rattle.account.specs.Rank.{shuffled, values-cross, shuffle-cross, compared}
+use Rattle.account.specs.Measures.{deviation-of}
+use Rattle.account.specs.Rank.{values-cross, shuffle-cross, compared}
+use Rattle.account.specs.Steps.{cross-held, cross-moved}
 use Rattle.account.proofs.Locals.{deviations-sized}
-use Rattle.account.proofs.Shuffled.{own-cross, moved-cross}
+use Rattle.account.proofs.Shuffled.{own-cross, its-cross}
 use Rattle.account.proofs.Tallied.{compared-cong}
 use Rattle.account.proofs.ranking.work_rank.Statement.{statement}
 use Rattle.account.proofs.ranking.work_rank.Tie as tie
@@ -31,13 +31,14 @@ module _ (c : tie.After-deviations) where
   same :
       (d : List ℤ) → d ≡ expected →
       let g = a .args in
-      let f = pair-at (g .weights .now) (g .n) in
-      compared (λ r. cross-of f (shuffled (at d) (pair-at (g .shuffles .now) (g .n) r)) (g .n)) (cross-of f (at d) (g .n)) (g .rows)
-      ≡ compared (shuffle-cross (g .n) (g .values .now) (g .weights .now) (g .shuffles .now)) (values-cross (g .n) (g .weights .now) (at (g .values .now))) (g .rows)
+      compared (cross-moved (g .weights .now) (g .n) d (g .shuffles .now)) (cross-held (g .weights .now) (g .n) d) (g .rows)
+      ≡ compared (shuffle-cross (g .n) (g .values .now) (g .weights .now) (g .shuffles .now))
+      (values-cross (g .n) (g .weights .now) (at (g .values .now)))
+      (g .rows)
   same d e =
       let g = a .args in
       compared-cong _ _ _ _ (g .rows)
-      (λ r h. moved-cross (g .values .now) (g .weights .now) (g .n) d e (g .shuffles .now) r (a .pre .1 .full r h))
+      (λ r h. its-cross (g .values .now) (g .weights .now) (g .n) d e (g .shuffles .now) r (a .pre .1 .full r h))
       (own-cross (g .values .now) (g .weights .now) (g .n) d e)
 
 array-borrow-prefix-d : tie.Need-array-borrow-prefix-d

@@ -46,7 +46,8 @@ loop-again : tie.Need-loop-again Inv-loop μ-loop
 loop-again c =
     let b = c .before .before .before in
     let a = b .before .before .args in
-    (omega arith, some-more (test (a .shuffles .now) (a .n)) (b .loop .r) (b .loop .inv .1) (sym (c .before .lacks-zone .ensures) ∙ c .if1 .left))
+    let e = sym (c .before .lacks-zone .ensures) ∙ c .if1 .left in
+    (omega arith, some-more (test (a .shuffles .now) (a .n)) (b .loop .r) (b .loop .inv .1) e)
 
 returns-2 : tie.Need-returns-2 Inv-loop μ-loop
 returns-2 c =

@@ -1,11 +1,10 @@
 -- `lacks_zone` meets its contract: the zones are marked in a local array, whose first n places are lent. Assumes nothing.
-use mathlib.Core.Path.{_≡_, refl, sym, ap, _∙_}
+use mathlib.Core.Path.{_≡_, sym, ap, _∙_}
 use mathlib.Core.Bool.{Bool, false, not}
 use mathlib.Core.List.{List}
-use Prim.Native.Nat.{ℕ, _<_}
-use native.Mathlib.Omega.{arith}
+use Prim.Native.Nat.{ℕ}
 use lib.Dec.{eqb}
-use lib.ListN.{length, getD, take}
+use lib.ListN.{length, getD}
 use lib.Seq.{length-take-le}
 use Rattle.whole.specs.Order.{lacks}
 use Rattle.whole.specs.Search.{some}
@@ -31,7 +30,9 @@ module _ (c : tie.After-mark) where
   as-long = table-length named n
 
   -- the last search is of the row itself
-  pub lacking : (l : List Bool) → l ≡ table named n → some (λ k. not (getD l k false)) (length l) ≡ lacks (pair-at (a .args .shuffles .now) n (a .args .r)) n
+  lacking :
+      (l : List Bool) → l ≡ table named n →
+      some (λ k. not (getD l k false)) (length l) ≡ lacks (pair-at (a .args .shuffles .now) n (a .args .r)) n
   unfolding lacks
   lacking l e = rw (e, as-long) (some-cong _ _ n (λ k p. ap not (table-at named n k false p)))
 

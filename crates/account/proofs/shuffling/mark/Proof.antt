@@ -1,14 +1,13 @@
 -- `mark` meets its contract. The loop's invariant: marked are the zones that the numbers passed name. Assumes nothing.
-use mathlib.Core.Path.{_≡_, refl, sym, ap, _∙_}
-use mathlib.Core.Bool.{Bool, true, false}
-use mathlib.Core.List.{List}
+use mathlib.Core.Path.{_≡_, sym, ap, _∙_}
+use mathlib.Core.Bool.{false}
 use mathlib.Core.Logic.{⊎-elim}
 use Prim.Native.Nat.{ℕ, _+_, _*_, _-_, _≤_, _<_}
 use native.Mathlib.Omega.{arith}
 use lib.Dec.{eqb}
 use lib.ListN.{length, getD, length-set}
 use Rattle.whole.specs.Search.{some}
-use Rattle.whole.specs.Table.{table, pair-at}
+use Rattle.whole.specs.Table.{pair-at}
 use Rattle.whole.proofs.Search.{some-zero}
 use Rattle.whole.proofs.Table.{is-table, table-length, table-at}
 use Rattle.account.proofs.Shuffled.{row-end, marked, unmarked}

@@ -1,12 +1,13 @@
--- `shuffle_deviations` meets its contract. The loop's invariant: each element passed is the deviation of the zone named there. Assumes nothing.
+-- `shuffle_deviations` meets its contract. The loop's invariant: each element passed is the deviation of the zone named there.
+-- Assumes nothing.
 use mathlib.Core.Path.{_≡_}
 use Prim.Native.Nat.{ℕ, _+_, _*_, _-_, _≤_, _<_}
 use native.Mathlib.Omega.{arith}
-use lib.IntN.{ℤ, pos}
+use lib.IntN.{pos}
 use lib.ListN.{length, getD, length-set}
 use mir.Syntax.{w64}
 use mir.ValLaws.{toZ-ofZ}
-use Rattle.whole.specs.Table.{table, at, pair-at}
+use Rattle.whole.specs.Table.{at, pair-at}
 use Rattle.whole.proofs.Permutation.{full}
 use Rattle.whole.proofs.Table.{is-table, stored}
 use Rattle.account.proofs.Shuffled.{row-end}
@@ -30,7 +31,8 @@ unfolding pair-at
 zone-below c =
     let b = c .before .before in
     let a = b .before in
-    full (pair-at (a .args .shuffles .now) (a .args .n) (a .args .r)) (a .args .n) (a .pre .1 .1 .full) .into (b .loop .i) (c .before .loop-test .taken)
+    let row = pair-at (a .args .shuffles .now) (a .args .n) (a .args .r) in
+    full row (a .args .n) (a .pre .1 .1 .full) .into (b .loop .i) (c .before .loop-test .taken)
 
 mul-row : tie.Need-mul-row Inv-loop μ-loop
 mul-row c = omega (arith, row-end (c .pre .1 .1 .row))
@@ -47,17 +49,17 @@ shared-slice-read-zone c = omega (arith, c .before .before .before .pre .1 .1 .r
 cast-zone : tie.Need-cast-zone Inv-loop μ-loop
 cast-zone c = omega (arith, zone-below c, c .before .before .before .pre .1 .1 .row .zones)
 
-mul-deviation : tie.Need-mul-deviation Inv-loop μ-loop
-mul-deviation c = omega (arith, zone-below c, c .before .before .before .pre .1 .1 .row .zones)
+mul-moved : tie.Need-mul-moved Inv-loop μ-loop
+mul-moved c = omega (arith, zone-below c, c .before .before .before .pre .1 .1 .row .zones)
 
-shared-slice-copy-out-deviation : tie.Need-shared-slice-copy-out-deviation Inv-loop μ-loop
-shared-slice-copy-out-deviation c = omega (arith, zone-below c, c .before .before .before .pre .0)
+shared-slice-copy-out-moved : tie.Need-shared-slice-copy-out-moved Inv-loop μ-loop
+shared-slice-copy-out-moved c = omega (arith, zone-below c, c .before .before .before .pre .0)
 
-mul-deviation-2 : tie.Need-mul-deviation-2 Inv-loop μ-loop
-mul-deviation-2 c = omega (arith, c .before .before .before .before .pre .1 .1 .row .zones)
+mul-t15 : tie.Need-mul-t15 Inv-loop μ-loop
+mul-t15 c = omega (arith, zone-below (c .before), c .before .before .before .before .pre .1 .1 .row .zones)
 
-slice-set-from-deviation : tie.Need-slice-set-from-deviation Inv-loop μ-loop
-slice-set-from-deviation c = omega arith
+slice-set-from-moved : tie.Need-slice-set-from-moved Inv-loop μ-loop
+slice-set-from-moved c = omega (arith, zone-below (c .before))
 
 add-i : tie.Need-add-i Inv-loop μ-loop
 add-i c = omega arith
@@ -75,7 +77,7 @@ loop-again c =
       (
         simp length-set (inv .0),
         stored (λ k. at (a .d .now) (pair-at (a .shuffles .now) (a .n) (a .r) k)) (pos 0) _ (b .loop .moved) (b .loop .i) (omega arith)
-            (toZ-ofZ w64 _ (record { sfits = c .deviation .given }))
+            (toZ-ofZ w64 _ (record { sfits = c .moved .given }))
             (inv .1),
       ),
     )
@@ -101,10 +103,10 @@ shuffle-deviations-spec =
     add-zone
     shared-slice-read-zone
     cast-zone
-    mul-deviation
-    shared-slice-copy-out-deviation
-    mul-deviation-2
-    slice-set-from-deviation
+    mul-moved
+    shared-slice-copy-out-moved
+    mul-t15
+    slice-set-from-moved
     add-i
     loop-less
     loop-again
