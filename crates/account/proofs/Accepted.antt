@@ -21,7 +21,7 @@ use Rattle.account.specs.Refusals.{any-on-diagonal, job-rules, job-lengt
 use Rattle.account.specs.Classes.{class-rules, class-refusal}
 use Rattle.account.specs.Rank.{shuffle-count, any-lacking, rank-rules, rank-refusal}
 use Rattle.account.specs.Steps.{Sized, Weighted, Job, Shuffles}
-use Rattle.account.proofs.Shuffled.{at-most-499}
+use Rattle.account.proofs.ShuffleList.{at-most-499}
 
 -- ---- what a rule that holds tells
 pub near : (limit : ℕ) (numbers : List ℤ) (n : ℕ) → length numbers ≡ n → any-beyond limit numbers ≡ false → Sized limit numbers n
@@ -58,7 +58,7 @@ pub fitted :
 fitted n values weights lent others f e =
     let lengths = job-lengths n values weights others in
     let all : misfits lengths ≡ false = rw (eq-eqb values n (f .values-fit), eq-eqb weights (n * n) (f .weights-fit), e) refl in
-    sizes-let-in n (job-lengths n values weights others) (record { two = f .two; zones = f .zones; fitting = all })
+    sizes-let-in n lengths (record { two = f .two; zones = f .zones; fitting = all })
 
 -- where a job's two lists do not fit, with n places beside them, they do not with any further lists
 pub also-misfits :

@@ -1,10 +1,12 @@
--- Laws of the measures and of an accepted job, each file named by its subject. What the buyer asks for by name is in Theorems.
+-- Laws of the measures and of an accepted job, each file named by its subject. What the buyer asks for by name is in the files of
+-- theorems.
 pub mod Sizes
 pub mod Adding
 pub mod Reading
 pub mod Running
 pub mod Locals
 pub mod ByClass
+pub mod ShuffleList
 pub mod Shuffled
 pub mod HotOrder
 pub mod Tallied

@@ -29,11 +29,12 @@ use Rattle.account.specs.declared.Counts.{Counts}
 use Rattle.account.specs.declared.RankAnswer.{RankAnswer}
 use Rattle.account.specs.declared.RankAnswer.the-variants.{Refused, Counted}
 use Rattle.account.proofs.Accepted.{rank-called, rank-accepted, let-in}
-use Rattle.account.proofs.Shuffled.{whole-rows, rows-counted}
+use Rattle.account.proofs.ShuffleList.{whole-rows, rows-counted}
 use Rattle.account.proofs.Tallied.{all-counted}
 use Rattle.account.proofs.Theorems.{weight-one, spread-one}
 -- stated where they are proved: S in a shuffle, its deviations, and that no more than 499 shuffles are counted
-pub use Rattle.account.proofs.Shuffled.{at-most-499, shuffled-total, shuffled-deviation}
+pub use Rattle.account.proofs.ShuffleList.{at-most-499}
+pub use Rattle.account.proofs.Shuffled.{shuffled-total, shuffled-deviation}
 
 -- ---- a shuffle leaves the spread as it is
 pub shuffled-spread : (x : ℕ → ℤ) (row : ℕ → ℕ) (n : ℕ) → lacks row n ≡ false → spread-of (shuffled x row) n ≡ spread-of x n

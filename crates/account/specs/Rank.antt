@@ -28,7 +28,7 @@ shuffle-count n length = let rows = length / n in cond (ltb 499 rows) 499 rows
 abbrev pub shuffled : (ℕ → ℤ) → (ℕ → ℕ) → ℕ → ℤ
 shuffled x named i = x (named i)
 
--- the P of values x
+-- the P of the values x between the job's zones
 unfoldable pub values-cross : ℕ → List ℕ → (ℕ → ℤ) → ℤ
 values-cross n weights x = cross-of (pair-at weights n) (deviation-of x n) n
 
@@ -36,12 +36,12 @@ values-cross n weights x = cross-of (pair-at weights n) (deviation-of x n) n
 unfoldable pub shuffle-cross : ℕ → List ℤ → List ℕ → List ℕ → ℕ → ℤ
 shuffle-cross n values weights shuffles r = values-cross n weights (shuffled (at values) (pair-at shuffles n r))
 
--- less, equal, greater: how many of so many numbers are so, beside the number that is the job's own
+-- less, equal, greater: how many of the first `many` numbers are less than `own`, equal to it, greater than it
 unfoldable pub compared : (ℕ → ℤ) → ℤ → ℕ → List ℕ
 compared numbers own many =
     count (λ r. ltZ (numbers r) own) many ∷ count (λ r. equal (numbers r) own) many ∷ count (λ r. ltZ own (numbers r)) many ∷ []
 
--- the shuffles by their P
+-- the shuffles counted by their P, beside the job's own
 unfoldable pub job-rank : ℕ → List ℤ → List ℕ → List ℕ → List ℕ
 job-rank n values weights shuffles =
     compared (shuffle-cross n values weights shuffles) (values-cross n weights (at values)) (shuffle-count n (length shuffles))

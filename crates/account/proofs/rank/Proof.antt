@@ -7,7 +7,7 @@ use Rattle.whole.proofs.Rules.{kept-when-refused, worked-when-taken}
 use Rattle.account.specs.Rank.{shuffle-count, compared, job-rank, rank-refusal, rank-counts, number-of, counts-of}
 use Rattle.account.specs.Steps.{Shuffles}
 use Rattle.account.proofs.Accepted.{RankAccepted, rank-accepted}
-use Rattle.account.proofs.Shuffled.{whole-rows}
+use Rattle.account.proofs.ShuffleList.{whole-rows}
 use Rattle.account.proofs.rank.Statement.{statement}
 use Rattle.account.proofs.rank.Tie as tie
 

@@ -11,7 +11,7 @@ use Rattle.account.specs.Refusals.{job-rules}
 use Rattle.account.specs.Rank.{shuffle-count, any-lacking, rank-rules, rank-refusal}
 use Rattle.account.proofs.Accepted.{Fitting, fitting}
 use Rattle.account.proofs.Judged.{sizes-of, by-sizes, by-job, by-rest}
-use Rattle.account.proofs.Shuffled.{at-most-499, whole-rows}
+use Rattle.account.proofs.ShuffleList.{at-most-499, whole-rows}
 use Rattle.account.proofs.judging.judge_rank.Statement.{statement}
 use Rattle.account.proofs.judging.judge_rank.Tie as tie
 

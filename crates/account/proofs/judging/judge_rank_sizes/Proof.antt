@@ -9,7 +9,7 @@ use Rattle.whole.proofs.Rules.{sizes-first}
 use Rattle.account.specs.Rank.{shuffle-count}
 use Rattle.account.specs.Refusals.{job-lengths}
 use Rattle.account.proofs.Accepted.{Fitting, fitting, also-misfits}
-use Rattle.account.proofs.Shuffled.{all-rows, too-many}
+use Rattle.account.proofs.ShuffleList.{all-rows, too-many}
 use Rattle.account.proofs.judging.judge_rank_sizes.Statement.{statement}
 use Rattle.account.proofs.judging.judge_rank_sizes.Tie as tie
 

@@ -12,7 +12,8 @@ use Rattle.whole.proofs.Machine.{Is, told, rd, r64}
 use Rattle.account.specs.Rank.{compared}
 use Rattle.account.specs.Steps.{cross-held, cross-moved}
 use Rattle.account.proofs.Reading.{weight-le}
-use Rattle.account.proofs.Shuffled.{shuffle-there, shuffled-cross-size}
+use Rattle.account.proofs.ShuffleList.{shuffle-there}
+use Rattle.account.proofs.Shuffled.{shuffled-cross-size}
 use Rattle.account.proofs.Sizes.{cross-size}
 use Rattle.account.proofs.Tallied.{Tallied, none-yet, one-less, one-greater, one-equal, no-more, tallied}
 use Rattle.account.proofs.ranking.tally.Statement.{statement}

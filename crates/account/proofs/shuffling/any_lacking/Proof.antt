@@ -8,7 +8,7 @@ use Rattle.whole.specs.Order.{lacks}
 use Rattle.whole.specs.Search.{some}
 use Rattle.whole.specs.Table.{pair-at}
 use Rattle.whole.proofs.Search.{some-zero, some-more, some-found, some-done}
-use Rattle.account.proofs.Shuffled.{row-there}
+use Rattle.account.proofs.ShuffleList.{row-there}
 use Rattle.account.proofs.shuffling.any_lacking.Statement.{statement}
 use Rattle.account.proofs.shuffling.any_lacking.Tie as tie
 

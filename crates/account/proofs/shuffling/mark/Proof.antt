@@ -10,7 +10,7 @@ use Rattle.whole.specs.Search.{some}
 use Rattle.whole.specs.Table.{pair-at}
 use Rattle.whole.proofs.Search.{some-zero}
 use Rattle.whole.proofs.Table.{is-table, table-length, table-at}
-use Rattle.account.proofs.Shuffled.{row-end, marked, unmarked}
+use Rattle.account.proofs.ShuffleList.{row-end, marked, unmarked}
 use Rattle.account.proofs.shuffling.mark.Statement.{statement}
 use Rattle.account.proofs.shuffling.mark.Tie as tie
 
