@@ -32,7 +32,9 @@ weighted weights n zones l e = record { zones = zones; count = l; light = λ k h
 
 pub clear-of : (weights : List ℕ) (n : ℕ) → any-on-diagonal n weights ≡ false → (i : ℕ) → i < n → pair-at weights n i i ≡ 0
 unfolding any-on-diagonal
-clear-of weights n e i h = let q = ltb-false 0 (pair-at weights n i i) (some-none (λ i. ltb 0 (pair-at weights n i i)) n i e h) in omega arith
+clear-of weights n e i h =
+    let q = ltb-false 0 (pair-at weights n i i) (some-none (λ i. ltb 0 (pair-at weights n i i)) n i e h) in
+    omega arith
 
 -- ---- a call on a job in which 1 and 2 hold: the sizes are good
 pub record Fitting (n values weights : ℕ) (lent : List (ℕ × ℕ)) : Type 0 where
@@ -186,7 +188,8 @@ pub record ClassAccepted (room n : ℕ) (values : List ℤ) (weights classes : L
   pub locals-fit : locals ≡ 9 * n
 
 pub class-accepted :
-    (room n : ℕ) (values : List ℤ) (weights classes : List ℕ) (rows locals : ℕ) → class-refusal room n values weights classes rows locals ≡ 0 →
+    (room n : ℕ) (values : List ℤ) (weights classes : List ℕ) (rows locals : ℕ) →
+    class-refusal room n values weights classes rows locals ≡ 0 →
     ClassAccepted room n values weights classes rows locals
 unfolding class-refusal
 class-accepted room n values weights classes rows locals e =

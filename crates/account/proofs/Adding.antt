@@ -46,7 +46,8 @@ cross-alike f n d e alike =
 pub locals-sum : (f : ℕ → ℕ → ℕ) (d : ℕ → ℤ) (n : ℕ) → sum (λ i. local-of f d n i) n ≡ cross-of f d n
 unfolding local-of cross-of pairs-of row-of
 locals-sum f d n =
-    sum-cong _ _ n (λ i p. sym (sum-scale (d i) (λ j. pos (f i j) *ℤ d j) n) ∙ sum-cong _ _ n (λ j q. *-left-comm (d i) (pos (f i j)) (d j)))
+    sum-cong _ _ n
+    (λ i p. sym (sum-scale (d i) (λ j. pos (f i j) *ℤ d j) n) ∙ sum-cong _ _ n (λ j q. *-left-comm (d i) (pos (f i j)) (d j)))
 
 -- ---- where the m parts of each weight add up to it, in what they count, so do the sums
 module _ (f : ℕ → ℕ → ℕ → ℕ) (g : ℕ → ℕ → ℕ) (m n : ℕ)

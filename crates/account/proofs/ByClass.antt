@@ -61,7 +61,8 @@ module _ (weights classes : List ℕ) (k : ℕ) where
     row-is values =
         let f = pair-at (weights-in weights classes k) n in
         let g = class-weight weights classes n k in
-        rw (weight-cong f g n in-pairs, cross-cong f g n in-pairs (deviation-of (at values) n), squares-cong f g n in-pairs (at values)) refl
+        rw (weight-cong f g n in-pairs, cross-cong f g n in-pairs (deviation-of (at values) n), squares-cong f g n in-pairs (at values))
+        refl
 
     pub locals-in :
         (values : List ℤ) → job-locals n values (weights-in weights classes k) ≡ table (class-local-of n values weights classes k) n

@@ -95,7 +95,8 @@ module _ (n : ℕ) (values : List ℤ) (weights classes : List ℕ) (lent : List
   unfolding class-row-of class-row
   nine-weights = weight-parts (class-weight weights classes n) (pair-at weights n) 9 n shared
 
-  pub nine-crosses : sum (λ k. class-row-of n values weights classes k .cross) 9 ≡ cross-of (pair-at weights n) (deviation-of (at values) n) n
+  pub nine-crosses :
+      sum (λ k. class-row-of n values weights classes k .cross) 9 ≡ cross-of (pair-at weights n) (deviation-of (at values) n) n
   unfolding class-row-of class-row
   nine-crosses = cross-parts (class-weight weights classes n) (pair-at weights n) 9 n shared (deviation-of (at values) n)
 
@@ -117,7 +118,8 @@ pub class-taken :
     first-broken (class-rules n values weights classes lent) ≡ 0
 unfolding class-rules
 class-taken n values weights classes locals lent taken l low fit =
-    let-in n values weights _ (account-called n values weights locals taken) ((length classes, n * n) ∷ lent) ((any-above 8 classes, 9) ∷ [])
+    let-in n values weights _ (account-called n values weights locals taken)
+    ((length classes, n * n) ∷ lent) ((any-above 8 classes, 9) ∷ [])
     (rw (eq-eqb (length classes) (n * n) l, fit) refl)
     (rw (all-within 8 classes (λ p h. low p (omega arith))) refl)
 

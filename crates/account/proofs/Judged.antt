@@ -29,7 +29,8 @@ module _ (n : ℕ) (values : List ℤ) (weights : List ℕ) (lent : List (ℕ ×
       by-job e some = then-job (first-here besides (job-rules n values weights) r e some)
 
       pub by-rest :
-          first-broken (job-rules n values weights) ≡ 0 → r ≡ first-broken besides → r ≡ first-broken (call-rules n values weights lent besides)
+          first-broken (job-rules n values weights) ≡ 0 → r ≡ first-broken besides →
+          r ≡ first-broken (call-rules n values weights lent besides)
       unfolding job-rules
       by-rest job-good e =
           then-job (e ∙ first-next besides 0 (job-rules n values weights) (tt, (tt, (tt, (tt, (tt, tt))))) job-good)

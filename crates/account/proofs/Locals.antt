@@ -30,8 +30,10 @@ unfolding job-locals
 job-locals-at n values weights i h = table-at (local-of (pair-at weights n) (deviation-of (at values) n) n) n i (pos 0) h
 
 -- ---- in the code's lists
-pub deviations-sized : (values : List ℤ) (n : ℕ) (d : List ℤ) → Valued values n → d ≡ table (deviation-of (at values) n) n → Sized 12800000 d n
-deviations-sized values n d v e = table-sized 12800000 n (deviation-of (at values) n) d e (deviation-size (at values) n (v .zones) (v .near .size))
+pub deviations-sized :
+    (values : List ℤ) (n : ℕ) (d : List ℤ) → Valued values n → d ≡ table (deviation-of (at values) n) n → Sized 12800000 d n
+deviations-sized values n d v e =
+    table-sized 12800000 n (deviation-of (at values) n) d e (deviation-size (at values) n (v .zones) (v .near .size))
 
 module _ (values : List ℤ) (weights : List ℕ) (n : ℕ) (r : Job values weights n) where
   -- worked from the list of deviations
@@ -40,16 +42,19 @@ module _ (values : List ℤ) (weights : List ℕ) (n : ℕ) (r : Job values weig
       out ≡ job-locals n values weights
   unfolding job-locals
   locals-are d out e q =
-      q
-      ∙ table-cong _ _ n (pos 0) (local-cong (pair-at weights n) (pair-at weights n) n (λ i j p q. refl) (at d) (deviation-of (at values) n) (λ i p. ap (λ l. at l i) e ∙ table-at (deviation-of (at values) n) n i (pos 0) p))
+      let f = pair-at weights n in
+      let deviation = deviation-of (at values) n in
+      let read : (i : ℕ) → i < n → at d i ≡ deviation i = λ i p. ap (λ l. at l i) e ∙ table-at deviation n i (pos 0) p in
+      q ∙ table-cong _ _ n (pos 0) (local-cong f f n (λ i j p q. refl) (at d) deviation read)
 
   module _ (out : List ℤ) (q : out ≡ job-locals n values weights) where
     pub locals-sized : Sized 94371840000000000 out n
     unfolding job-locals
     locals-sized =
         let v = r .valued in
+        let deviations = deviation-size (at values) n (v .zones) (v .near .size) in
         table-sized 94371840000000000 n (local-of (pair-at weights n) (deviation-of (at values) n) n) out q
-        (local-size (pair-at weights n) n (v .zones) (weight-le weights n (r .weighted)) (deviation-of (at values) n) (deviation-size (at values) n (v .zones) (v .near .size)))
+        (local-size (pair-at weights n) n (v .zones) (weight-le weights n (r .weighted)) (deviation-of (at values) n) deviations)
 
     -- they add up to P
     pub locals-cross : sum (at out) n ≡ cross-of (pair-at weights n) (deviation-of (at values) n) n
@@ -67,7 +72,8 @@ module _ (values : List ℤ) (n : ℕ) (v : Valued values n) where
   spread-told e = told _ 80640000000000 e (spread-of-size (at values) n (v .zones) (v .near .size))
 
 pub weight-told :
-    (weights : List ℕ) (n : ℕ) → Weighted weights n → {y : ℤ} → y ≡ weight-of (pair-at weights n) n → Is y (weight-of (pair-at weights n) n) 36864
+    (weights : List ℕ) (n : ℕ) → Weighted weights n → {y : ℤ} → y ≡ weight-of (pair-at weights n) n →
+    Is y (weight-of (pair-at weights n) n) 36864
 weight-told weights n w e = told _ 36864 e (weight-size (pair-at weights n) n (w .zones) (weight-le weights n w))
 
 module _ (values : List ℤ) (weights : List ℕ) (n : ℕ) (r : Job values weights n) where
@@ -75,8 +81,10 @@ module _ (values : List ℤ) (weights : List ℕ) (n : ℕ) (r : Job values weig
       {y : ℤ} → y ≡ cross-of (pair-at weights n) (deviation-of (at values) n) n →
       Is y (cross-of (pair-at weights n) (deviation-of (at values) n) n) 6039797760000000000
   cross-told e =
+      let v = r .valued in
+      let deviations = deviation-size (at values) n (v .zones) (v .near .size) in
       told _ 6039797760000000000 e
-      (cross-size (pair-at weights n) n (r .valued .zones) (weight-le weights n (r .weighted)) (deviation-of (at values) n) (deviation-size (at values) n (r .valued .zones) (r .valued .near .size)))
+      (cross-size (pair-at weights n) n (v .zones) (weight-le weights n (r .weighted)) (deviation-of (at values) n) deviations)
 
   pub squares-told :
       {y : ℤ} → y ≡ squares-of (pair-at weights n) (at values) n → Is y (squares-of (pair-at weights n) (at values) n) 1474560000000000

@@ -43,7 +43,8 @@ module _ (values : List ℤ) (n : ℕ) (v : Valued values n) where
 
   -- what `squared_difference` answers of two
   pub difference-told :
-      {y : ℤ} (i j : ℕ) → i < n → j < n → y ≡ square (r32 (at values i) -ℤ r32 (at values j)) → Is y (square (at values i -ℤ at values j)) 40000000000
+      {y : ℤ} (i j : ℕ) → i < n → j < n → y ≡ square (r32 (at values i) -ℤ r32 (at values j)) →
+      Is y (square (at values i -ℤ at values j)) 40000000000
   difference-told i j h k e =
       told (square (at values i -ℤ at values j)) 40000000000
       (e ∙ ap (λ z. square (z -ℤ r32 (at values j))) (value-is i h .same) ∙ ap (λ z. square (at values i -ℤ z)) (value-is j k .same))

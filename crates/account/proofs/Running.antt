@@ -34,9 +34,12 @@ module _ (weights : List ℕ) (n : ℕ) (w : Weighted weights n) where
     small = tt;
   }
 
-  pub neighbours-run : (d : List ℤ) (i : ℕ) → Sized 12800000 d n → i < n → Bounded w64 (λ j. pos (pair-at weights n i j) *ℤ at d j) n 7372800000
+  pub neighbours-run :
+      (d : List ℤ) (i : ℕ) → Sized 12800000 d n → i < n → Bounded w64 (λ j. pos (pair-at weights n i j) *ℤ at d j) n 7372800000
   neighbours-run d i s h = record {
-    bound = λ m k. row-size (pair-at weights n) (λ i j. at d j) n 12800000 (w .zones) (weight-le weights n w) (λ i j p q. s .size j q) i m h k;
+    bound =
+        λ m k. row-size (pair-at weights n) (λ i j. at d j) n 12800000 (w .zones) (weight-le weights n w)
+        (λ i j p q. s .size j q) i m h k;
     small = tt;
   }
 
@@ -52,16 +55,19 @@ module _ (values : List ℤ) (weights : List ℕ) (n : ℕ) (r : Job values weig
   differences : (i j : ℕ) → i < n → j < n → natAbs (square (at values i -ℤ at values j)) ≤ 40000000000
   differences = square-size (at values) n (r .valued .zones) (r .valued .near .size)
 
-  pub row-squares-run : (i : ℕ) → i < n → Bounded w64 (λ j. pos (pair-at weights n i j) *ℤ square (at values i -ℤ at values j)) n 23040000000000
+  pub row-squares-run :
+      (i : ℕ) → i < n → Bounded w64 (λ j. pos (pair-at weights n i j) *ℤ square (at values i -ℤ at values j)) n 23040000000000
   row-squares-run i h = record {
     bound =
-        λ m k. row-size (pair-at weights n) (λ i j. square (at values i -ℤ at values j)) n 40000000000 (r .weighted .zones) (weight-le weights n (r .weighted)) differences i m h k;
+        λ m k. row-size (pair-at weights n) (λ i j. square (at values i -ℤ at values j)) n 40000000000
+        (r .weighted .zones) (weight-le weights n (r .weighted)) differences i m h k;
     small = tt;
   }
 
   pub squares-run : Bounded w64 (λ i. row-of (pair-at weights n) (λ i j. square (at values i -ℤ at values j)) i n) n 1474560000000000
   squares-run = record {
     bound =
-        rows-size (pair-at weights n) (λ i j. square (at values i -ℤ at values j)) n 40000000000 (r .weighted .zones) (weight-le weights n (r .weighted)) differences;
+        rows-size (pair-at weights n) (λ i j. square (at values i -ℤ at values j)) n 40000000000
+        (r .weighted .zones) (weight-le weights n (r .weighted)) differences;
     small = tt;
   }

@@ -31,7 +31,9 @@ module _ (x : ℕ → ℤ) (n : ℕ) (zones : n ≤ 64) (near : (k : ℕ) → k 
       size---le (pos n *ℤ x i) (sum x n) 6400000 6400000 (size-*-le (pos n) (x i) 64 100000 zones (near i h)) (total-size n (omega arith))
 
   pub square-size : (i j : ℕ) → i < n → j < n → natAbs (square (x i -ℤ x j)) ≤ 40000000000
-  square-size i j h k = let e = size---le (x i) (x j) 100000 100000 (near i h) (near j k) in size-*-le (x i -ℤ x j) (x i -ℤ x j) 200000 200000 e e
+  square-size i j h k =
+      let e = size---le (x i) (x j) 100000 100000 (near i h) (near j k) in
+      size-*-le (x i -ℤ x j) (x i -ℤ x j) 200000 200000 e e
 
   -- zone j to the first m zones
   pub before-size : (j m : ℕ) → j < n → m ≤ j → natAbs (sum (λ i. square (x i -ℤ x j)) m) ≤ 2560000000000
@@ -40,14 +42,20 @@ module _ (x : ℕ → ℤ) (n : ℕ) (zones : n ≤ 64) (near : (k : ℕ) → k 
   -- the pairs of the first m zones
   pub spread-size : (m : ℕ) → m ≤ n → natAbs (sum (λ j. sum (λ i. square (x i -ℤ x j)) j) m) ≤ 80640000000000
   spread-size m h =
-      omega (arith, sum-size-pairs (λ j. sum (λ i. square (x i -ℤ x j)) j) m 40000000000 (λ j p. sum-size (λ i. square (x i -ℤ x j)) j 40000000000 (λ i q. square-size i j (omega arith) (omega arith))), two-pairs m (omega arith))
+      omega (
+        arith,
+        sum-size-pairs (λ j. sum (λ i. square (x i -ℤ x j)) j) m 40000000000
+            (λ j p. sum-size (λ i. square (x i -ℤ x j)) j 40000000000 (λ i q. square-size i j (omega arith) (omega arith))),
+        two-pairs m (omega arith),
+      )
 
   pub spread-of-size : natAbs (spread-of x n) ≤ 80640000000000
   unfolding spread-of
   spread-of-size = spread-size n (omega arith)
 
 -- ---- of any sum of f(i,j) × h(i,j), where h is at most b in size
-module _ (f : ℕ → ℕ → ℕ) (h : ℕ → ℕ → ℤ) (n b : ℕ) (zones : n ≤ 64) (light : (i j : ℕ) → i < n → j < n → f i j ≤ 9) (small : (i j : ℕ) → i < n → j < n → natAbs (h i j) ≤ b) where
+module _ (f : ℕ → ℕ → ℕ) (h : ℕ → ℕ → ℤ) (n b : ℕ) (zones : n ≤ 64)
+    (light : (i j : ℕ) → i < n → j < n → f i j ≤ 9) (small : (i j : ℕ) → i < n → j < n → natAbs (h i j) ≤ b) where
   pub term-size : (i j : ℕ) → i < n → j < n → natAbs (pos (f i j) *ℤ h i j) ≤ 9 * b
   term-size i j p q = size-*-le (pos (f i j)) (h i j) 9 b (light i j p q) (small i j p q)
 
@@ -69,7 +77,9 @@ module _ (f : ℕ → ℕ → ℕ) (h : ℕ → ℕ → ℤ) (n b : ℕ) (zones 
     pub row-sharp : (i : ℕ) → i < n → natAbs (row-of f h i n) ≤ 63 * (9 * b)
     unfolding row-of
     row-sharp i p =
-        omega (arith, sum-size-but (λ j. pos (f i j) *ℤ h i j) n (9 * b) i p (ap (λ v. pos v *ℤ h i i) (clear i p) ∙ zero-*ℤ (h i i)) (λ j r. term-size i j p r), N.mul-le-mul-right (9 * b) zones)
+        let none = ap (λ v. pos v *ℤ h i i) (clear i p) ∙ zero-*ℤ (h i i) in
+        let others = sum-size-but (λ j. pos (f i j) *ℤ h i j) n (9 * b) i p none (λ j r. term-size i j p r) in
+        omega (arith, others, N.mul-le-mul-right (9 * b) zones)
 
     pub pairs-sharp : natAbs (pairs-of f h n) ≤ 64 * (63 * (9 * b))
     unfolding pairs-of

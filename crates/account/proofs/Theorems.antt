@@ -52,7 +52,8 @@ pub account-adds-up :
 unfolding account-locals account-figures job-figures
 account-adds-up n values weights locals z =
     let a = accepted n values weights locals z in
-    rw (eq-eqb (account-refusal n values weights locals) 0 z) (locals-cross values weights n (a .good .job) (job-locals n values weights) refl)
+    rw (eq-eqb (account-refusal n values weights locals) 0 z)
+    (locals-cross values weights n (a .good .job) (job-locals n values weights) refl)
 
 -- ---- M is 0 exactly when all values are equal
 module _ (x : ℕ → ℤ) (n : ℕ) where
@@ -60,7 +61,8 @@ module _ (x : ℕ → ℤ) (n : ℕ) where
   unfolding spread-of
   earlier e i j h k =
       let row = terms-zero (λ j. sum (λ i. square (x i -ℤ x j)) j) n (λ j p. sum-above _ j (λ i q. square-above (x i -ℤ x j))) e j k in
-      equal-of-diff (x i) (x j) (square-zero (x i -ℤ x j) (terms-zero (λ i. square (x i -ℤ x j)) j (λ i q. square-above (x i -ℤ x j)) row i h))
+      let term = terms-zero (λ i. square (x i -ℤ x j)) j (λ i q. square-above (x i -ℤ x j)) row i h in
+      equal-of-diff (x i) (x j) (square-zero (x i -ℤ x j) term)
 
   pub equal-when-zero : spread-of x n ≡ pos 0 → (i j : ℕ) → i < n → j < n → x i ≡ x j
   equal-when-zero e i j h k = pick (decLt i j) (ℕ-discrete i j)
@@ -73,8 +75,9 @@ module _ (x : ℕ → ℤ) (n : ℕ) where
   pub zero-when-equal : ((i j : ℕ) → i < n → j < n → x i ≡ x j) → spread-of x n ≡ pos 0
   unfolding spread-of
   zero-when-equal same =
-      sum-cong _ _ n
-      (λ j p. sum-cong _ _ j (λ i q. ap (λ z. square (z -ℤ x j)) (same i j (omega arith) p) ∙ ap (λ z. z *ℤ z) (+ℤ-invr (x j))) ∙ sum-none j)
+      let none : (i j : ℕ) → i < n → j < n → square (x i -ℤ x j) ≡ pos 0 =
+      λ i j p q. ap (λ z. square (z -ℤ x j)) (same i j p q) ∙ ap (λ z. z *ℤ z) (+ℤ-invr (x j)) in
+      sum-cong _ _ n (λ j p. sum-cong _ _ j (λ i q. none i j (omega arith) p) ∙ sum-none j)
       ∙ sum-none n
 
 -- ---- every numerator and divisor is at most 6 × 10^18, whatever weights of at most 9 are counted off the diagonal
@@ -106,7 +109,8 @@ module _ (n : ℕ) (values : List ℤ) (weights : List ℕ) (locals : List ℤ) 
   accepted-limits =
       let a = accepted n values weights locals taken in
       let v = a .good .job .valued in
-      within-limits (pair-at weights n) (at values) n (v .zones) (weight-le weights n (a .good .job .weighted)) (a .good .clear) (v .near .size)
+      within-limits (pair-at weights n) (at values) n (v .zones) (weight-le weights n (a .good .job .weighted))
+      (a .good .clear) (v .near .size)
 
   pub weight-one : pos 1 ≤ℤ weight-of (pair-at weights n) n
   weight-one = one-of _ (adding.weight-above (pair-at weights n) n) (accepted n values weights locals taken .good .weighty)
@@ -117,11 +121,13 @@ module _ (n : ℕ) (values : List ℤ) (weights : List ℕ) (locals : List ℤ) 
 -- ---- the refusal is the least number that applies: it applies, and no number below it does
 module _ {A : Type 0} (n : ℕ) (values : List ℤ) (weights : List ℕ) (locals : List A) where
   pub refusal-applies :
-      (account-refusal n values weights locals ≡ 0 → ⊥) → Applies (account-refusal n values weights locals) (account-rules n values weights locals)
+      (account-refusal n values weights locals ≡ 0 → ⊥) →
+      Applies (account-refusal n values weights locals) (account-rules n values weights locals)
   unfolding account-refusal
   refusal-applies = first-applies (account-rules n values weights locals)
 
-  pub refusal-least : (number : ℕ) → Applies number (account-rules n values weights locals) → account-refusal n values weights locals ≤ number
+  pub refusal-least :
+      (number : ℕ) → Applies number (account-rules n values weights locals) → account-refusal n values weights locals ≤ number
   unfolding account-refusal account-rules call-rules job-rules
   refusal-least number = first-least 0 number (account-rules n values weights locals) (tt, (tt, (tt, (tt, (tt, (tt, (tt, tt)))))))
 
@@ -146,7 +152,8 @@ module _ (n : ℕ) (values : List ℤ) (weights : List ℕ) (locals : List ℤ) 
   answered r e = e ∙ worked-when-taken _ _ _ taken
 
   pub accounted-sums :
-      (r : Answer) (sums : Sums) → figures-of r ≡ account-figures n values weights locals → r ≡ Accounted sums → five sums ≡ job-figures n values weights
+      (r : Answer) (sums : Sums) → figures-of r ≡ account-figures n values weights locals → r ≡ Accounted sums →
+      five sums ≡ job-figures n values weights
   unfolding figures-of
   accounted-sums r sums e g = sym (ap figures-of g) ∙ answered r e
 

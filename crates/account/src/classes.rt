@@ -42,7 +42,8 @@ pub fn class_row(
     requires { ⌜ length (now classes) ≡ n * n ⌝ }
     requires { ⌜ length (now locals) ≡ n ⌝ }
     ensures { λ r. ⌜ r ≡ class-row-of n (now (values .entry)) (now (weights .entry)) (now (classes .entry)) k ⌝ }
-    ensures { λ _. ⌜ now (locals .exit) ≡ table (class-local-of n (now (values .entry)) (now (weights .entry)) (now (classes .entry)) k) n ⌝ }
+    ensures { λ _. ⌜ now (locals .exit)
+        ≡ table (class-local-of n (now (values .entry)) (now (weights .entry)) (now (classes .entry)) k) n ⌝ }
 {
     let pairs = weights.len();
     let mut own: [u8; 4096] = [0; 4096];

@@ -53,7 +53,8 @@ pub fn spread(n: usize, values: &[i32]) -> i64
 pub fn row_squares(n: usize, values: &[i32], weights: &[u8], i: usize) -> i64
     requires { ⌜ Job (now values) (now weights) n ⌝ }
     requires { ⌜ i < n ⌝ }
-    ensures { λ r. ⌜ r ≡ row-of (pair-at (now (weights .entry)) n) (λ i j. square (at (now (values .entry)) i -ℤ at (now (values .entry)) j)) i n ⌝ }
+    ensures { λ r. ⌜ r ≡ row-of (pair-at (now (weights .entry)) n)
+        (λ i j. square (at (now (values .entry)) i -ℤ at (now (values .entry)) j)) i n ⌝ }
 {
     let a = values[i];
     let row = i * n;

@@ -130,7 +130,8 @@ pub fn judge_class_sizes(
     rows: usize,
     locals: usize,
 ) -> u8
-    ensures { λ r. ⌜ r ≡ first-broken (size-rules n (job-lengths n values weights ((classes, n * n) ∷ (rows, room) ∷ (locals, 9 * n) ∷ []))) ⌝ }
+    ensures { λ r. ⌜ r ≡ first-broken
+        (size-rules n (job-lengths n values weights ((classes, n * n) ∷ (rows, room) ∷ (locals, 9 * n) ∷ []))) ⌝ }
 {
     let sizes = judge_sizes(n, values, weights, n);
     if sizes != 0 {

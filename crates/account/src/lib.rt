@@ -87,9 +87,12 @@ pub fn class_account(
     rows: &mut [i64],
     locals: &mut [i64],
 ) -> u8
-    ensures number { λ r. ⌜ r ≡ class-refusal 27 n (now (values .entry)) (now (weights .entry)) (now (classes .entry)) (length (now (rows .entry))) (length (now (locals .entry))) ⌝ }
-    ensures sums { λ _. ⌜ now (rows .exit) ≡ class-account-sums n (now (values .entry)) (now (weights .entry)) (now (classes .entry)) (now (rows .entry)) (now (locals .entry)) ⌝ }
-    ensures numerators { λ _. ⌜ now (locals .exit) ≡ class-account-locals n (now (values .entry)) (now (weights .entry)) (now (classes .entry)) 27 (length (now (rows .entry))) (now (locals .entry)) ⌝ }
+    ensures number { λ r. ⌜ r ≡ class-refusal 27 n
+        (now (values .entry)) (now (weights .entry)) (now (classes .entry)) (length (now (rows .entry))) (length (now (locals .entry))) ⌝ }
+    ensures sums { λ _. ⌜ now (rows .exit) ≡ class-account-sums n
+        (now (values .entry)) (now (weights .entry)) (now (classes .entry)) (now (rows .entry)) (now (locals .entry)) ⌝ }
+    ensures numerators { λ _. ⌜ now (locals .exit) ≡ class-account-locals n
+        (now (values .entry)) (now (weights .entry)) (now (classes .entry)) 27 (length (now (rows .entry))) (now (locals .entry)) ⌝ }
 {
     let number = judging::judge_classes(n, values, weights, classes, 27, rows.len(), locals.len());
     if number != 0 {
@@ -108,9 +111,12 @@ pub fn class_rows(
     rows: &mut [ClassRow],
     locals: &mut [i64],
 ) -> u8
-    ensures number { λ r. ⌜ r ≡ class-refusal 9 n (now (values .entry)) (now (weights .entry)) (now (classes .entry)) (length (now (rows .entry))) (length (now (locals .entry))) ⌝ }
-    ensures rows { λ _. ⌜ now (rows .exit) ≡ class-account-rows n (now (values .entry)) (now (weights .entry)) (now (classes .entry)) (now (rows .entry)) (now (locals .entry)) ⌝ }
-    ensures numerators { λ _. ⌜ now (locals .exit) ≡ class-account-locals n (now (values .entry)) (now (weights .entry)) (now (classes .entry)) 9 (length (now (rows .entry))) (now (locals .entry)) ⌝ }
+    ensures number { λ r. ⌜ r ≡ class-refusal 9 n
+        (now (values .entry)) (now (weights .entry)) (now (classes .entry)) (length (now (rows .entry))) (length (now (locals .entry))) ⌝ }
+    ensures rows { λ _. ⌜ now (rows .exit) ≡ class-account-rows n
+        (now (values .entry)) (now (weights .entry)) (now (classes .entry)) (now (rows .entry)) (now (locals .entry)) ⌝ }
+    ensures numerators { λ _. ⌜ now (locals .exit) ≡ class-account-locals n
+        (now (values .entry)) (now (weights .entry)) (now (classes .entry)) 9 (length (now (rows .entry))) (now (locals .entry)) ⌝ }
 {
     let worked = rows::work_rows(n, values, weights, classes, rows.len(), locals);
     rows::put_rows(rows, worked)

@@ -35,7 +35,8 @@ pub fn tally(n: usize, weights: &[u8], d: &[i64], shuffles: &[u8], rows: usize) 
     requires { ⌜ Weighted (now weights) n ⌝ }
     requires { ⌜ Sized 12800000 (now d) n ⌝ }
     requires { ⌜ Shuffles (now shuffles) n rows ⌝ }
-    ensures { λ c. ⌜ three c ≡ compared (cross-moved (now (weights .entry)) n (now (d .entry)) (now (shuffles .entry))) (cross-held (now (weights .entry)) n (now (d .entry))) rows ⌝ }
+    ensures { λ c. ⌜ three c ≡ compared (cross-moved (now (weights .entry)) n (now (d .entry)) (now (shuffles .entry)))
+        (cross-held (now (weights .entry)) n (now (d .entry))) rows ⌝ }
 {
     let own = cross_sum(n, weights, d);
     let mut less: usize = 0;
@@ -64,7 +65,8 @@ pub fn tally(n: usize, weights: &[u8], d: &[i64], shuffles: &[u8], rows: usize) 
 pub fn work_rank(n: usize, values: &[i32], weights: &[u8], shuffles: &[u8], rows: usize) -> Counts
     requires { ⌜ Job (now values) (now weights) n ⌝ }
     requires { ⌜ Shuffles (now shuffles) n rows ⌝ }
-    ensures { λ c. ⌜ three c ≡ compared (shuffle-cross n (now (values .entry)) (now (weights .entry)) (now (shuffles .entry))) (values-cross n (now (weights .entry)) (at (now (values .entry)))) rows ⌝ }
+    ensures { λ c. ⌜ three c ≡ compared (shuffle-cross n (now (values .entry)) (now (weights .entry)) (now (shuffles .entry)))
+        (values-cross n (now (weights .entry)) (at (now (values .entry)))) rows ⌝ }
 {
     let mut d: [i64; 64] = [0; 64];
     deviations::deviations(n, values, &mut d[..n]);

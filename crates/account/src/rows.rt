@@ -67,7 +67,8 @@ pub fn work_rows(
     rows: usize,
     locals: &mut [i64],
 ) -> Worked
-    ensures { λ r. ⌜ Packed n (now (values .entry)) (now (weights .entry)) (now (classes .entry)) rows (now (locals .entry)) (now (locals .exit)) r ⌝ }
+    ensures { λ r. ⌜ Packed n
+        (now (values .entry)) (now (weights .entry)) (now (classes .entry)) rows (now (locals .entry)) (now (locals .exit)) r ⌝ }
 {
     let mut sums: [i64; 27] = [0; 27];
     let refusal = judging::judge_classes(n, values, weights, classes, 9, rows, locals.len());

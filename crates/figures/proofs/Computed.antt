@@ -15,5 +15,7 @@ use Rattle.report.specs.Coefficients.{coefficient, pair-of, job-pair, class-pai
 use Rattle.figures.specs.Figures.{right, all-right, published}
 
 pub figures-right : T (all-right published)
-unfolding right all-right published sum count first place-of ordered table pair-at nearest-float round toBits total-of deviation-of spread-of row-of pairs-of weight-of cross-of squares-of local-of class-row job-locals class-weight class-row-of hotter hot-list shuffle-count values-cross shuffle-cross compared job-rank coefficient pair-of job-pair class-pair
+unfolding right all-right published sum count first place-of ordered table pair-at nearest-float round toBits
+    total-of deviation-of spread-of row-of pairs-of weight-of cross-of squares-of local-of class-row job-locals class-weight class-row-of
+    hotter hot-list shuffle-count values-cross shuffle-cross compared job-rank coefficient pair-of job-pair class-pair
 figures-right = tt

@@ -19,7 +19,8 @@ use Rattle.account.specs.Classes.{row-at, class-sums, class-locals, class-rules
 use Rattle.account.specs.Refusals.{job-rules, job-lengths, call-rules}
 use Rattle.account.proofs.ClassTheorems.{class-sums-row}
 use Rattle.report.specs.Coefficients.{pair-of, job-pair, class-pair, local-figures}
-use Rattle.report.specs.FloatReport.{number-of, pair-in, report-refusal, no-pair, report-whole, report-classes, report-figures, report-parts}
+use Rattle.report.specs.FloatReport.{number-of, pair-in, report-refusal, no-pair}
+use Rattle.report.specs.FloatReport.{report-whole, report-classes, report-figures, report-parts}
 use Rattle.report.specs.declared.Answer.the-variants.{Refused, Reported}
 use Rattle.report.specs.declared.Report.{Report}
 
@@ -81,7 +82,9 @@ pairs-are n values weights classes rows e =
 -- ---- the numbers on the way
 module _ (n : ℕ) (values : List ℤ) (weights classes : List ℕ) where
   -- where a further list does not fit, the job's own lists and it do not
-  too : (lent : List (ℕ × ℕ)) → misfits lent ≡ true → misfits ((length values, n) ∷ (length weights, n * n) ∷ (length classes, n * n) ∷ lent) ≡ true
+  too :
+      (lent : List (ℕ × ℕ)) → misfits lent ≡ true →
+      misfits ((length values, n) ∷ (length weights, n * n) ∷ (length classes, n * n) ∷ lent) ≡ true
   too lent g =
       let last = beside (not (eqb (length classes) (n * n))) _ g in
       beside (not (eqb (length values) n)) _ (beside (not (eqb (length weights) (n * n))) _ last)

@@ -30,7 +30,8 @@ use Rattle.account.proofs.ClassTheorems as classes-promise
 use Rattle.account.proofs.Theorems as account-promise
 use Rattle.account.specs.declared.Sums as declared
 use Rattle.report.specs.Coefficients.{coefficient, pair-of, job-pair, class-pair, local-figures}
-use Rattle.report.specs.FloatReport.{number-of, pair-in, report-refusal, no-pair, report-whole, report-classes, report-figures, report-parts}
+use Rattle.report.specs.FloatReport.{number-of, pair-in, report-refusal, no-pair}
+use Rattle.report.specs.FloatReport.{report-whole, report-classes, report-figures, report-parts}
 use Rattle.report.specs.Demand3.{Lent, HandedOut, AcceptedJob, Contracts, Shows, HasPair, LocalFigure, Demand3}
 use Rattle.report.specs.Steps.{Ratio, Formable}
 use Rattle.report.specs.declared.Answer.{Answer}
@@ -114,8 +115,10 @@ module _ (n : ℕ) (values : List ℤ) (weights classes : List ℕ) (before : Le
   class-none : class-refusal 27 n values weights classes (length (before .rows)) (length (before .class-locals)) ≡ 0
   unfolding class-refusal
   class-none =
+      let rows-fit = eq-eqb (length (before .rows)) 27 (a .rows-length) in
+      let locals-fit = eq-eqb (length (before .class-locals)) (9 * n) (a .class-locals-length) in
       classes-promise.class-taken n values weights classes (before .locals) _ (a .account-accepts) (a .classes-length) (a .classes-to-8)
-      (rw (eq-eqb (length (before .rows)) 27 (a .rows-length), eq-eqb (length (before .class-locals)) (9 * n) (a .class-locals-length)) refl)
+      (rw (rows-fit, locals-fit) refl)
 
   report-none : report-refusal n values weights classes (before .figures) (before .parts) ≡ 0
   unfolding report-refusal
@@ -197,9 +200,11 @@ module _ (n : ℕ) (values : List ℤ) (weights classes : List ℕ) (before : Le
         ap (λ (l : List ℤ). at l (k * n + i)) class-locals-hold ∙ classes-promise.class-locals-at n values weights classes k i h p
 
     -- what is formed of them
-    whole-pair : HasPair n spread (record { weight = sums .weight; cross = sums .cross; squares = sums .squares }) (job-pair n values weights)
+    whole-pair :
+        HasPair n spread (record { weight = sums .weight; cross = sums .cross; squares = sums .squares }) (job-pair n values weights)
     unfolding job-pair account.class-row
-    whole-pair = has-pair n spread (account.class-row (pair-at weights n) (at values) n) (job.job-formable n values weights classes lent taken)
+    whole-pair =
+        has-pair n spread (account.class-row (pair-at weights n) (at values) n) (job.job-formable n values weights classes lent taken)
 
     class-has : (k : ℕ) → HasPair n spread (class-row-of n values weights classes k) (class-pair n values weights classes k)
     unfolding class-pair
@@ -216,7 +221,8 @@ module _ (n : ℕ) (values : List ℤ) (weights classes : List ℕ) (before : Le
         let place : i < length numerators = omega (arith, account-promise.job-locals-length n values weights) in
         rw (locals-hold, figures-hold) (local-figure spread numerators i place (job.local-ratio n values weights classes lent taken i h))
 
-    class-holds-figure : (k i : ℕ) → k < 9 → i < n → LocalFigure (at (out .after .class-locals) (k * n + i)) spread (out .after .parts) (k * n + i)
+    class-holds-figure :
+        (k i : ℕ) → k < 9 → i < n → LocalFigure (at (out .after .class-locals) (k * n + i)) spread (out .after .parts) (k * n + i)
     class-holds-figure k i h p =
         let numerators = class-locals n values weights classes in
         let within : k * n + i < 9 * n = omega (arith, N.mul-le-mul-right n h) in

@@ -14,7 +14,8 @@ use Rattle.account.specs.Answers.{five, class-row, job-figures, job-locals}
 use Rattle.account.specs.Classes.{class-weight, class-row-of, class-local-of, class-sums, class-locals, class-rules}
 use Rattle.account.specs.Refusals.{account-refusal}
 use Rattle.account.proofs.Theorems.{accepted-limits, spread-one, weight-above, job-locals-length, job-locals-at}
-use Rattle.account.proofs.ClassTheorems.{account-taken, zones-in-range, class-limits, class-sums-length, class-sums-row, class-locals-length}
+use Rattle.account.proofs.ClassTheorems.{account-taken, zones-in-range, class-limits}
+use Rattle.account.proofs.ClassTheorems.{class-sums-length, class-sums-row, class-locals-length}
 use Rattle.account.specs.declared.ClassRow.{ClassRow}
 use Rattle.account.specs.declared.Sums as declared
 use Rattle.report.specs.Steps.{Ratio, Formable, FormableRows, Numerators, Reportable}

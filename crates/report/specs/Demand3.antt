@@ -17,7 +17,8 @@ use Rattle.account.specs.declared.Answer as account-answer
 use Rattle.account.specs.declared.Answer.the-variants.{Accounted}
 use Rattle.account.specs.declared.ClassRow.{ClassRow}
 use Rattle.account.specs.declared.Sums.{Sums}
-use Rattle.report.specs.FloatReport.{number-of, pair-in, report-refusal, no-pair, report-whole, report-classes, report-figures, report-parts}
+use Rattle.report.specs.FloatReport.{number-of, pair-in, report-refusal, no-pair}
+use Rattle.report.specs.FloatReport.{report-whole, report-classes, report-figures, report-parts}
 use Rattle.report.specs.declared.Answer.the-variants.{Reported}
 use Rattle.report.specs.declared.Coefficient.{Coefficient}
 use Rattle.report.specs.declared.Coefficient.the-variants.{Figure, Weightless}

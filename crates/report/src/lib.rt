@@ -3,7 +3,8 @@ mod forming;
 mod working;
 
 ghost use mathlib.Core.Path.{_≡_};
-ghost use Rattle.report.specs.FloatReport.{number-of, pair-in, report-refusal, report-whole, report-classes, report-figures, report-parts};
+ghost use Rattle.report.specs.FloatReport.{number-of, pair-in, report-refusal};
+ghost use Rattle.report.specs.FloatReport.{report-whole, report-classes, report-figures, report-parts};
 
 // A coefficient: the nearest float to its exact ratio. A class without weight has none, and says so.
 pub enum Coefficient {
@@ -39,11 +40,16 @@ pub fn float_report(
     figures: &mut [f64],
     parts: &mut [f64],
 ) -> Report
-    ensures number { λ r. ⌜ number-of (r .whole) ≡ report-refusal n (now (values .entry)) (now (weights .entry)) (now (classes .entry)) (now (figures .entry)) (now (parts .entry)) ⌝ }
-    ensures whole { λ r. ⌜ pair-in (r .whole) ≡ report-whole n (now (values .entry)) (now (weights .entry)) (now (classes .entry)) (now (figures .entry)) (now (parts .entry)) ⌝ }
-    ensures pairs { λ r. ⌜ r .classes ≡ report-classes n (now (values .entry)) (now (weights .entry)) (now (classes .entry)) (now (figures .entry)) (now (parts .entry)) ⌝ }
-    ensures figures { λ _. ⌜ now (figures .exit) ≡ report-figures n (now (values .entry)) (now (weights .entry)) (now (classes .entry)) (now (figures .entry)) (now (parts .entry)) ⌝ }
-    ensures parts { λ _. ⌜ now (parts .exit) ≡ report-parts n (now (values .entry)) (now (weights .entry)) (now (classes .entry)) (now (figures .entry)) (now (parts .entry)) ⌝ }
+    ensures number { λ r. ⌜ number-of (r .whole) ≡ report-refusal n
+        (now (values .entry)) (now (weights .entry)) (now (classes .entry)) (now (figures .entry)) (now (parts .entry)) ⌝ }
+    ensures whole { λ r. ⌜ pair-in (r .whole) ≡ report-whole n
+        (now (values .entry)) (now (weights .entry)) (now (classes .entry)) (now (figures .entry)) (now (parts .entry)) ⌝ }
+    ensures pairs { λ r. ⌜ r .classes ≡ report-classes n
+        (now (values .entry)) (now (weights .entry)) (now (classes .entry)) (now (figures .entry)) (now (parts .entry)) ⌝ }
+    ensures figures { λ _. ⌜ now (figures .exit) ≡ report-figures n
+        (now (values .entry)) (now (weights .entry)) (now (classes .entry)) (now (figures .entry)) (now (parts .entry)) ⌝ }
+    ensures parts { λ _. ⌜ now (parts .exit) ≡ report-parts n
+        (now (values .entry)) (now (weights .entry)) (now (classes .entry)) (now (figures .entry)) (now (parts .entry)) ⌝ }
 {
     let lent = working::judge_lent(n, figures.len(), parts.len());
     if lent != 0 {

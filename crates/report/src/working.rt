@@ -86,8 +86,12 @@ pub fn report_job(
     requires { ⌜ Reportable n (now values) (now weights) (now rows) (now numerators) ⌝ }
     requires { ⌜ length (now figures) ≡ n ⌝ }
     requires { ⌜ length (now parts) ≡ length (now numerators) ⌝ }
-    ensures { λ r. ⌜ r ≡ record { whole = Reported (job-pair n (now (values .entry)) (now (weights .entry))); classes = table (λ k. pair-of n (spread-of (at (now (values .entry))) n) (row-at (now (rows .entry)) k)) 9 } ⌝ }
-    ensures { λ _. ⌜ now (figures .exit) ≡ local-figures (spread-of (at (now (values .entry))) n) (job-locals n (now (values .entry)) (now (weights .entry))) ⌝ }
+    ensures { λ r. ⌜ r ≡ record {
+      whole = Reported (job-pair n (now (values .entry)) (now (weights .entry)));
+      classes = table (λ k. pair-of n (spread-of (at (now (values .entry))) n) (row-at (now (rows .entry)) k)) 9;
+    } ⌝ }
+    ensures { λ _. ⌜ now (figures .exit)
+        ≡ local-figures (spread-of (at (now (values .entry))) n) (job-locals n (now (values .entry)) (now (weights .entry))) ⌝ }
     ensures { λ _. ⌜ now (parts .exit) ≡ local-figures (spread-of (at (now (values .entry))) n) (now (numerators .entry)) ⌝ }
 {
     let mut own: [i64; 64] = [0; 64];

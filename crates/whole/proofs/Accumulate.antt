@@ -22,7 +22,9 @@ acc-none w f = ap (ofZ w) (sym (sum-zero f))
 module _ {w : Width} {f : ℕ → ℤ} {n b : ℕ} (s : Bounded w f n b) where
   -- a turn: what stands, and y, which is f i
   pub acc-more : (i acc : ℕ) {y : ℤ} {b′ : ℕ} → i + 1 ≤ n → acc ≡ ofZ w (sum f i) → Is y (f i) b′ → Is (toZ w acc +ℤ y) (sum f (i + 1)) b
-  acc-more i acc h e j = to b (is-+ (held w acc (sum f i) b e (s .bound i (omega arith)) (s .small)) j) (sym (sum-more f i)) (s .bound (i + 1) h)
+  acc-more i acc h e j =
+      let stands = held w acc (sum f i) b e (s .bound i (omega arith)) (s .small) in
+      to b (is-+ stands j) (sym (sum-more f i)) (s .bound (i + 1) h)
 
   -- after the last turn
   pub acc-done : (i acc : ℕ) → i ≡ n → acc ≡ ofZ w (sum f i) → toZ w acc ≡ sum f n

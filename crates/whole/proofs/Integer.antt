@@ -5,7 +5,8 @@ use mathlib.Core.Path.{_≡_, sym, ap, _∙_}
 use Prim.Native.Nat.{ℕ, zero, suc, _+_, _*_}
 use native.Mathlib.Nat as N
 use native.Mathlib.Omega.{arith}
-use lib.IntN.{ℤ, pos, negsuc, negℤ, _+ℤ_, _-ℤ_, _*ℤ_, +ℤ-sucℤ, +ℤ-predℤ, -ℤ-one, +ℤ-idl, +ℤ-idr, +ℤ-assoc, +ℤ-comm, +ℤ-invr, +ℤ-invl, negℤ-+ℤ, negℤ-negℤ, zero-*ℤ, *ℤ-comm, sucℤ-*ℤ, predℤ-*ℤ}
+use lib.IntN.{ℤ, pos, negsuc, negℤ, _+ℤ_, _-ℤ_, _*ℤ_, +ℤ-sucℤ, +ℤ-predℤ, -ℤ-one, +ℤ-idl, +ℤ-idr, +ℤ-assoc, +ℤ-comm, +ℤ-invr, +ℤ-invl}
+use lib.IntN.{negℤ-+ℤ, negℤ-negℤ, zero-*ℤ, *ℤ-comm, sucℤ-*ℤ, predℤ-*ℤ}
 
 -- ---- sums of three and four
 +-left-comm : (a b c : ℤ) → a +ℤ (b +ℤ c) ≡ b +ℤ (a +ℤ c)
@@ -24,7 +25,9 @@ pub +-swap : (a b c d : ℤ) → (a +ℤ b) +ℤ (c +ℤ d) ≡ (a +ℤ c) +ℤ 
     ∙ +ℤ-assoc (m *ℤ k) (pos n *ℤ k) k
     ∙ ap (λ x. m *ℤ k +ℤ x) (sym (sucℤ-*ℤ (pos n) k))
 *-dist-r m (negsuc zero) k =
-    ap (λ x. x *ℤ k) (-ℤ-one m) ∙ predℤ-*ℤ m k ∙ ap (λ x. m *ℤ k +ℤ x) (sym (predℤ-*ℤ (pos zero) k ∙ ap (λ x. x -ℤ k) (zero-*ℤ k) ∙ +ℤ-idl (negℤ k)))
+    ap (λ x. x *ℤ k) (-ℤ-one m)
+    ∙ predℤ-*ℤ m k
+    ∙ ap (λ x. m *ℤ k +ℤ x) (sym (predℤ-*ℤ (pos zero) k ∙ ap (λ x. x -ℤ k) (zero-*ℤ k) ∙ +ℤ-idl (negℤ k)))
 *-dist-r m (negsuc (suc n)) k =
     ap (λ x. x *ℤ k) (+ℤ-predℤ m (negsuc n))
     ∙ predℤ-*ℤ (m +ℤ negsuc n) k
@@ -79,9 +82,11 @@ diff-neg a b = negℤ-+ℤ (pos a) (negℤ (pos b)) ∙ ap (λ x. negℤ (pos a)
 pub diff-* : (a b c d : ℕ) → diff a b *ℤ diff c d ≡ diff (a * c + b * d) (a * d + b * c)
 unfolding diff
 diff-* a b c d =
+    let of-a = *-dist-l (pos a) (pos c) (negℤ (pos d)) ∙ ap (λ x. pos (a * c) +ℤ x) (*-neg (pos a) (pos d)) in
+    let of-b = *-dist-l (pos b) (pos c) (negℤ (pos d)) ∙ ap (λ x. pos (b * c) +ℤ x) (*-neg (pos b) (pos d)) in
     *-dist-r (pos a) (negℤ (pos b)) (pos c -ℤ pos d)
-    ∙ ap (λ x. x +ℤ negℤ (pos b) *ℤ (pos c -ℤ pos d)) (*-dist-l (pos a) (pos c) (negℤ (pos d)) ∙ ap (λ x. pos (a * c) +ℤ x) (*-neg (pos a) (pos d)))
-    ∙ ap (λ x. (pos (a * c) -ℤ pos (a * d)) +ℤ x) (neg-* (pos b) (pos c -ℤ pos d) ∙ ap negℤ (*-dist-l (pos b) (pos c) (negℤ (pos d)) ∙ ap (λ x. pos (b * c) +ℤ x) (*-neg (pos b) (pos d))) ∙ diff-neg (b * c) (b * d))
+    ∙ ap (λ x. x +ℤ negℤ (pos b) *ℤ (pos c -ℤ pos d)) of-a
+    ∙ ap (λ x. (pos (a * c) -ℤ pos (a * d)) +ℤ x) (neg-* (pos b) (pos c -ℤ pos d) ∙ ap negℤ of-b ∙ diff-neg (b * c) (b * d))
     ∙ diff-+ (a * c) (a * d) (b * d) (b * c)
 
 diff-shift : (a b k : ℕ) → diff (a + k) (b + k) ≡ diff a b

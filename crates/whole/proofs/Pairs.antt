@@ -38,8 +38,12 @@ module _ (f : ℕ → ℤ) where
   -- the sum of a (f k)² + b f k + c
   quadratic : (a b c : ℤ) (n : ℕ) → sum (λ k. (a *ℤ square (f k) +ℤ b *ℤ f k) +ℤ c) n ≡ (a *ℤ squares n +ℤ b *ℤ sum f n) +ℤ pos n *ℤ c
   quadratic a b c n =
+      let without-c =
+      sum-+ (λ k. a *ℤ square (f k)) (λ k. b *ℤ f k) n
+      ∙ ap (λ z. z +ℤ sum (λ k. b *ℤ f k) n) (sum-scale a (λ k. square (f k)) n)
+      ∙ ap (λ z. a *ℤ squares n +ℤ z) (sum-scale b f n) in
       sum-+ (λ k. a *ℤ square (f k) +ℤ b *ℤ f k) (λ k. c) n
-      ∙ ap (λ z. z +ℤ sum (λ k. c) n) (sum-+ (λ k. a *ℤ square (f k)) (λ k. b *ℤ f k) n ∙ ap (λ z. z +ℤ sum (λ k. b *ℤ f k) n) (sum-scale a (λ k. square (f k)) n) ∙ ap (λ z. a *ℤ squares n +ℤ z) (sum-scale b f n))
+      ∙ ap (λ z. z +ℤ sum (λ k. c) n) without-c
       ∙ ap (λ z. (a *ℤ squares n +ℤ b *ℤ sum f n) +ℤ z) (sum-const c n)
 
   one-times : (z : ℤ) → pos 1 *ℤ z ≡ z
@@ -56,7 +60,8 @@ module _ (f : ℕ → ℤ) where
   unfolding sum
   pairs-sum zero = refl
   pairs-sum (suc n) =
-      ap (λ z. z +ℤ sum (λ i. square (f i -ℤ f n)) n) (pairs-sum n) ∙ ap (λ z. (pos n *ℤ squares n -ℤ square (sum f n)) +ℤ z) (to-one (f n) n)
+      ap (λ z. z +ℤ sum (λ i. square (f i -ℤ f n)) n) (pairs-sum n)
+      ∙ ap (λ z. (pos n *ℤ squares n -ℤ square (sum f n)) +ℤ z) (to-one (f n) n)
       ∙ one-more n (squares n) (sum f n) (f n)
 
   pub deviations-squared : (n : ℕ) → sum (λ k. square (pos n *ℤ f k -ℤ sum f n)) n ≡ pos n *ℤ sum (λ j. sum (λ i. square (f i -ℤ f j)) j) n

@@ -42,7 +42,8 @@ module _ (rest : List Rule) where
   first-none k ((false, m) ∷ rules) g e = first-none m rules (g .1) e
 
   -- and where none of either is, none of both
-  pub both-hold : (k : ℕ) (rules : List Rule) → Rising k rules → first-broken rules ≡ 0 → first-broken rest ≡ 0 → first-broken (rules ++ rest) ≡ 0
+  pub both-hold :
+      (k : ℕ) (rules : List Rule) → Rising k rules → first-broken rules ≡ 0 → first-broken rest ≡ 0 → first-broken (rules ++ rest) ≡ 0
   both-hold k rules g e f = sym (first-next k rules g e) ∙ f
 
 -- ---- the least number that applies
@@ -83,7 +84,8 @@ pub in-range : (lowest highest n : ℕ) → outside lowest highest n ≡ false �
 in-range lowest highest n e = let f = neither (ltb n lowest) (ltb highest n) e in (ltb-false n lowest (f .0), ltb-false highest n (f .1))
 
 -- the first of some lengths is as it must be, and so are the others
-pub fits : (found wanted : ℕ) (others : List (ℕ × ℕ)) → misfits ((found, wanted) ∷ others) ≡ false → (found ≡ wanted) × (misfits others ≡ false)
+pub fits :
+    (found wanted : ℕ) (others : List (ℕ × ℕ)) → misfits ((found, wanted) ∷ others) ≡ false → (found ≡ wanted) × (misfits others ≡ false)
 fits found wanted others e =
     let f = neither (not (eqb found wanted)) (misfits others) e in
     (eqb-true found wanted (not-false (eqb found wanted) (f .0)), f .1)

@@ -66,14 +66,17 @@ some-cong a b zero h = refl
 some-cong a b (suc n) h = rw (some-cong a b n (λ k p. h k (omega arith)), h n (omega arith)) refl
 
 -- ---- where no number of a list is beyond the limit, and where none is above it
-pub none-beyond : (limit : ℕ) (numbers : List ℤ) → any-beyond limit numbers ≡ false → (k : ℕ) → k < length numbers → natAbs (at numbers k) ≤ limit
+pub none-beyond :
+    (limit : ℕ) (numbers : List ℤ) → any-beyond limit numbers ≡ false → (k : ℕ) → k < length numbers → natAbs (at numbers k) ≤ limit
 unfolding any-beyond
-none-beyond limit numbers e k h = ltb-false limit (natAbs (at numbers k)) (some-none (λ k. ltb limit (natAbs (at numbers k))) (length numbers) k e h)
+none-beyond limit numbers e k h =
+    ltb-false limit (natAbs (at numbers k)) (some-none (λ k. ltb limit (natAbs (at numbers k))) (length numbers) k e h)
 
 pub none-above : (limit : ℕ) (numbers : List ℕ) → any-above limit numbers ≡ false → (k : ℕ) → k < length numbers → getD numbers k 0 ≤ limit
 unfolding any-above
 none-above limit numbers e k h = ltb-false limit (getD numbers k 0) (some-none (λ k. ltb limit (getD numbers k 0)) (length numbers) k e h)
 
-pub all-within : (limit : ℕ) (numbers : List ℕ) → ((k : ℕ) → k < length numbers → getD numbers k 0 ≤ limit) → any-above limit numbers ≡ false
+pub all-within :
+    (limit : ℕ) (numbers : List ℕ) → ((k : ℕ) → k < length numbers → getD numbers k 0 ≤ limit) → any-above limit numbers ≡ false
 unfolding any-above
 all-within limit numbers h = none-some (λ k. ltb limit (getD numbers k 0)) (length numbers) (λ k p. le-ltb limit (getD numbers k 0) (h k p))

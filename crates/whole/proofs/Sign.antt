@@ -50,7 +50,8 @@ not-below z f t = go z f (ap (λ (y : ℤ). ltZ y (pos 0)) (sym (toZ-ofZ w64 z f
   where
     go : (z : ℤ) → SFits w64 z → ltZ z (pos 0) ≡ false → T (nonNeg (r64 z)) × Fits w64 (natAbs (r64 z))
     go (pos a) f t =
-        subst (λ (y : ℤ). T (nonNeg y) × Fits w64 (natAbs y)) (sym (toZ-ofZ w64 (pos a) f)) (tt, record { fits = omega (arith, double a (f .sfits)) })
+        subst (λ (y : ℤ). T (nonNeg y) × Fits w64 (natAbs y)) (sym (toZ-ofZ w64 (pos a) f))
+        (tt, record { fits = omega (arith, double a (f .sfits)) })
     go (negsuc a) f t = absurd (true≢false t)
 
 -- where z is below 0: 0 − (z + 1) fits and is not below 0, and 1 more is z's size

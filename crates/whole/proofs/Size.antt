@@ -30,7 +30,10 @@ parts-size (negsuc n) = omega arith
 
 pub size-+ : (a b : ℤ) → natAbs (a +ℤ b) ≤ natAbs a + natAbs b
 size-+ a b =
-    let e : a +ℤ b ≡ diff (plus-part a + plus-part b) (minus-part a + minus-part b) = ap (λ x. x +ℤ b) (diff-of a) ∙ ap (λ x. diff (plus-part a) (minus-part a) +ℤ x) (diff-of b) ∙ diff-+ (plus-part a) (minus-part a) (plus-part b) (minus-part b) in
+    let e : a +ℤ b ≡ diff (plus-part a + plus-part b) (minus-part a + minus-part b) =
+    ap (λ x. x +ℤ b) (diff-of a)
+    ∙ ap (λ x. diff (plus-part a) (minus-part a) +ℤ x) (diff-of b)
+    ∙ diff-+ (plus-part a) (minus-part a) (plus-part b) (minus-part b) in
     omega (arith, ap natAbs e, size-of-diff (plus-part a + plus-part b) (minus-part a + minus-part b), parts-size a, parts-size b)
 
 pub size-neg : (a : ℤ) → natAbs (negℤ a) ≡ natAbs a

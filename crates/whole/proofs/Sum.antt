@@ -65,7 +65,9 @@ unfolding sum
 sum-pick c zero z h = let x : ⊥ = omega arith in absurd x
 sum-pick c (suc n) z h = pick (ℕ-discrete c n) (λ (p : c < n). sum-pick c n z p)
   where
-    pick : Dec (c ≡ n) → (c < n → sum (λ k. cond (eqb c k) z (pos 0)) n ≡ z) → sum (λ k. cond (eqb c k) z (pos 0)) n +ℤ cond (eqb c n) z (pos 0) ≡ z
+    pick :
+        Dec (c ≡ n) → (c < n → sum (λ k. cond (eqb c k) z (pos 0)) n ≡ z) →
+        sum (λ k. cond (eqb c k) z (pos 0)) n +ℤ cond (eqb c n) z (pos 0) ≡ z
     pick (yes e) g = rw (sum-miss c n z (omega arith), eq-eqb c n e) (+ℤ-idl z)
     pick (no e) g = rw (g (omega arith), ne-eqb c n e) (+ℤ-idr z)
 

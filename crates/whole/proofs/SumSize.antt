@@ -39,7 +39,8 @@ sum-above f (suc n) h = +-above (sum f n) (f n) (sum-above f n (λ k p. h k (ome
 pub terms-zero : (f : ℕ → ℤ) (n : ℕ) → ((k : ℕ) → k < n → f k ≡ pos (natAbs (f k))) → sum f n ≡ pos 0 → (k : ℕ) → k < n → f k ≡ pos 0
 unfolding sum
 terms-zero f zero h e k p = let x : ⊥ = omega arith in absurd x
-terms-zero f (suc n) h e k p = pick (ℕ-discrete k n) (λ (q : k < n). terms-zero f n (λ k r. h k (omega arith)) (zero-of-size (sum f n) (both .0)) k q)
+terms-zero f (suc n) h e k p =
+    pick (ℕ-discrete k n) (λ (q : k < n). terms-zero f n (λ k r. h k (omega arith)) (zero-of-size (sum f n) (both .0)) k q)
   where
     joined : (a b : ℤ) → a ≡ pos (natAbs a) → b ≡ pos (natAbs b) → a +ℤ b ≡ pos (natAbs a + natAbs b)
     joined a b p q = ap (λ x. x +ℤ b) p ∙ ap (λ x. pos (natAbs a) +ℤ x) q

@@ -22,7 +22,8 @@ module _ {A : Type 0} where
 
   -- a list of that length and with those elements is the table
   pub is-table : (f : ℕ → A) (n : ℕ) (d : A) (l : List A) → length l ≡ n → ((k : ℕ) → k < n → getD l k d ≡ f k) → l ≡ table f n
-  is-table f n d l e h = ext-getD d l (table f n) (e ∙ sym (table-length f n)) (λ k p. h k (omega arith) ∙ sym (table-at f n k d (omega arith)))
+  is-table f n d l e h =
+      ext-getD d l (table f n) (e ∙ sym (table-length f n)) (λ k p. h k (omega arith) ∙ sym (table-at f n k d (omega arith)))
 
   pub table-cong : (f g : ℕ → A) (n : ℕ) (d : A) → ((k : ℕ) → k < n → f k ≡ g k) → table f n ≡ table g n
   table-cong f g n d h = is-table g n d (table f n) (table-length f n) (λ k p. table-at f n k d p ∙ h k p)

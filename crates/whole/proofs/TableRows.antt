@@ -27,7 +27,9 @@ module _ {A : Type 0} (f : ℕ → ℕ → A) where
       before : (k m : ℕ) → k < suc m → (k ≡ m → ⊥) → k + 1 ≤ m
       before k m h q = omega arith
 
-      pick : Dec (k ≡ m) → (k < m → getD (table-rows f m n) (k * n + i) d ≡ f k i) → getD (table-rows f m n ++ table (f m) n) (k * n + i) d ≡ f k i
+      pick :
+          Dec (k ≡ m) → (k < m → getD (table-rows f m n) (k * n + i) d ≡ f k i) →
+          getD (table-rows f m n ++ table (f m) n) (k * n + i) d ≡ f k i
       pick (yes q) g =
           rw q
           (ap (λ t. getD (table-rows f m n ++ table (f m) n) (t + i) d) (sym (rows-length m n))
@@ -39,7 +41,9 @@ module _ {A : Type 0} (f : ℕ → ℕ → A) where
           ∙ g (omega arith)
 
   -- what holds of every entry holds of every place
-  pub rows-each : (P : A → Type 0) (m n : ℕ) (d : A) → ((k i : ℕ) → k < m → i < n → P (f k i)) → (t : ℕ) → t < m * n → P (getD (table-rows f m n) t d)
+  pub rows-each :
+      (P : A → Type 0) (m n : ℕ) (d : A) → ((k i : ℕ) → k < m → i < n → P (f k i)) → (t : ℕ) → t < m * n →
+      P (getD (table-rows f m n) t d)
   unfolding table-rows
   rows-each P zero n d h t p = let z : ⊥ = omega arith in absurd z
   rows-each P (suc m) n d h t p = pick (decLt t (m * n)) (λ (q : t < m * n). rows-each P m n d (λ k i r s. h k i (omega arith) s) t q)
@@ -52,7 +56,8 @@ module _ {A : Type 0} (f : ℕ → ℕ → A) where
           let i = t - m * n in
           let r : i < n = omega arith in
           let e : m * n + i ≡ t = omega arith in
-          subst (λ v. P (getD (table-rows f m n ++ table (f m) n) v d)) e (subst P (sym (rows-at (suc m) n m i d (omega arith) r)) (h m i (omega arith) r))
+          subst (λ v. P (getD (table-rows f m n ++ table (f m) n) v d)) e
+          (subst P (sym (rows-at (suc m) n m i d (omega arith) r)) (h m i (omega arith) r))
 
   -- ---- the first rows are written
   pub rows-none : (n : ℕ) (l : List A) → take (0 * n) l ≡ table-rows f 0 n
@@ -64,7 +69,9 @@ module _ {A : Type 0} (f : ℕ → ℕ → A) where
   rows-more n m = ap (λ t. table-rows f t n) (add-one m)
 
   -- one more row: the part from k n to k n + n has come back with it
-  module _ (n k : ℕ) (l part : List A) (room : k * n + n ≤ length l) (so-far : take (k * n) l ≡ table-rows f k n) (row : part ≡ table (f k) n) where
+  module _
+      (n k : ℕ) (l part : List A) (room : k * n + n ≤ length l)
+      (so-far : take (k * n) l ≡ table-rows f k n) (row : part ≡ table (f k) n) where
     part-length : length part ≡ n
     part-length = ap length row ∙ table-length (f k) n
 

@@ -1,1 +1,2 @@
-// Whole numbers: what the other crates' contracts and proofs say of sums, tables, searches and rules. Definitions are in specs/, laws in proofs/. No code.
+// Whole numbers: what the other crates' contracts and proofs say of sums, tables, searches and rules. Definitions are in specs/, laws in
+// proofs/. No code.

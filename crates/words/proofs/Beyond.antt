@@ -12,7 +12,13 @@ byte-beyond bytes at h = List·getD-eq-default bytes 0 h
 pub word-beyond : (bytes : List ℕ) (at : ℕ) → length bytes ≤ at → word-at bytes at ≡ 0
 unfolding word-at
 word-beyond bytes at h =
-    omega (arith, byte-beyond bytes at h, byte-beyond bytes (at + 1) (omega arith), byte-beyond bytes (at + 2) (omega arith), byte-beyond bytes (at + 3) (omega arith))
+    omega (
+      arith,
+      byte-beyond bytes at h,
+      byte-beyond bytes (at + 1) (omega arith),
+      byte-beyond bytes (at + 2) (omega arith),
+      byte-beyond bytes (at + 3) (omega arith),
+    )
 
 pub long-beyond : (bytes : List ℕ) (at : ℕ) → length bytes ≤ at → long-at bytes at ≡ 0
 unfolding long-at

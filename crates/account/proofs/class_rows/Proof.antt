@@ -113,9 +113,11 @@ module _ {M : Type 1} (𝓤 : URA M) (H : Heap 𝓤) (A : Atoms 𝓤) (mem : Mem
   abbrev Put : Contract 𝓤
   Put = tripleOf 𝓤 H A put.signature (put.spec 𝓤 H A mem run)
 
--- the arguments: n, the values v, the weights w, the classes c, the rows y and the locals m, with the lifetimes and tokens of the five lists
+-- the arguments: n, the values v, the weights w, the classes c, the rows y and the locals m, with the lifetimes and tokens of the five
+-- lists
 module _ {M : Type 1} (𝓤 : URA M) (H : Heap 𝓤) (A : Atoms 𝓤) (W : Given 𝓤 H A) (mem : Memory → SProp 𝓤) (run : Routine → Fun 𝓤)
-    (κ₀ κ₁ κ₂ κ₃ κ₄ : Lft) (q₀ q₁ q₂ q₃ q₄ : Share) (n : ℕ) (v : RefT (List ℤ)) (w c : RefT (List ℕ)) (y : RefT (List ClassRow)) (m : RefT (List ℤ)) where
+    (κ₀ κ₁ κ₂ κ₃ κ₄ : Lft) (q₀ q₁ q₂ q₃ q₄ : Share)
+    (n : ℕ) (v : RefT (List ℤ)) (w c : RefT (List ℕ)) (y : RefT (List ClassRow)) (m : RefT (List ℤ)) where
   abbrev κs : Lfts 5
   κs = (κ₀, (κ₁, (κ₂, (κ₃, (κ₄, tt)))))
 
@@ -251,7 +253,8 @@ module _ {M : Type 1} (𝓤 : URA M) (H : Heap 𝓤) (A : Atoms 𝓤) (W : Given
       nothing ! $ fjoin ! $ frame ! $ done !
 
   module _ (C : Calls 𝓤 H) (Λ : Loops 𝓤 H) (fm : FmC 𝓤 H (W .laws) C)
-      (known-work : Triple 𝓤 (C #account·rows·work-rows) (Work 𝓤 H A mem run)) (known-put : Triple 𝓤 (C #account·rows·put-rows) (Put 𝓤 H A mem run)) where
+      (known-work : Triple 𝓤 (C #account·rows·work-rows) (Work 𝓤 H A mem run))
+      (known-put : Triple 𝓤 (C #account·rows·put-rows) (Put 𝓤 H A mem run)) where
     walk :
         n < 2 ^ 64 → Room i32 (length (v .now)) → Room u8 (length (w .now)) → Room u8 (length (c .now)) → Room T.the-row (length (y .now)) →
         Room i64 (length (m .now)) →
@@ -302,7 +305,8 @@ module _ {M : Type 1} (𝓤 : URA M) (H : Heap 𝓤) (A : Atoms 𝓤) (W : Given
         (init ! 6 refl (tt, (tt, (record { fits = room-y .0 }, tt)))) $
         move ! (4 ∷ 5 ∷ 0 ∷ []) $
         use3 W (raw (Put 𝓤 H A mem run .pre (to-put r u)))
-        (goes-put r u (λ z. class-accepted 9 n (v .now) (w .now) (c .now) (length (y .now)) (length (m .now)) (sym (p .number) ∙ z) .rows-fit)) $
+        (goes-put r u
+        (λ z. class-accepted 9 n (v .now) (w .now) (c .now) (length (y .now)) (length (m .now)) (sym (p .number) ∙ z) .rows-fit)) $
         -- [what `put_rows` asks; the tokens; the last locals; true; _12; …]
         calls-at ! fm (Put 𝓤 H A mem run) known-put (to-put r u)
         (and-then ! (load ! (from ! (stop !)) (look ! 4 refl)) (and-then ! (load ! (from ! (stop !)) (look ! 14 refl)) (no-more !))) (λ a.

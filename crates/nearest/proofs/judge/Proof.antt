@@ -31,7 +31,10 @@ two c =
     (λ z. by-second _ _ _ (z .2 ∙ ap (ltb ratio-limit) (z .1 .ensures ∙ p)) (sym q ∙ z .0 .left))
     (c .if1 .came)
 
-three : (c : tie.Joined2) → let a = c .before .before .args in c .if2 .if3 ≡ (ltZ (a .q) (pos 1) || beyond ratio-limit (a .p) || beyond ratio-limit (a .q))
+three :
+    (c : tie.Joined2) →
+    let a = c .before .before .args in
+    c .if2 .if3 ≡ (ltZ (a .q) (pos 1) || beyond ratio-limit (a .p) || beyond ratio-limit (a .q))
 three c =
     let a = c .before .before in
     let q = ap natAbs (toZ-ofZ w64 (a .args .q) (a .fits .q)) in

@@ -75,7 +75,8 @@ returns c =
     let b = c .before in
     let a = b .before .args in
     let i = b .loop .inv .1 in
-    is-table (chosen (a .weights .now) (a .classes .now) (a .k)) (length (a .weights .now)) 0 (b .loop .own) (i .0) (λ t p. i .1 t (omega arith))
+    is-table (chosen (a .weights .now) (a .classes .now) (a .k)) (length (a .weights .now)) 0
+    (b .loop .own) (i .0) (λ t p. i .1 t (omega arith))
 
 pub choose-spec : {M : Type 1} → statement M
 choose-spec =

@@ -54,7 +54,8 @@ pair-sums-requires c κs =
     let own = front {A = ℕ} _ _ (expected b) _ (b .choose .ensures) (as-long b) in
     let n = s .args .n in
     let chosen = in-weighted (s .args .weights .now) (s .args .classes .now) (s .args .k) n (s .pre .0 .weighted) in
-    (record { valued = s .pre .0 .valued; weighted = subst (λ (l : List ℕ). Weighted l n) (sym own) chosen }, (s .pre .1 .0, s .pre .1 .1 .1))
+    let light = subst (λ (l : List ℕ). Weighted l n) (sym own) chosen in
+    (record { valued = s .pre .0 .valued; weighted = light }, (s .pre .1 .0, s .pre .1 .1 .1))
 
 same-length : tie.Need-same-length
 same-length c = search needs

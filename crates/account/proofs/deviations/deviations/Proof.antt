@@ -38,8 +38,8 @@ module _ (c : tie.After-x Inv-loop μ-loop) where
       (deviation-of (at (a .args .values .now)) (a .args .n) i) 12800000
   unfolding deviation-of total-of
   deviation =
-      is-- (rd w64 product tt)
-      (rd w64 (told _ 6400000 (c .before .before .before .total .ensures) (total-runs _ _ (a .pre .0) .bound (a .args .n) (N.le-refl (a .args .n)))) tt)
+      let bound = total-runs _ _ (a .pre .0) .bound (a .args .n) (N.le-refl (a .args .n)) in
+      is-- (rd w64 product tt) (rd w64 (told _ 6400000 (c .before .before .before .total .ensures) bound) tt)
 
 total-requires : tie.Need-total-requires Inv-loop μ-loop
 total-requires c κs = c .pre .0
@@ -82,7 +82,8 @@ loop-again c = let b = c .before .before in let a = b .before .before in (
   omega arith,
   (
     simp length-set (b .loop .inv .1 .0),
-    stored (deviation-of (at (a .args .values .now)) (a .args .n)) (pos 0) _ (b .loop .d) (b .loop .i) (omega arith) (rd w64 (deviation c) tt .same) (b .loop .inv .1 .1),
+    stored (deviation-of (at (a .args .values .now)) (a .args .n)) (pos 0) _ (b .loop .d) (b .loop .i) (omega arith)
+        (rd w64 (deviation c) tt .same) (b .loop .inv .1 .1),
   ),
 )
 

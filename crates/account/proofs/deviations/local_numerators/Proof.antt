@@ -15,7 +15,8 @@ use Rattle.account.proofs.deviations.local_numerators.Statement.{statem
 use Rattle.account.proofs.deviations.local_numerators.Tie as tie
 
 abbrev Inv-loop : tie.InvT-loop
-Inv-loop n weights d locals₀ i₀ locals i = (i ≤ n) × ((length locals ≡ n) × ((k : ℕ) → k < i → at locals k ≡ local-of (pair-at weights n) (at d) n k))
+Inv-loop n weights d locals₀ i₀ locals i =
+    (i ≤ n) × ((length locals ≡ n) × ((k : ℕ) → k < i → at locals k ≡ local-of (pair-at weights n) (at d) n k))
 
 abbrev μ-loop : tie.MeasureT-loop
 μ-loop n weights d locals₀ i₀ locals i = n - i
@@ -31,8 +32,9 @@ unfolding local-of row-of
 local c =
     let b = c .before .before .before in
     let a = b .before .before in
+    let run = neighbours-run _ _ (a .pre .0) _ (b .loop .i) (a .pre .1 .0) (omega arith) in
     is-* (rd w64 (val (at (a .args .d .now) (b .loop .i)) 12800000 (a .pre .1 .0 .size (b .loop .i) (omega arith))) tt)
-    (rd w64 (told _ 7372800000 (c .before .neighbour-sum .ensures) (neighbours-run _ _ (a .pre .0) _ (b .loop .i) (a .pre .1 .0) (omega arith) .bound (a .args .n) (N.le-refl (a .args .n)))) tt)
+    (rd w64 (told _ 7372800000 (c .before .neighbour-sum .ensures) (run .bound (a .args .n) (N.le-refl (a .args .n)))) tt)
 
 loop-holds : tie.Need-loop-holds Inv-loop μ-loop
 loop-holds c = (omega arith, (omega arith, λ k p. let z : ⊥ = omega arith in absurd z))
@@ -66,7 +68,8 @@ loop-again c = let b = c .before .before .before in let a = b .before .before .a
   omega arith,
   (
     simp length-set (b .loop .inv .1 .0),
-    stored (local-of (pair-at (a .weights .now) (a .n)) (at (a .d .now)) (a .n)) (pos 0) _ (b .loop .locals) (b .loop .i) (omega arith) (rd w64 (local c) tt .same) (b .loop .inv .1 .1),
+    stored (local-of (pair-at (a .weights .now) (a .n)) (at (a .d .now)) (a .n)) (pos 0) _ (b .loop .locals) (b .loop .i) (omega arith)
+        (rd w64 (local c) tt .same) (b .loop .inv .1 .1),
   ),
 )
 

@@ -1,4 +1,5 @@
--- `neighbour_sum` meets its contract. The loop's invariant: the accumulator's bits are those of the sum over the zones passed. Assumes nothing.
+-- `neighbour_sum` meets its contract. The loop's invariant: the accumulator's bits are those of the sum over the zones passed.
+-- Assumes nothing.
 use mathlib.Core.Path.{_≡_, ap}
 use Prim.Native.Nat.{ℕ, _+_, _*_, _-_, _≤_}
 use native.Mathlib.Omega.{arith}
@@ -75,8 +76,8 @@ cast-weight : tie.Need-cast-weight Inv-loop μ-loop
 cast-weight c =
     let b = c .before .before in
     let a = b .before in
-    fits-le w64 _ 9
-    (a .pre .0 .light (a .args .i * a .args .n + b .loop .j) (within (a .args .n) (a .args .i) (b .loop .j) (a .pre .1 .1) (omega arith))) tt
+    let inside = within (a .args .n) (a .args .i) (b .loop .j) (a .pre .1 .1) (omega arith) in
+    fits-le w64 _ 9 (a .pre .0 .light (a .args .i * a .args .n + b .loop .j) inside) tt
 
 mul-deviation : tie.Need-mul-deviation Inv-loop μ-loop
 mul-deviation c = omega arith
@@ -104,7 +105,8 @@ unfolding row-of
 returns c =
     let b = c .before in
     let a = b .before in
-    acc-done (neighbours-run _ _ (a .pre .0) _ (a .args .i) (a .pre .1 .0) (a .pre .1 .1)) (b .loop .j) (b .loop .acc) (omega arith) (b .loop .inv .1)
+    acc-done (neighbours-run _ _ (a .pre .0) _ (a .args .i) (a .pre .1 .0) (a .pre .1 .1))
+    (b .loop .j) (b .loop .acc) (omega arith) (b .loop .inv .1)
 
 pub neighbour-sum-spec : {M : Type 1} → statement M
 neighbour-sum-spec =

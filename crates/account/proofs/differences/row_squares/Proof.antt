@@ -1,4 +1,5 @@
--- `row_squares` meets its contract. The loop's invariant: the accumulator's bits are those of the sum over the zones passed. Assumes nothing.
+-- `row_squares` meets its contract. The loop's invariant: the accumulator's bits are those of the sum over the zones passed.
+-- Assumes nothing.
 use mathlib.Core.Path.{_≡_, ap}
 use Prim.Native.Nat.{ℕ, _+_, _*_, _-_, _≤_}
 use native.Mathlib.Omega.{arith}
@@ -19,7 +20,8 @@ use Rattle.account.proofs.differences.row_squares.Statement.{statement}
 use Rattle.account.proofs.differences.row_squares.Tie as tie
 
 abbrev Inv-loop : tie.InvT-loop
-Inv-loop n values weights i a row acc₀ j₀ acc j = (j ≤ n) × (acc ≡ ofZ w64 (sum (λ j. pos (pair-at weights n i j) *ℤ square (at values i -ℤ at values j)) j))
+Inv-loop n values weights i a row acc₀ j₀ acc j =
+    (j ≤ n) × (acc ≡ ofZ w64 (sum (λ j. pos (pair-at weights n i j) *ℤ square (at values i -ℤ at values j)) j))
 
 abbrev μ-loop : tie.MeasureT-loop
 μ-loop n values weights i a row acc₀ j₀ acc j = n - j
@@ -46,8 +48,10 @@ module _ (c : tie.After-squared-difference Inv-loop μ-loop) where
   term : Is (cast *ℤ r64 (c .squared-difference .result)) (pos (weight (b .loop .j)) *ℤ apart (b .loop .j)) 360000000000
   unfolding pair-at
   term =
+      let difference =
+      difference-told _ _ (a .pre .0 .valued) (a .args .i) (b .loop .j) (a .pre .1) (omega arith) (c .squared-difference .ensures) in
       is-* (nat w64 (weight (b .loop .j)) 9 (weight-le _ _ (a .pre .0 .weighted) (a .args .i) (b .loop .j) (a .pre .1) (omega arith)) tt)
-      (rd w64 (difference-told _ _ (a .pre .0 .valued) (a .args .i) (b .loop .j) (a .pre .1) (omega arith) (c .squared-difference .ensures)) tt)
+      (rd w64 difference tt)
 
   turn :
       Is (toZ w64 (b .loop .acc) +ℤ r64 (cast *ℤ r64 (c .squared-difference .result)))
@@ -73,7 +77,11 @@ loop-holds c = (omega arith, acc-none w64 _)
 add-weight : tie.Need-add-weight Inv-loop μ-loop
 add-weight c =
     let a = c .before .before .before .before in
-    omega (arith, within (a .args .n) (a .args .i) (c .before .loop .j) (a .pre .1) (omega arith), few (a .args .n) (a .pre .0 .valued .zones))
+    omega (
+      arith,
+      within (a .args .n) (a .args .i) (c .before .loop .j) (a .pre .1) (omega arith),
+      few (a .args .n) (a .pre .0 .valued .zones),
+    )
 
 shared-slice-read-weight : tie.Need-shared-slice-read-weight Inv-loop μ-loop
 shared-slice-read-weight c =
@@ -85,8 +93,8 @@ cast-weight : tie.Need-cast-weight Inv-loop μ-loop
 cast-weight c =
     let b = c .before .before in
     let a = b .before .before .before in
-    fits-le w64 _ 9
-    (a .pre .0 .weighted .light (a .args .i * a .args .n + b .loop .j) (within (a .args .n) (a .args .i) (b .loop .j) (a .pre .1) (omega arith))) tt
+    let inside = within (a .args .n) (a .args .i) (b .loop .j) (a .pre .1) (omega arith) in
+    fits-le w64 _ 9 (a .pre .0 .weighted .light (a .args .i * a .args .n + b .loop .j) inside) tt
 
 mul-b : tie.Need-mul-b Inv-loop μ-loop
 mul-b c = omega arith

@@ -27,12 +27,14 @@ turn :
     (c : tie.After-squares-before Inv-loop μ-loop) →
     let b = c .before .before in
     let x = at (b .before .args .values .now) in
-    Is (toZ w64 (b .loop .acc) +ℤ r64 (c .squares-before .result)) (sum (λ j. sum (λ i. square (x i -ℤ x j)) j) (b .loop .j + 1)) 80640000000000
+    Is (toZ w64 (b .loop .acc) +ℤ r64 (c .squares-before .result))
+    (sum (λ j. sum (λ i. square (x i -ℤ x j)) j) (b .loop .j + 1)) 80640000000000
 turn c =
     let b = c .before .before in
     let a = b .before in
+    let run = before-runs _ _ (a .pre) (b .loop .j) (omega arith) in
     acc-more (spread-runs _ _ (a .pre)) (b .loop .j) (b .loop .acc) (omega arith) (b .loop .inv .1)
-    (rd w64 (told _ 2560000000000 (c .squares-before .ensures) (before-runs _ _ (a .pre) (b .loop .j) (omega arith) .bound (b .loop .j) (N.le-refl (b .loop .j)))) tt)
+    (rd w64 (told _ 2560000000000 (c .squares-before .ensures) (run .bound (b .loop .j) (N.le-refl (b .loop .j)))) tt)
 
 loop-holds : tie.Need-loop-holds Inv-loop μ-loop
 loop-holds c = (omega arith, acc-none w64 _)

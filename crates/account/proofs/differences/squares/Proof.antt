@@ -17,7 +17,8 @@ use Rattle.account.proofs.differences.squares.Statement.{statement}
 use Rattle.account.proofs.differences.squares.Tie as tie
 
 abbrev Inv-loop : tie.InvT-loop
-Inv-loop n values weights acc₀ i₀ acc i = (i ≤ n) × (acc ≡ ofZ w64 (sum (λ i. row-of (pair-at weights n) (λ i j. square (at values i -ℤ at values j)) i n) i))
+Inv-loop n values weights acc₀ i₀ acc i =
+    (i ≤ n) × (acc ≡ ofZ w64 (sum (λ i. row-of (pair-at weights n) (λ i j. square (at values i -ℤ at values j)) i n) i))
 
 abbrev μ-loop : tie.MeasureT-loop
 μ-loop n values weights acc₀ i₀ acc i = n - i
@@ -34,8 +35,9 @@ unfolding row-of
 turn c =
     let b = c .before .before in
     let a = b .before .before in
+    let run = row-squares-run _ _ _ (a .pre) (b .loop .i) (omega arith) in
     acc-more (squares-run _ _ _ (a .pre)) (b .loop .i) (b .loop .acc) (omega arith) (b .loop .inv .1)
-    (rd w64 (told _ 23040000000000 (c .row-squares .ensures) (row-squares-run _ _ _ (a .pre) (b .loop .i) (omega arith) .bound (a .args .n) (N.le-refl (a .args .n)))) tt)
+    (rd w64 (told _ 23040000000000 (c .row-squares .ensures) (run .bound (a .args .n) (N.le-refl (a .args .n)))) tt)
 
 loop-holds : tie.Need-loop-holds Inv-loop μ-loop
 loop-holds c = (omega arith, acc-none w64 _)
@@ -57,7 +59,9 @@ loop-again c = (omega arith, ap (ofZ w64) (turn c .same))
 
 returns : tie.Need-returns Inv-loop μ-loop
 unfolding squares-of pairs-of
-returns c = let b = c .before in acc-done (squares-run _ _ _ (b .before .before .pre)) (b .loop .i) (b .loop .acc) (omega arith) (b .loop .inv .1)
+returns c =
+    let b = c .before in
+    acc-done (squares-run _ _ _ (b .before .before .pre)) (b .loop .i) (b .loop .acc) (omega arith) (b .loop .inv .1)
 
 pub squares-spec : {M : Type 1} → statement M
 squares-spec =

@@ -1,4 +1,5 @@
--- `squares_before` meets its contract. The loop's invariant: the accumulator's bits are those of the sum over the zones passed. Assumes nothing.
+-- `squares_before` meets its contract. The loop's invariant: the accumulator's bits are those of the sum over the zones passed.
+-- Assumes nothing.
 use mathlib.Core.Path.{_≡_, ap}
 use Prim.Native.Nat.{_+_, _-_, _≤_}
 use native.Mathlib.Omega.{arith}
@@ -27,7 +28,8 @@ turn :
     let b = c .before .before .before in
     let a = b .before .before in
     let x = at (a .args .values .now) in
-    Is (toZ w64 (b .loop .acc) +ℤ r64 (c .squared-difference .result)) (sum (λ i. square (x i -ℤ x (a .args .j))) (b .loop .i + 1)) 2560000000000
+    Is (toZ w64 (b .loop .acc) +ℤ r64 (c .squared-difference .result))
+    (sum (λ i. square (x i -ℤ x (a .args .j))) (b .loop .i + 1)) 2560000000000
 turn c =
     let b = c .before .before .before in
     let a = b .before .before in

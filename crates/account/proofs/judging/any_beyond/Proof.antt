@@ -86,7 +86,8 @@ loop-again : tie.Need-loop-again Inv-loop μ-loop
 loop-again c =
     let b = c .before .before .before .before in
     let x = b .before .args .values .now in
-    (omega arith, some-more (test x) (b .loop .i) (b .loop .inv .1) (neither (at x (b .loop .i)) (c .before .before .x .given) (c .before .if1 .left) (c .if2 .left)))
+    let passed = neither (at x (b .loop .i)) (c .before .before .x .given) (c .before .if1 .left) (c .if2 .left) in
+    (omega arith, some-more (test x) (b .loop .i) (b .loop .inv .1) passed)
 
 returns-3 : tie.Need-returns-3 Inv-loop μ-loop
 unfolding any-beyond

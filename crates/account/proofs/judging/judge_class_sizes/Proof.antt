@@ -38,7 +38,14 @@ returns-2 c =
 returns-3 : tie.Need-returns-3
 returns-3 c =
     let f = sized (c .before .before) in
-    simp (le-ltb _ _ (f .two), le-ltb _ _ (f .zones), eq-eqb _ _ (f .values-fit), eq-eqb _ _ (f .weights-fit), eq-eqb _ _ (c .before .if2 .left), ne-eqb _ _ (c .if3 .taken))
+    simp (
+      le-ltb _ _ (f .two),
+      le-ltb _ _ (f .zones),
+      eq-eqb _ _ (f .values-fit),
+      eq-eqb _ _ (f .weights-fit),
+      eq-eqb _ _ (c .before .if2 .left),
+      ne-eqb _ _ (c .if3 .taken),
+    )
 
 mul-if4 : tie.Need-mul-if4
 mul-if4 c = omega (arith, sized (c .before .before) .zones)
@@ -46,12 +53,28 @@ mul-if4 c = omega (arith, sized (c .before .before) .zones)
 returns-4 : tie.Need-returns-4
 returns-4 c =
     let f = sized (c .before .before .before) in
-    simp (le-ltb _ _ (f .two), le-ltb _ _ (f .zones), eq-eqb _ _ (f .values-fit), eq-eqb _ _ (f .weights-fit), eq-eqb _ _ (c .before .before .if2 .left), eq-eqb _ _ (c .before .if3 .left), ne-eqb _ _ (c .if4 .taken))
+    simp (
+      le-ltb _ _ (f .two),
+      le-ltb _ _ (f .zones),
+      eq-eqb _ _ (f .values-fit),
+      eq-eqb _ _ (f .weights-fit),
+      eq-eqb _ _ (c .before .before .if2 .left),
+      eq-eqb _ _ (c .before .if3 .left),
+      ne-eqb _ _ (c .if4 .taken),
+    )
 
 returns-5 : tie.Need-returns-5
 returns-5 c =
     let f = sized (c .before .before .before) in
-    simp (le-ltb _ _ (f .two), le-ltb _ _ (f .zones), eq-eqb _ _ (f .values-fit), eq-eqb _ _ (f .weights-fit), eq-eqb _ _ (c .before .before .if2 .left), eq-eqb _ _ (c .before .if3 .left), eq-eqb _ _ (c .if4 .left))
+    simp (
+      le-ltb _ _ (f .two),
+      le-ltb _ _ (f .zones),
+      eq-eqb _ _ (f .values-fit),
+      eq-eqb _ _ (f .weights-fit),
+      eq-eqb _ _ (c .before .before .if2 .left),
+      eq-eqb _ _ (c .before .if3 .left),
+      eq-eqb _ _ (c .if4 .left),
+    )
 
 pub judge-class-sizes-spec : {M : Type 1} → statement M
 judge-class-sizes-spec =

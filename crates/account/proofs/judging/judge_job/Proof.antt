@@ -25,7 +25,10 @@ holds3 c = sym (c .before .any-beyond .ensures) ∙ c .if1 .left
 holds4 : (c : tie.Else2) → any-above 9 (c .before .before .before .before .before .args .weights .now) ≡ false
 holds4 c = sym (c .before .any-above .ensures) ∙ c .if2 .left
 
-holds5 : (c : tie.Else3) → let a = c .before .before .before .before .before .before .before .args in any-on-diagonal (a .n) (a .weights .now) ≡ false
+holds5 :
+    (c : tie.Else3) →
+    let a = c .before .before .before .before .before .before .before .args in
+    any-on-diagonal (a .n) (a .weights .now) ≡ false
 holds5 c = sym (c .before .any-on-diagonal .ensures) ∙ c .if3 .left
 
 holds6 :
@@ -84,7 +87,8 @@ any-on-diagonal-requires c κs = search needs
 returns-3 : tie.Need-returns-3
 unfolding job-rules
 returns-3 c =
-    rw (holds3 (c .before .before .before .before), holds4 (c .before .before), sym (c .before .any-on-diagonal .ensures) ∙ c .if3 .taken) refl
+    rw (holds3 (c .before .before .before .before), holds4 (c .before .before), sym (c .before .any-on-diagonal .ensures) ∙ c .if3 .taken)
+    refl
 
 weight-sum-requires : tie.Need-weight-sum-requires
 weight-sum-requires c κs = good-weights (c .before .before)
@@ -92,7 +96,12 @@ weight-sum-requires c κs = good-weights (c .before .before)
 returns-4 : tie.Need-returns-4
 unfolding job-rules
 returns-4 c =
-    rw (holds3 (c .before .before .before .before .before .before), holds4 (c .before .before .before .before), holds5 (c .before .before), breaks6 c)
+    rw (
+      holds3 (c .before .before .before .before .before .before),
+      holds4 (c .before .before .before .before),
+      holds5 (c .before .before),
+      breaks6 c,
+    )
     refl
 
 spread-requires : tie.Need-spread-requires
@@ -101,15 +110,25 @@ spread-requires c κs = good-values (c .before .before .before .before .before .
 returns-5 : tie.Need-returns-5
 unfolding job-rules
 returns-5 c =
-    rw
-    (holds3 (c .before .before .before .before .before .before .before .before), holds4 (c .before .before .before .before .before .before), holds5 (c .before .before .before .before), holds6 (c .before .before), breaks7 c)
+    rw (
+      holds3 (c .before .before .before .before .before .before .before .before),
+      holds4 (c .before .before .before .before .before .before),
+      holds5 (c .before .before .before .before),
+      holds6 (c .before .before),
+      breaks7 c,
+    )
     refl
 
 returns-6 : tie.Need-returns-6
 unfolding job-rules
 returns-6 c =
-    rw
-    (holds3 (c .before .before .before .before .before .before .before .before), holds4 (c .before .before .before .before .before .before), holds5 (c .before .before .before .before), holds6 (c .before .before), holds7 c)
+    rw (
+      holds3 (c .before .before .before .before .before .before .before .before),
+      holds4 (c .before .before .before .before .before .before),
+      holds5 (c .before .before .before .before),
+      holds6 (c .before .before),
+      holds7 c,
+    )
     refl
 
 pub judge-job-spec : {M : Type 1} → statement M

@@ -52,7 +52,9 @@ shuffle-deviations-requires c κs =
     (a .pre .1 .0 .count, (length-take-le _ _ (a .pre .0 .zones), a .pre .1 .1))
 
 array-share-prefix-moved : tie.Need-array-share-prefix-moved
-array-share-prefix-moved c = let b = c .before in front-le {A = ℤ} _ _ (table (moved b) (n b)) _ (b .shuffle-deviations .ensures) (as-long b)
+array-share-prefix-moved c =
+    let b = c .before in
+    front-le {A = ℤ} _ _ (table (moved b) (n b)) _ (b .shuffle-deviations .ensures) (as-long b)
 
 slice-aggregate-cross-sum : tie.Need-slice-aggregate-cross-sum
 slice-aggregate-cross-sum c =

@@ -1,4 +1,5 @@
--- `weight_sum` meets its contract. The loop's invariant: the accumulator's bits are those of the sum of the weights passed. Assumes nothing.
+-- `weight_sum` meets its contract. The loop's invariant: the accumulator's bits are those of the sum of the weights passed.
+-- Assumes nothing.
 use mathlib.Core.Path.{_≡_, ap, _∙_}
 use Prim.Native.Nat.{_+_, _-_, _≤_}
 use native.Mathlib.Omega.{arith}

@@ -60,7 +60,8 @@ returns c =
     let n = s .args .n in
     let rows = s .args .rows .now in
     let m = s .args .spread in
-    let read : (k : ℕ) → pair-of n (r64 m) (row-at rows k) ≡ pair-of n m (row-at rows k) = λ k. ap (λ v. pair-of n v (row-at rows k)) (toZ-ofZ w64 m (s .fits .spread)) in
+    let read : (k : ℕ) → pair-of n (r64 m) (row-at rows k) ≡ pair-of n m (row-at rows k) =
+    λ k. ap (λ v. pair-of n v (row-at rows k)) (toZ-ofZ w64 m (s .fits .spread)) in
     listed (λ k. pair-of n (s .args .spread) (row-at rows k)) _ _ _ _ _ _ _ _ _
     (c1 .class-pair .ensures ∙ read 0)
     (c2 .class-pair2 .ensures ∙ read 1)

@@ -19,12 +19,22 @@ mul-if4 c = omega (arith, c .before .if2 .left)
 returns-4 : tie.Need-returns-4
 returns-4 c =
     let b = c .before in
-    simp (le-ltb _ _ (b .before .before .if1 .left), le-ltb _ _ (b .before .if2 .left), eq-eqb _ _ (b .if3 .left), ne-eqb _ _ (c .if4 .taken))
+    simp (
+      le-ltb _ _ (b .before .before .if1 .left),
+      le-ltb _ _ (b .before .if2 .left),
+      eq-eqb _ _ (b .if3 .left),
+      ne-eqb _ _ (c .if4 .taken),
+    )
 
 returns-5 : tie.Need-returns-5
 returns-5 c =
     let b = c .before in
-    simp (le-ltb _ _ (b .before .before .if1 .left), le-ltb _ _ (b .before .if2 .left), eq-eqb _ _ (b .if3 .left), eq-eqb _ _ (c .if4 .left))
+    simp (
+      le-ltb _ _ (b .before .before .if1 .left),
+      le-ltb _ _ (b .before .if2 .left),
+      eq-eqb _ _ (b .if3 .left),
+      eq-eqb _ _ (c .if4 .left),
+    )
 
 pub judge-lent-spec : {M : Type 1} → statement M
 judge-lent-spec = tie.close (tie.spec returns returns-2 returns-3 mul-if4 returns-4 returns-5)
