@@ -76,9 +76,12 @@ module _ (n : ℕ) (values : List ℤ) (weights shuffles : List ℕ) (taken : ra
   pub rank-rows : length shuffles ≡ rows * n
   rank-rows = rank-accepted n values weights shuffles taken .rows .count
 
+  none-lacks : (r : ℕ) → r < rows → lacks (row r) n ≡ false
+  none-lacks = rank-accepted n values weights shuffles taken .rows .full
+
   -- each row has each zone number once
   pub every-shuffle : (r : ℕ) → r < rows → Permutation (row r) (stands (row r) n) n
-  every-shuffle r h = full (row r) n (rank-accepted n values weights shuffles taken .rows .full r h)
+  every-shuffle r h = full (row r) n (none-lacks r h)
 
   -- the account refuses nothing either
   pub account-accepts : {A : Type 0} (places : List A) → length places ≡ n → account-refusal n values weights places ≡ 0
@@ -90,14 +93,11 @@ module _ (n : ℕ) (values : List ℤ) (weights shuffles : List ℕ) (taken : ra
 
   -- S and M are those of the job in every shuffle
   module _ (r : ℕ) (h : r < rows) where
-    none-lacks : lacks (row r) n ≡ false
-    none-lacks = rank-accepted n values weights shuffles taken .rows .full r h
-
     pub shuffle-total : total-of (shuffled (at values) (row r)) n ≡ total-of (at values) n
-    shuffle-total = shuffled-total (at values) (row r) n none-lacks
+    shuffle-total = shuffled-total (at values) (row r) n (none-lacks r h)
 
     pub shuffle-spread : spread-of (shuffled (at values) (row r)) n ≡ spread-of (at values) n
-    shuffle-spread = shuffled-spread (at values) (row r) n none-lacks
+    shuffle-spread = shuffled-spread (at values) (row r) n (none-lacks r h)
 
     -- so I of the shuffle and of the job, P over W × M each, compare as their P do: multiplied out, by the divisors, which are above 0
     abbrev own : ℤ
