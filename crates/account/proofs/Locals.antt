@@ -1,15 +1,15 @@
 -- The deviations and the local numerators as the code holds them in lists, and what is known of the sums that are told. Assumes nothing.
-use mathlib.Core.Path.{_≡_, refl, ap, _∙_}
+use mathlib.Core.Path.{_≡_, refl, _∙_}
 use mathlib.Core.List.{List}
-use Prim.Native.Nat.{ℕ, _<_}
+use Prim.Native.Nat.{ℕ, _≤_, _<_}
 use native.Mathlib.Nat as N
-use lib.IntN.{ℤ, pos}
+use lib.IntN.{ℤ, pos, natAbs}
 use lib.ListN.{length}
 use Rattle.whole.specs.Sum.{sum}
 use Rattle.whole.specs.Table.{table, at, pair-at}
 use Rattle.whole.proofs.Machine.{Is, told}
 use Rattle.whole.proofs.Sum.{sum-cong}
-use Rattle.whole.proofs.Table.{table-length, table-at, table-cong}
+use Rattle.whole.proofs.Table.{table-length, table-at, table-held, table-cong}
 use Rattle.account.specs.Measures.{total-of, deviation-of, spread-of, weight-of, cross-of, squares-of, local-of}
 use Rattle.account.specs.Answers.{job-locals}
 use Rattle.account.specs.Steps.{Sized, Valued, Weighted, Job}
@@ -30,6 +30,22 @@ unfolding job-locals
 job-locals-at n values weights i h = table-at (local-of (pair-at weights n) (deviation-of (at values) n) n) n i (pos 0) h
 
 -- ---- in the code's lists
+
+-- the local numerators of any deviations add up to their P
+pub numerators-cross :
+    (f : ℕ → ℕ → ℕ) (n : ℕ) (d : ℕ → ℤ) (out : List ℤ) → out ≡ table (local-of f d n) n → sum (at out) n ≡ cross-of f d n
+numerators-cross f n d out q = sum-cong _ _ n (table-held (local-of f d n) n (pos 0) out q) ∙ locals-sum f d n
+
+-- where the deviations are as small as a job's, so are the numerators, and the P that is told fits
+module _ (weights : List ℕ) (n : ℕ) (w : Weighted weights n) (d : ℕ → ℤ) (small : (i : ℕ) → i < n → natAbs (d i) ≤ 12800000) where
+  pub numerators-sized : (out : List ℤ) → out ≡ table (local-of (pair-at weights n) d n) n → Sized 94371840000000000 out n
+  numerators-sized out q =
+      table-sized 94371840000000000 n (local-of (pair-at weights n) d n) out q
+      (local-size (pair-at weights n) n (w .zones) (weight-le weights n w) d small)
+
+  pub deviations-cross-told : {y : ℤ} → y ≡ cross-of (pair-at weights n) d n → Is y (cross-of (pair-at weights n) d n) 6039797760000000000
+  deviations-cross-told e = told _ 6039797760000000000 e (cross-size (pair-at weights n) n (w .zones) (weight-le weights n w) d small)
+
 pub deviations-sized :
     (values : List ℤ) (n : ℕ) (d : List ℤ) → Valued values n → d ≡ table (deviation-of (at values) n) n → Sized 12800000 d n
 deviations-sized values n d v e =
@@ -44,23 +60,20 @@ module _ (values : List ℤ) (weights : List ℕ) (n : ℕ) (r : Job values weig
   locals-are d out e q =
       let f = pair-at weights n in
       let deviation = deviation-of (at values) n in
-      let read : (i : ℕ) → i < n → at d i ≡ deviation i = λ i p. ap (λ l. at l i) e ∙ table-at deviation n i (pos 0) p in
-      q ∙ table-cong _ _ n (pos 0) (local-cong f f n (λ i j p q. refl) (at d) deviation read)
+      q ∙ table-cong _ _ n (pos 0) (local-cong f f n (λ i j p q. refl) (at d) deviation (table-held deviation n (pos 0) d e))
 
   module _ (out : List ℤ) (q : out ≡ job-locals n values weights) where
     pub locals-sized : Sized 94371840000000000 out n
     unfolding job-locals
     locals-sized =
         let v = r .valued in
-        let deviations = deviation-size (at values) n (v .zones) (v .near .size) in
-        table-sized 94371840000000000 n (local-of (pair-at weights n) (deviation-of (at values) n) n) out q
-        (local-size (pair-at weights n) n (v .zones) (weight-le weights n (r .weighted)) (deviation-of (at values) n) deviations)
+        let small = deviation-size (at values) n (v .zones) (v .near .size) in
+        numerators-sized weights n (r .weighted) (deviation-of (at values) n) small out q
 
     -- they add up to P
     pub locals-cross : sum (at out) n ≡ cross-of (pair-at weights n) (deviation-of (at values) n) n
-    locals-cross =
-        sum-cong _ _ n (λ i p. ap (λ l. at l i) q ∙ job-locals-at n values weights i p)
-        ∙ locals-sum (pair-at weights n) (deviation-of (at values) n) n
+    unfolding job-locals
+    locals-cross = numerators-cross (pair-at weights n) n (deviation-of (at values) n) out q
 
 -- ---- y, told to be one of the sums, is that number and within an i64
 module _ (values : List ℤ) (n : ℕ) (v : Valued values n) where
@@ -82,9 +95,8 @@ module _ (values : List ℤ) (weights : List ℕ) (n : ℕ) (r : Job values weig
       Is y (cross-of (pair-at weights n) (deviation-of (at values) n) n) 6039797760000000000
   cross-told e =
       let v = r .valued in
-      let deviations = deviation-size (at values) n (v .zones) (v .near .size) in
-      told _ 6039797760000000000 e
-      (cross-size (pair-at weights n) n (v .zones) (weight-le weights n (r .weighted)) (deviation-of (at values) n) deviations)
+      let small = deviation-size (at values) n (v .zones) (v .near .size) in
+      deviations-cross-told weights n (r .weighted) (deviation-of (at values) n) small e
 
   pub squares-told :
       {y : ℤ} → y ≡ squares-of (pair-at weights n) (at values) n → Is y (squares-of (pair-at weights n) (at values) n) 1474560000000000

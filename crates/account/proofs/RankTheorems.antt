@@ -23,6 +23,7 @@ use Rattle.whole.proofs.Rules.{first-least, first-applies, worked-when-taken}
 use Rattle.whole.proofs.Size.{one-*}
 use Rattle.account.specs.Measures.{total-of, spread-of, weight-of}
 use Rattle.account.specs.Refusals.{job-rules, call-rules, account-rules, account-refusal}
+use Rattle.account.specs.Answers.{job-figures}
 use Rattle.account.specs.Rank.{shuffle-count, shuffled, values-cross, shuffle-cross, compared, job-rank, rank-rules, rank-refusal}
 use Rattle.account.specs.Rank.{three, number-of, counts-of, rank-counts}
 use Rattle.account.specs.declared.Counts.{Counts}
@@ -45,6 +46,11 @@ shuffled-spread x row n all =
     ∙ ap (λ q. pos n *ℤ q -ℤ square (sum (shuffled x row) n)) (permuted-sum row (stands row n) n f (λ k. square (x k)))
     ∙ ap (λ s. pos n *ℤ sum (λ k. square (x k)) n -ℤ square s) (permuted-sum row (stands row n) n f x)
     ∙ sym (pairs-sum x n)
+
+-- ---- the P that the shuffles are compared with is the one that the account answers
+pub own-of-account : (n : ℕ) (values : List ℤ) (weights : List ℕ) → values-cross n weights (at values) ≡ at (job-figures n values weights) 3
+unfolding values-cross job-figures
+own-of-account n values weights = refl
 
 -- ---- each shuffle is counted once
 module _ (n : ℕ) (values : List ℤ) (weights shuffles : List ℕ) where

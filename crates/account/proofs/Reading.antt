@@ -13,7 +13,7 @@ use Rattle.whole.specs.Table.{table, at, pair-at}
 use Rattle.whole.proofs.Lists.{within}
 use Rattle.whole.proofs.Machine.{Is, val, told, rd, r32}
 use Rattle.whole.proofs.Sum.{sum-cong, sum-rows}
-use Rattle.whole.proofs.Table.{table-length, table-at}
+use Rattle.whole.proofs.Table.{table-length, table-held}
 use Rattle.account.specs.Measures.{row-of, pairs-of, weight-of}
 use Rattle.account.specs.Steps.{Sized, Valued, Weighted}
 use Rattle.account.proofs.Sizes.{square-size}
@@ -26,11 +26,8 @@ few n h = N.mul-le-mul {n₂ = 64} {m₂ = 64} h h
 pub table-sized : (b n : ℕ) (f : ℕ → ℤ) (l : List ℤ) → l ≡ table f n → ((k : ℕ) → k < n → natAbs (f k) ≤ b) → Sized b l n
 table-sized b n f l e h = record {
   count = ap length e ∙ table-length f n;
-  size = λ k p. rw (held-at b n f l e k p) (h k p);
+  size = λ k p. rw (table-held f n (pos 0) l e k p) (h k p);
 }
-  where
-    held-at : (b n : ℕ) (f : ℕ → ℤ) (l : List ℤ) → l ≡ table f n → (k : ℕ) → k < n → at l k ≡ f k
-    held-at b n f l e k p = ap (λ m. at m k) e ∙ table-at f n k (pos 0) p
 
 -- ---- the values
 module _ (values : List ℤ) (n : ℕ) (v : Valued values n) where

@@ -1,4 +1,4 @@
--- A job in a shuffle: S stays, the deviations are shuffled, and its P is within the limits of the job's own. Assumes nothing.
+-- A job in a shuffle: S stays, and the deviations, no larger than they were, are shuffled. Assumes nothing.
 use mathlib.Core.Path.{_≡_, sym, ap, _∙_}
 use mathlib.Core.Bool.{false}
 use mathlib.Core.List.{List}
@@ -7,27 +7,17 @@ use lib.IntN.{ℤ, pos, natAbs, _-ℤ_, _*ℤ_}
 use Rattle.whole.specs.Order.{lacks}
 use Rattle.whole.specs.Table.{table, at, pair-at}
 use Rattle.whole.proofs.Permutation.{stands, full, permuted-sum}
-use Rattle.whole.proofs.Table.{table-at}
+use Rattle.whole.proofs.Table.{table-held}
 use Rattle.account.specs.Measures.{total-of, deviation-of}
 use Rattle.account.specs.Rank.{shuffled, values-cross, shuffle-cross}
-use Rattle.account.specs.Steps.{Sized, Weighted, Shuffle, cross-held, cross-moved}
+use Rattle.account.specs.Steps.{Sized, Shuffle, cross-held, cross-moved}
 use Rattle.account.proofs.Adding.{cross-alike}
-use Rattle.account.proofs.Reading.{weight-le}
-use Rattle.account.proofs.Sizes.{cross-size}
 
--- ---- the deviations that the zones take in a shuffle, and its P, are within the limits of the job's own
-module _ (d : List ℤ) (shuffles : List ℕ) (n r : ℕ) where
-  abbrev moved : ℕ → ℤ
-  moved = shuffled (at d) (pair-at shuffles n r)
-
-  pub shuffled-size : (b : ℕ) → Sized b d n → Shuffle shuffles n r → (i : ℕ) → i < n → natAbs (moved i) ≤ b
-  shuffled-size b s w i p = s .size (pair-at shuffles n r i) (full (pair-at shuffles n r) n (w .full) .into i p)
-
-  pub shuffled-cross-size :
-      (weights : List ℕ) → Weighted weights n → Sized 12800000 d n → Shuffle shuffles n r →
-      natAbs (cross-moved weights n d shuffles r) ≤ 6039797760000000000
-  shuffled-cross-size weights f s w =
-      cross-size (pair-at weights n) n (f .zones) (weight-le weights n f) moved (shuffled-size 12800000 s w)
+-- ---- the deviations that the zones take in a shuffle are no larger
+pub shuffled-size :
+    (d : List ℤ) (shuffles : List ℕ) (n r b : ℕ) → Sized b d n → Shuffle shuffles n r → (i : ℕ) → i < n →
+    natAbs (shuffled (at d) (pair-at shuffles n r) i) ≤ b
+shuffled-size d shuffles n r b s w i p = s .size (pair-at shuffles n r i) (full (pair-at shuffles n r) n (w .full) .into i p)
 
 -- ---- a shuffle of the values x: S stays, and each zone takes the deviation of the zone that it takes the value of
 module _ (x : ℕ → ℤ) (row : ℕ → ℕ) (n : ℕ) (all : lacks row n ≡ false) where
@@ -42,7 +32,7 @@ module _ (x : ℕ → ℤ) (row : ℕ → ℕ) (n : ℕ) (all : lacks row n ≡ 
 -- ---- in the code's list of deviations
 module _ (values : List ℤ) (weights : List ℕ) (n : ℕ) (d : List ℤ) (e : d ≡ table (deviation-of (at values) n) n) where
   held : (i : ℕ) → i < n → at d i ≡ deviation-of (at values) n i
-  held i p = ap (λ l. at l i) e ∙ table-at (deviation-of (at values) n) n i (pos 0) p
+  held = table-held (deviation-of (at values) n) n (pos 0) d e
 
   pub own-cross : cross-held weights n d ≡ values-cross n weights (at values)
   unfolding values-cross

@@ -64,12 +64,6 @@ unfolding count
 count-cong a b zero h = refl
 count-cong a b (suc n) h = rw (count-cong a b n (λ k p. h k (omega arith)), h n (omega arith)) refl
 
-pub first-cong : (a b : ℕ → Bool) (n : ℕ) → ((k : ℕ) → k < n → a k ≡ b k) → first a n ≡ first b n
-unfolding first
-first-cong a b zero h = refl
-first-cong a b (suc n) h =
-    rw (h 0 (omega arith), first-cong (λ k. a (suc k)) (λ k. b (suc k)) n (λ k p. h (suc k) (omega arith))) refl
-
 -- whatever passes a passes b
 count-no-more : (a b : ℕ → Bool) (n : ℕ) → ((i : ℕ) → i < n → a i ≡ true → b i ≡ true) → count a n ≤ count b n
 unfolding count

@@ -1,8 +1,8 @@
 -- A row of n numbers below n, no two of them equal, has each number below n once, and a sum over it is the sum over those numbers.
 -- Assumes nothing.
 use mathlib.Core.Path.{_≡_, refl, sym, ap, _∙_}
-use mathlib.Core.Bool.{Bool, true, false, false≢true, not, cond, _||_}
-use Prim.Native.Nat.{ℕ, zero, suc, _≤_, _<_}
+use mathlib.Core.Bool.{Bool, true, false, not, cond}
+use Prim.Native.Nat.{ℕ, _≤_, _<_}
 use native.Mathlib.Nat as N
 use native.Mathlib.Decide.{ℕ-discrete}
 use native.Mathlib.Omega.{arith}
@@ -14,7 +14,7 @@ use Rattle.whole.specs.Sum.{sum}
 use Rattle.whole.specs.Order.{lacks}
 use Rattle.whole.proofs.Sum.{sum-cong, sum-const, sum-none, sum-swap, sum-pick}
 use Rattle.whole.proofs.SumSize.{sum-size-but}
-use Rattle.whole.proofs.Search.{some-none, none-some, some-found}
+use Rattle.whole.proofs.Search.{some-none, none-some, some-found, some-witness}
 use Rattle.whole.proofs.Counting.{first-below, first-passes}
 
 -- f takes the numbers below n to the numbers below n, and g takes them back
@@ -29,18 +29,6 @@ abbrev pub stands : (ℕ → ℕ) → ℕ → ℕ → ℕ
 stands f n k = first (λ i. eqb (f i) k) n
 
 -- ---- a number that is in the row, and one that is not
-
--- where some number below n passes a test, here is one
-witness : (test : ℕ → Bool) (n : ℕ) → some test n ≡ true → (k : ℕ) × (k < n) × (test k ≡ true)
-unfolding some
-witness test zero e = absurd (false≢true e)
-witness test (suc n) e = go (some test n) refl e (witness test n)
-  where
-    go :
-        (b : Bool) → some test n ≡ b → (b || test n) ≡ true → (some test n ≡ true → (k : ℕ) × (k < n) × (test k ≡ true)) →
-        (k : ℕ) × (k < suc n) × (test k ≡ true)
-    go true p q g = let w = g p in (w .0, omega (arith, w .1), w .2)
-    go false p q g = (n, omega arith, q)
 
 -- a sum over the row in which only k counts, which stands at s and nowhere else
 sum-at :
@@ -63,7 +51,7 @@ module _ (f : ℕ → ℕ) (n : ℕ) where
   stands-there : (k : ℕ) → among k ≡ true → (stands f n k < n) × (f (stands f n k) ≡ k)
   stands-there k e =
       let test : ℕ → Bool = λ i. eqb (f i) k in
-      let w = witness test n e in
+      let w = some-witness test n e in
       (first-below test n (w .0) (w .1) (w .2), eqb-true (f (stands f n k)) k (first-passes test n (w .0) (w .1) (w .2)))
 
   -- 1 where f i is k, else 0

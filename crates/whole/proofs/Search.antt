@@ -1,6 +1,6 @@
 -- Laws of `some`, as a searching loop uses them. Assumes nothing.
 use mathlib.Core.Path.{_≡_, refl, sym, ap, _∙_}
-use mathlib.Core.Bool.{Bool, true, false, _||_}
+use mathlib.Core.Bool.{Bool, true, false, false≢true, _||_}
 use mathlib.Core.List.{List}
 use Prim.Native.Nat.{ℕ, zero, suc, _+_, _≤_, _<_}
 use native.Mathlib.Numerals.{add-one}
@@ -59,6 +59,18 @@ module _ (test : ℕ → Bool) where
 
   pub some-done : (i n : ℕ) → i ≡ n → some test i ≡ false → false ≡ some test n
   some-done i n l e = sym (ap (some test) (sym l) ∙ e)
+
+-- where some number below n passes a test, here is one
+pub some-witness : (test : ℕ → Bool) (n : ℕ) → some test n ≡ true → (k : ℕ) × (k < n) × (test k ≡ true)
+unfolding some
+some-witness test zero e = absurd (false≢true e)
+some-witness test (suc n) e = go (some test n) refl e (some-witness test n)
+  where
+    go :
+        (b : Bool) → some test n ≡ b → (b || test n) ≡ true → (some test n ≡ true → (k : ℕ) × (k < n) × (test k ≡ true)) →
+        (k : ℕ) × (k < suc n) × (test k ≡ true)
+    go true p q g = let w = g p in (w .0, omega (arith, w .1), w .2)
+    go false p q g = (n, omega arith, q)
 
 pub some-cong : (a b : ℕ → Bool) (n : ℕ) → ((k : ℕ) → k < n → a k ≡ b k) → some a n ≡ some b n
 unfolding some

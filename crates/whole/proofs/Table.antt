@@ -20,6 +20,10 @@ module _ {A : Type 0} where
   table-at f (suc n) zero d h = refl
   table-at f (suc n) (suc k) d h = table-at (λ k. f (suc k)) n k d (omega arith)
 
+  -- and what a list that is the table holds
+  pub table-held : (f : ℕ → A) (n : ℕ) (d : A) (l : List A) → l ≡ table f n → (k : ℕ) → k < n → getD l k d ≡ f k
+  table-held f n d l e k h = ap (λ t. getD t k d) e ∙ table-at f n k d h
+
   -- a list of that length and with those elements is the table
   pub is-table : (f : ℕ → A) (n : ℕ) (d : A) (l : List A) → length l ≡ n → ((k : ℕ) → k < n → getD l k d ≡ f k) → l ≡ table f n
   is-table f n d l e h =

@@ -1,5 +1,5 @@
 -- `shuffle_cross` meets its contract: the zones take their deviations in a local array, whose first n places are lent. Assumes nothing.
-use mathlib.Core.Path.{_≡_, sym, ap, _∙_}
+use mathlib.Core.Path.{_≡_, sym, _∙_}
 use mathlib.Core.List.{List}
 use Prim.Native.Nat.{ℕ}
 use lib.IntN.{ℤ, pos}
@@ -8,13 +8,14 @@ use lib.Seq.{length-take-le}
 use mir.Syntax.{w64}
 use Rattle.whole.specs.Table.{table, at, pair-at}
 use Rattle.whole.proofs.Lists.{front, front-le, front-length}
-use Rattle.whole.proofs.Machine.{told, rd}
-use Rattle.whole.proofs.Table.{table-length, table-at}
+use Rattle.whole.proofs.Machine.{rd}
+use Rattle.whole.proofs.Table.{table-length, table-held}
 use Rattle.account.specs.Rank.{shuffled}
 use Rattle.account.specs.Steps.{Sized, cross-held, cross-moved}
 use Rattle.account.proofs.Adding.{cross-alike}
+use Rattle.account.proofs.Locals.{deviations-cross-told}
 use Rattle.account.proofs.Reading.{table-sized}
-use Rattle.account.proofs.Shuffled.{shuffled-size, shuffled-cross-size}
+use Rattle.account.proofs.Shuffled.{shuffled-size}
 use Rattle.account.proofs.ranking.shuffle_cross.Statement.{statement}
 use Rattle.account.proofs.ranking.shuffle_cross.Tie as tie
 
@@ -38,7 +39,7 @@ module _ (c : tie.After-shuffle-deviations) where
   same :
       (l : List ℤ) → l ≡ table moved n →
       cross-held (a .args .weights .now) n l ≡ cross-moved (a .args .weights .now) n (a .args .d .now) (a .args .shuffles .now) (a .args .r)
-  same l e = cross-alike (pair-at (a .args .weights .now) n) n (at l) moved (λ i p. ap (λ t. at t i) e ∙ table-at moved n i (pos 0) p)
+  same l e = cross-alike (pair-at (a .args .weights .now) n) n (at l) moved (table-held moved n (pos 0) l e)
 
 array-borrow-prefix-moved : tie.Need-array-borrow-prefix-moved
 array-borrow-prefix-moved c = c .before .before .pre .0 .zones
@@ -71,7 +72,7 @@ returns c =
     let b = c .before .before .before in
     let e = same b _ (front {A = ℤ} _ _ (table (moved b) (n b)) _ (b .shuffle-deviations .ensures) (as-long b)) in
     let w = a b .pre in
-    rd w64 (told _ 6039797760000000000 (c .cross-sum .ensures ∙ e) (shuffled-cross-size _ _ _ _ _ (w .0) (w .1 .0) (w .1 .1))) tt .same
+    rd w64 (deviations-cross-told _ _ (w .0) (moved b) (shuffled-size _ _ _ _ _ (w .1 .0) (w .1 .1)) (c .cross-sum .ensures ∙ e)) tt .same
 
 pub shuffle-cross-spec : {M : Type 1} → statement M
 shuffle-cross-spec =

@@ -7,14 +7,13 @@ use native.Mathlib.Omega.{arith}
 use lib.IntN.{ℤ}
 use lib.Signed.{ltZ}
 use mir.Syntax.{w64}
-use Rattle.whole.specs.Table.{at, pair-at}
-use Rattle.whole.proofs.Machine.{Is, told, rd, r64}
+use Rattle.whole.specs.Table.{at}
+use Rattle.whole.proofs.Machine.{Is, rd, r64}
 use Rattle.account.specs.Rank.{compared}
 use Rattle.account.specs.Steps.{cross-held, cross-moved}
-use Rattle.account.proofs.Reading.{weight-le}
+use Rattle.account.proofs.Locals.{deviations-cross-told}
 use Rattle.account.proofs.ShuffleList.{shuffle-there}
-use Rattle.account.proofs.Shuffled.{shuffled-cross-size}
-use Rattle.account.proofs.Sizes.{cross-size}
+use Rattle.account.proofs.Shuffled.{shuffled-size}
 use Rattle.account.proofs.Tallied.{Tallied, none-yet, one-less, one-greater, one-equal, no-more, tallied}
 use Rattle.account.proofs.ranking.tally.Statement.{statement}
 use Rattle.account.proofs.ranking.tally.Tie as tie
@@ -42,15 +41,11 @@ module _ (c : tie.After-shuffle-cross Inv-loop μ-loop) where
 
   shuffle-is : Is (r64 (c .shuffle-cross .result)) (numbers (b .loop .r)) 6039797760000000000
   shuffle-is =
-      let w = shuffle-there _ _ _ _ (a .pre .1 .1) (c .before .loop-test .taken) in
-      rd w64 (told _ 6039797760000000000 (c .shuffle-cross .ensures) (shuffled-cross-size _ _ _ _ _ (a .pre .0) (a .pre .1 .0) w)) tt
+      let small = shuffled-size _ _ _ _ _ (a .pre .1 .0) (shuffle-there _ _ _ _ (a .pre .1 .1) (c .before .loop-test .taken)) in
+      rd w64 (deviations-cross-told _ _ (a .pre .0) _ small (c .shuffle-cross .ensures)) tt
 
   own-is : Is (r64 (b .before .cross-sum .result)) own 6039797760000000000
-  own-is =
-      let w = a .pre .0 in
-      let f = pair-at (a .args .weights .now) (a .args .n) in
-      let size = cross-size f _ (w .zones) (weight-le _ _ w) (at (a .args .d .now)) (a .pre .1 .0 .size) in
-      rd w64 (told _ 6039797760000000000 (b .before .cross-sum .ensures) size) tt
+  own-is = rd w64 (deviations-cross-told _ _ (a .pre .0) (at (a .args .d .now)) (a .pre .1 .0 .size) (b .before .cross-sum .ensures)) tt
 
   less : (t : Bool) → ltZ (r64 (c .shuffle-cross .result)) (r64 (b .before .cross-sum .result)) ≡ t → ltZ (numbers (b .loop .r)) own ≡ t
   less t e = cc (shuffle-is .same, own-is .same, e)
