@@ -15,9 +15,9 @@ use Rattle.whole.proofs.Rules.{holds, first-none, both-hold, fits, sizes-hold, 
 use Rattle.whole.proofs.Search.{some-none, none-beyond, none-above}
 use Rattle.whole.proofs.Size.{some-size}
 use Rattle.whole.specs.Table.{at, pair-at}
-use Rattle.whole.specs.Search.{any-beyond, any-above}
+use Rattle.whole.specs.Search.{any-beyond, any-above, any-on-diagonal}
 use Rattle.account.specs.Measures.{weight-of, spread-of}
-use Rattle.account.specs.Refusals.{any-on-diagonal, job-rules, job-lengths, call-rules, account-rules, account-refusal}
+use Rattle.account.specs.Refusals.{job-rules, job-lengths, call-rules, account-rules, account-refusal}
 use Rattle.account.specs.Classes.{class-rules, class-refusal}
 use Rattle.account.specs.Rank.{shuffle-count, any-lacking, rank-rules, rank-refusal}
 use Rattle.account.specs.Steps.{Sized, Weighted, Job, Shuffles}

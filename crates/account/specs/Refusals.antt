@@ -1,22 +1,16 @@
 -- The rules that a job must keep, with their numbers, in the order of document 01's "Causes of refusal". The call is refused with the
 -- number of the first that is broken: the least that applies, and once 1 or 2 applies nothing further is judged. Assumes nothing.
-use mathlib.Core.Bool.{Bool}
 use mathlib.Core.List.{List, [], _∷_, _++_}
 use Prim.Native.Nat.{ℕ, _*_}
-use lib.Dec.{ltb}
 use lib.IntN.{ℤ}
 use lib.ListN.{length}
 use Rattle.whole.specs.Integer.{is-zero}
 use Rattle.whole.specs.Rules.{Rule, first-broken, size-rules}
-use Rattle.whole.specs.Search.{some, any-beyond, any-above}
+use Rattle.whole.specs.Search.{any-beyond, any-above, any-on-diagonal}
 use Rattle.whole.specs.Table.{at, pair-at}
 use Rattle.account.specs.Measures.{weight-of, spread-of}
 
 -- ---- a job's own rules
-
--- a weight stands on the diagonal
-unfoldable pub any-on-diagonal : ℕ → List ℕ → Bool
-any-on-diagonal n weights = some (λ i. ltb 0 (pair-at weights n i i)) n
 
 -- 3 to 7: the values, the weights, W and M
 unfoldable pub job-rules : ℕ → List ℤ → List ℕ → List Rule

@@ -7,59 +7,9 @@ ghost use mathlib.Core.List.{[], _∷_};
 ghost use Prim.Native.Nat.{_*_, _≤_};
 ghost use lib.ListN.{length};
 ghost use Rattle.whole.specs.Rules.{first-broken, size-rules};
-ghost use Rattle.whole.specs.Search.{any-beyond, any-above};
-ghost use Rattle.account.specs.Refusals.{any-on-diagonal, job-rules, job-lengths, call-rules};
+ghost use Rattle.account.specs.Refusals.{job-rules, job-lengths, call-rules};
 ghost use Rattle.account.specs.Classes.{class-refusal};
 ghost use Rattle.account.specs.Rank.{shuffle-count, rank-refusal};
-
-// Whether some value is beyond 100,000 in size.
-pub fn any_beyond(values: &[i32]) -> bool
-    ensures { λ r. ⌜ r ≡ any-beyond 100000 (now (values .entry)) ⌝ }
-{
-    let mut i: usize = 0;
-    while i < values.len() {
-        let x = values[i];
-        if x > 100000 {
-            return true;
-        }
-        if x < -100000 {
-            return true;
-        }
-        i += 1;
-    }
-    false
-}
-
-// Whether some number is above the limit.
-pub fn any_above(limit: u8, numbers: &[u8]) -> bool
-    ensures { λ r. ⌜ r ≡ any-above limit (now (numbers .entry)) ⌝ }
-{
-    let mut i: usize = 0;
-    while i < numbers.len() {
-        if numbers[i] > limit {
-            return true;
-        }
-        i += 1;
-    }
-    false
-}
-
-// Whether some weight stands on the diagonal.
-pub fn any_on_diagonal(n: usize, weights: &[u8]) -> bool
-    requires { ⌜ n ≤ 64 ⌝ }
-    requires { ⌜ length (now weights) ≡ n * n ⌝ }
-    ensures { λ r. ⌜ r ≡ any-on-diagonal n (now (weights .entry)) ⌝ }
-{
-    let mut i: usize = 0;
-    while i < n {
-        let place = i * n + i;
-        if weights[place] > 0 {
-            return true;
-        }
-        i += 1;
-    }
-    false
-}
 
 // 1 and 2: n, and the lengths of a job's two lists and of the n places that are lent.
 pub fn judge_sizes(n: usize, values: usize, weights: usize, places: usize) -> u8
@@ -90,13 +40,13 @@ pub fn judge_job(n: usize, values: &[i32], weights: &[u8]) -> u8
     requires { ⌜ length (now weights) ≡ n * n ⌝ }
     ensures { λ r. ⌜ r ≡ first-broken (job-rules n (now (values .entry)) (now (weights .entry))) ⌝ }
 {
-    if any_beyond(values) {
+    if judges::any_beyond(100000, values) {
         return 3;
     }
-    if any_above(9, weights) {
+    if judges::any_above(9, weights) {
         return 4;
     }
-    if any_on_diagonal(n, weights) {
+    if judges::any_on_diagonal(n, weights) {
         return 5;
     }
     if working::weight_sum(n, weights) == 0 {
@@ -177,7 +127,7 @@ pub fn judge_classes(
     if job != 0 {
         return job;
     }
-    if any_above(8, classes) {
+    if judges::any_above(8, classes) {
         return 9;
     }
     0

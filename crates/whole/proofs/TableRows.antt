@@ -1,16 +1,31 @@
 -- Laws of `table-rows`, and of a loop that writes it row by row, each row through a part that was lent. Assumes nothing.
 use mathlib.Core.Path.{_≡_, sym, ap, _∙_, subst}
 use mathlib.Core.List.{List, _++_, append-assoc}
-use Prim.Native.Nat.{ℕ, zero, suc, _+_, _*_, _-_, _≤_, _<_}
+use Prim.Native.Nat.{ℕ, zero, suc, _+_, _*_, _-_, _/_, _%_, _≤_, _<_}
 use native.Mathlib.Nat as N
 use native.Mathlib.Decide.{decLt, ℕ-discrete}
 use native.Mathlib.Numerals.{add-one}
 use native.Mathlib.Omega.{arith}
 use borrow.Rule.Slice.PartMut.{putMid, mid-len, same-len-mid}
 use lib.ListN.{length, getD, take, length-append, List·getD-append}
-use lib.Seq.{take-at, take-all, length-take-le, getD-append-add}
+use lib.Seq.{take-at, take-all, length-take-le, getD-append-add, ext-getD}
 use Rattle.whole.specs.Table.{table, table-rows}
 use Rattle.whole.proofs.Table.{table-length, table-at}
+
+-- ---- the place p of a list of m rows of n: it lies in row p / n, at column p % n
+pub record Split (m n p : ℕ) : Type 0 where
+  pub row : p / n < m
+  pub column : p % n < n
+  pub whole : p / n * n + p % n ≡ p
+
+pub split : (m n p : ℕ) → p < m * n → Split m n p
+split m n p h =
+    let some : 0 < n = some-columns n h in
+    record { row = N.div-lt-iff-lt-mul {k = n} {x = p} {y = m} some .1 h; column = N.mod-lt p some; whole = N.div-add-mod' p n }
+  where
+    some-columns : (n : ℕ) → p < m * n → 0 < n
+    some-columns zero h = let z : ⊥ = omega (arith, N.mul-zero m) in absurd z
+    some-columns (suc n) h = omega arith
 
 module _ {A : Type 0} (f : ℕ → ℕ → A) where
   pub rows-length : (m n : ℕ) → length (table-rows f m n) ≡ m * n
@@ -58,6 +73,16 @@ module _ {A : Type 0} (f : ℕ → ℕ → A) where
           let e : m * n + i ≡ t = omega arith in
           subst (λ v. P (getD (table-rows f m n ++ table (f m) n) v d)) e
           (subst P (sym (rows-at (suc m) n m i d (omega arith) r)) (h m i (omega arith) r))
+
+  -- ---- every place is written: the p-th entry is that of row p / n and column p % n
+  pub rows-flat :
+      (m n : ℕ) (d : A) (l : List A) → length l ≡ m * n → ((p : ℕ) → p < m * n → getD l p d ≡ f (p / n) (p % n)) → l ≡ table-rows f m n
+  rows-flat m n d l e h = ext-getD d l (table-rows f m n) (e ∙ sym (rows-length m n)) (λ p q. h p (omega arith) ∙ sym (there p (omega arith)))
+    where
+      there : (p : ℕ) → p < m * n → getD (table-rows f m n) p d ≡ f (p / n) (p % n)
+      there p q =
+          let s = split m n p q in
+          ap (λ t. getD (table-rows f m n) t d) (sym (s .whole)) ∙ rows-at m n (p / n) (p % n) d (s .row) (s .column)
 
   -- ---- the first rows are written
   pub rows-none : (n : ℕ) (l : List A) → take (0 * n) l ≡ table-rows f 0 n

@@ -5,3 +5,4 @@ pub mod Table
 pub mod Search
 pub mod Order
 pub mod Rules
+pub mod Network

@@ -1,4 +1,4 @@
--- A bounded search: whether a number passes a test, how many do, and which is the first; two searches of a list. Assumes nothing.
+-- A bounded search: whether a number passes a test, how many do, and which is the first; three searches of a list. Assumes nothing.
 use mathlib.Core.Bool.{Bool, false, cond, _||_}
 use mathlib.Core.List.{List}
 use Prim.Native.Nat.{ℕ, zero, suc, _+_}
@@ -6,7 +6,7 @@ use lib.Dec.{ltb}
 use lib.IntN.{ℤ}
 use lib.ListN.{length, getD}
 use Rattle.whole.specs.Integer.{beyond}
-use Rattle.whole.specs.Table.{at}
+use Rattle.whole.specs.Table.{at, pair-at}
 
 -- whether some number below n passes the test
 unfoldable pub some : (ℕ → Bool) → ℕ → Bool
@@ -30,3 +30,7 @@ any-beyond limit numbers = some (λ k. beyond limit (at numbers k)) (length numb
 -- a number of the list is above the limit
 unfoldable pub any-above : ℕ → List ℕ → Bool
 any-above limit numbers = some (λ k. ltb limit (getD numbers k 0)) (length numbers)
+
+-- a weight stands on the diagonal of a list that has a row of n for each zone
+unfoldable pub any-on-diagonal : ℕ → List ℕ → Bool
+any-on-diagonal n weights = some (λ i. ltb 0 (pair-at weights n i i)) n

@@ -6,9 +6,9 @@ use mir.Syntax.{w64}
 use Rattle.whole.specs.Integer.{is-zero}
 use Rattle.whole.proofs.Machine.{told, zero-yes, zero-no}
 use Rattle.whole.specs.Table.{at, pair-at}
-use Rattle.whole.specs.Search.{any-beyond, any-above}
+use Rattle.whole.specs.Search.{any-beyond, any-above, any-on-diagonal}
 use Rattle.account.specs.Measures.{weight-of, spread-of}
-use Rattle.account.specs.Refusals.{any-on-diagonal, job-rules}
+use Rattle.account.specs.Refusals.{job-rules}
 use Rattle.account.specs.Steps.{Valued, Weighted}
 use Rattle.account.proofs.Sizes.{weight-size}
 use Rattle.account.proofs.Reading.{weight-le}

@@ -9,8 +9,8 @@ use lib.Dec.{ltb}
 use lib.ListN.{length, getD}
 use Rattle.whole.specs.Search.{some, any-above}
 use Rattle.whole.proofs.Search.{some-zero, some-more, some-found, some-done}
-use Rattle.account.proofs.judging.any_above.Statement.{statement}
-use Rattle.account.proofs.judging.any_above.Tie as tie
+use Rattle.judges.proofs.any_above.Statement.{statement}
+use Rattle.judges.proofs.any_above.Tie as tie
 
 abbrev Inv-loop : tie.InvT-loop
 Inv-loop limit numbers i₀ i = (i ≤ length numbers) × (some (λ k. ltb limit (getD numbers k 0)) i ≡ false)
