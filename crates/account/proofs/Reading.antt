@@ -18,10 +18,6 @@ use Rattle.account.specs.Measures.{row-of, pairs-of, weight-of}
 use Rattle.account.specs.Steps.{Sized, Valued, Weighted}
 use Rattle.account.proofs.Sizes.{square-size}
 
--- up to 64 zones have up to 4,096 weights
-pub few : (n : ℕ) → n ≤ 64 → n * n ≤ 4096
-few n h = N.mul-le-mul {n₂ = 64} {m₂ = 64} h h
-
 -- ---- a list that holds a table whose entries are small
 pub table-sized : (b n : ℕ) (f : ℕ → ℤ) (l : List ℤ) → l ≡ table f n → ((k : ℕ) → k < n → natAbs (f k) ≤ b) → Sized b l n
 table-sized b n f l e h = record {

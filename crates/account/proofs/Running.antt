@@ -10,10 +10,11 @@ use Rattle.whole.specs.Sum.{sum}
 use Rattle.whole.proofs.Accumulate.{Bounded}
 use Rattle.whole.proofs.SumSize.{sum-size}
 use Rattle.whole.specs.Table.{at, pair-at}
+use Rattle.whole.proofs.Lists.{few}
 use Rattle.account.specs.Measures.{row-of}
 use Rattle.account.specs.Steps.{Sized, Valued, Weighted, Job}
 use Rattle.account.proofs.Sizes.{total-size, before-size, spread-size, square-size, row-size, rows-size}
-use Rattle.account.proofs.Reading.{few, weight-le}
+use Rattle.account.proofs.Reading.{weight-le}
 
 -- ---- S and M
 module _ (values : List ℤ) (n : ℕ) (v : Valued values n) where

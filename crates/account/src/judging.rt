@@ -11,28 +11,6 @@ ghost use Rattle.account.specs.Refusals.{job-rules, job-lengths, call-ru
 ghost use Rattle.account.specs.Classes.{class-refusal};
 ghost use Rattle.account.specs.Rank.{shuffle-count, rank-refusal};
 
-// 1 and 2: n, and the lengths of a job's two lists and of the n places that are lent.
-pub fn judge_sizes(n: usize, values: usize, weights: usize, places: usize) -> u8
-    ensures { λ r. ⌜ r ≡ first-broken (size-rules n (job-lengths n values weights ((places, n) ∷ []))) ⌝ }
-{
-    if n < 2 {
-        return 1;
-    }
-    if n > 64 {
-        return 1;
-    }
-    if values != n {
-        return 2;
-    }
-    if weights != n * n {
-        return 2;
-    }
-    if places != n {
-        return 2;
-    }
-    0
-}
-
 // 3 to 7, of a job whose sizes are good.
 pub fn judge_job(n: usize, values: &[i32], weights: &[u8]) -> u8
     requires { ⌜ n ≤ 64 ⌝ }
@@ -63,7 +41,7 @@ pub fn judge_job(n: usize, values: &[i32], weights: &[u8]) -> u8
 pub fn judge_account(n: usize, values: &[i32], weights: &[u8], places: usize) -> u8
     ensures { λ r. ⌜ r ≡ first-broken (call-rules n (now (values .entry)) (now (weights .entry)) ((places, n) ∷ []) []) ⌝ }
 {
-    let sizes = judge_sizes(n, values.len(), weights.len(), places);
+    let sizes = judges::judge_sizes(n, values.len(), weights.len(), places, n);
     if sizes != 0 {
         return sizes;
     }
@@ -83,7 +61,7 @@ pub fn judge_class_sizes(
     ensures { λ r. ⌜ r ≡ first-broken
         (size-rules n (job-lengths n values weights ((classes, n * n) ∷ (rows, room) ∷ (locals, 9 * n) ∷ []))) ⌝ }
 {
-    let sizes = judge_sizes(n, values, weights, n);
+    let sizes = judges::judge_sizes(n, values, weights, n, n);
     if sizes != 0 {
         return sizes;
     }
@@ -137,7 +115,7 @@ pub fn judge_classes(
 pub fn judge_rank_sizes(n: usize, values: usize, weights: usize, shuffles: usize) -> u8
     ensures { λ r. ⌜ r ≡ first-broken (size-rules n (job-lengths n values weights ((shuffles, shuffle-count n shuffles * n) ∷ []))) ⌝ }
 {
-    let sizes = judge_sizes(n, values, weights, n);
+    let sizes = judges::judge_sizes(n, values, weights, n, n);
     if sizes != 0 {
         return sizes;
     }

@@ -11,6 +11,10 @@ use lib.Seq.{take-at}
 pub within : (n i j : ℕ) → i < n → j < n → i * n + j < n * n
 within n i j h k = omega (arith, N.mul-le-mul-right n h)
 
+-- up to 64 zones have up to 4,096 pairs
+pub few : (n : ℕ) → n ≤ 64 → n * n ≤ 4096
+few n h = N.mul-le-mul {n₂ = 64} {m₂ = 64} h h
+
 -- the part that was lent, after the loan has come back holding t
 module _ {A : Type 0} (part rest t : List A) (m : ℕ) (q : part ≡ t) (e : length t ≡ m) where
   pub front : take m (part ++ rest) ≡ t

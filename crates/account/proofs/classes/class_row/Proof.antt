@@ -6,11 +6,10 @@ use native.Mathlib.Omega.{arith}
 use lib.ListN.{length}
 use lib.Seq.{length-take-le}
 use Rattle.whole.specs.Table.{at, pair-at}
-use Rattle.whole.proofs.Lists.{front, front-le, front-length}
+use Rattle.whole.proofs.Lists.{front, front-le, front-length, few}
 use Rattle.account.specs.Answers.{class-row, job-locals}
 use Rattle.account.specs.Steps.{Weighted, weights-in}
 use Rattle.account.proofs.ByClass.{in-length, in-weighted, row-is, locals-in}
-use Rattle.account.proofs.Reading.{few}
 use borrow.Author.Needs.{needs}
 use Rattle.account.proofs.classes.class_row.Statement.{statement}
 use Rattle.account.proofs.classes.class_row.Tie as tie

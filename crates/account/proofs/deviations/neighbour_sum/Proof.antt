@@ -9,11 +9,11 @@ use mir.Syntax.{w64}
 use mir.Val.{toZ, ofZ}
 use Rattle.whole.specs.Sum.{sum}
 use Rattle.whole.proofs.Accumulate.{acc-none, acc-more, acc-done}
-use Rattle.whole.proofs.Lists.{within}
+use Rattle.whole.proofs.Lists.{within, few}
 use Rattle.whole.proofs.Machine.{Is, val, nat, rd, is-*, fit, fits-le, r64}
 use Rattle.whole.specs.Table.{at, pair-at}
 use Rattle.account.specs.Measures.{row-of}
-use Rattle.account.proofs.Reading.{few, place, weight-le}
+use Rattle.account.proofs.Reading.{place, weight-le}
 use Rattle.account.proofs.Running.{neighbours-run}
 use Rattle.account.proofs.deviations.neighbour_sum.Statement.{statement}
 use Rattle.account.proofs.deviations.neighbour_sum.Tie as tie

@@ -10,11 +10,11 @@ use mir.Val.{toZ, ofZ}
 use Rattle.whole.specs.Integer.{square}
 use Rattle.whole.specs.Sum.{sum}
 use Rattle.whole.proofs.Accumulate.{acc-none, acc-more, acc-done}
-use Rattle.whole.proofs.Lists.{within}
+use Rattle.whole.proofs.Lists.{within, few}
 use Rattle.whole.proofs.Machine.{Is, nat, rd, is-*, fit, fits-le, r64}
 use Rattle.whole.specs.Table.{at, pair-at}
 use Rattle.account.specs.Measures.{row-of}
-use Rattle.account.proofs.Reading.{few, place, weight-le, read-le, difference-told}
+use Rattle.account.proofs.Reading.{place, weight-le, read-le, difference-told}
 use Rattle.account.proofs.Running.{row-squares-run}
 use Rattle.account.proofs.differences.row_squares.Statement.{statement}
 use Rattle.account.proofs.differences.row_squares.Tie as tie

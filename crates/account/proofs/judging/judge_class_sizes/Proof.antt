@@ -5,9 +5,9 @@ use Prim.Native.Nat.{ℕ, _*_}
 use native.Mathlib.Omega.{arith}
 use borrow.Author.Tests.{le-ltb, eq-eqb, ne-eqb}
 use Rattle.whole.proofs.Rules.{sizes-first}
+use Rattle.whole.proofs.Lists.{few}
 use Rattle.account.specs.Refusals.{job-lengths}
 use Rattle.account.proofs.Accepted.{Fitting, fitting, also-misfits}
-use Rattle.account.proofs.Reading.{few}
 use Rattle.account.proofs.judging.judge_class_sizes.Statement.{statement}
 use Rattle.account.proofs.judging.judge_class_sizes.Tie as tie
 

@@ -1,9 +1,9 @@
 -- `judge_sizes` meets its contract: at each return the tests on the way fix the first rule that is broken. Assumes nothing.
 use native.Mathlib.Omega.{arith}
 use borrow.Author.Tests.{lt-ltb, le-ltb, eq-eqb, ne-eqb}
-use Rattle.account.proofs.Reading.{few}
-use Rattle.account.proofs.judging.judge_sizes.Statement.{statement}
-use Rattle.account.proofs.judging.judge_sizes.Tie as tie
+use Rattle.whole.proofs.Lists.{few}
+use Rattle.judges.proofs.judge_sizes.Statement.{statement}
+use Rattle.judges.proofs.judge_sizes.Tie as tie
 
 returns : tie.Need-returns
 returns c = simp (lt-ltb _ _ (c .if1 .taken))

@@ -1,0 +1,4 @@
+-- Laws of the join table, and its theorems.
+pub mod Counted
+pub mod Accepted
+pub mod Theorems

@@ -1,0 +1,1 @@
+-- Theorems of the join table. Assumes nothing.

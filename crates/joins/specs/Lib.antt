@@ -1,0 +1,2 @@
+-- Meaning: Joins.
+pub mod Joins
