@@ -16,3 +16,4 @@ pub mod Machine
 pub mod Sign
 pub mod Accumulate
 pub mod Lists
+pub mod Network

@@ -18,14 +18,15 @@ pub record Split (m n p : ℕ) : Type 0 where
   pub column : p % n < n
   pub whole : p / n * n + p % n ≡ p
 
+-- where there is a place there is a column
+pub some-columns : (m n p : ℕ) → p < m * n → 0 < n
+some-columns m zero p h = let z : ⊥ = omega (arith, N.mul-zero m) in absurd z
+some-columns m (suc n) p h = omega arith
+
 pub split : (m n p : ℕ) → p < m * n → Split m n p
 split m n p h =
-    let some : 0 < n = some-columns n h in
+    let some : 0 < n = some-columns m n p h in
     record { row = N.div-lt-iff-lt-mul {k = n} {x = p} {y = m} some .1 h; column = N.mod-lt p some; whole = N.div-add-mod' p n }
-  where
-    some-columns : (n : ℕ) → p < m * n → 0 < n
-    some-columns zero h = let z : ⊥ = omega (arith, N.mul-zero m) in absurd z
-    some-columns (suc n) h = omega arith
 
 module _ {A : Type 0} (f : ℕ → ℕ → A) where
   pub rows-length : (m n : ℕ) → length (table-rows f m n) ≡ m * n
