@@ -2,13 +2,15 @@
 -- shared out among parts give sums that add up, and W and M are not below 0.
 -- Assumes nothing.
 use mathlib.Core.Path.{_≡_, refl, sym, ap, _∙_}
+use mathlib.Core.Bool.{Bool, true, false, cond}
 use Prim.Native.Nat.{ℕ, _<_}
-use lib.IntN.{ℤ, pos, natAbs, _-ℤ_, _*ℤ_}
+use lib.Dec.{eqb}
+use lib.IntN.{ℤ, pos, natAbs, _-ℤ_, _*ℤ_, zero-*ℤ}
 use Rattle.whole.specs.Integer.{square}
 use Rattle.whole.specs.Sum.{sum}
 use Rattle.whole.proofs.Integer.{*-left-comm}
 use Rattle.whole.proofs.Size.{square-above, *-above}
-use Rattle.whole.proofs.Sum.{sum-cong, sum-scale, sum-swap}
+use Rattle.whole.proofs.Sum.{sum-cong, sum-scale, sum-swap, sum-pick}
 use Rattle.whole.proofs.SumSize.{sum-above}
 use Rattle.account.specs.Measures.{spread-of, row-of, pairs-of, weight-of, cross-of, squares-of, local-of}
 
@@ -48,6 +50,14 @@ unfolding local-of cross-of pairs-of row-of
 locals-sum f d n =
     sum-cong _ _ n
     (λ i p. sym (sum-scale (d i) (λ j. pos (f i j) *ℤ d j) n) ∙ sum-cong _ _ n (λ j q. *-left-comm (d i) (pos (f i j)) (d j)))
+
+-- ---- a weight that counts in the part of its label alone: the m parts add up to it
+pub part-of : (b : Bool) (v : ℕ) (z : ℤ) → pos (cond b v 0) *ℤ z ≡ cond b (pos v *ℤ z) (pos 0)
+part-of true v z = refl
+part-of false v z = zero-*ℤ z
+
+pub counts-once : (label v m : ℕ) (z : ℤ) → label < m → sum (λ k. pos (cond (eqb label k) v 0) *ℤ z) m ≡ pos v *ℤ z
+counts-once label v m z h = sum-cong _ _ m (λ k p. part-of (eqb label k) v z) ∙ sum-pick label m (pos v *ℤ z) h
 
 -- ---- where the m parts of each weight add up to it, in what they count, so do the sums
 module _ (f : ℕ → ℕ → ℕ → ℕ) (g : ℕ → ℕ → ℕ) (m n : ℕ)

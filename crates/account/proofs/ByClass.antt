@@ -6,12 +6,10 @@ use mathlib.Core.List.{List}
 use Prim.Native.Nat.{ℕ, _+_, _*_, _≤_, _<_}
 use native.Mathlib.Omega.{arith}
 use lib.Dec.{eqb}
-use lib.IntN.{ℤ, pos, _*ℤ_, zero-*ℤ}
+use lib.IntN.{ℤ, pos}
 use lib.ListN.{length, getD}
-use Rattle.whole.specs.Sum.{sum}
 use Rattle.whole.specs.Table.{table, at, pair-at}
 use Rattle.whole.proofs.Lists.{within}
-use Rattle.whole.proofs.Sum.{sum-cong, sum-pick}
 use Rattle.whole.proofs.Table.{table-length, table-at, table-cong}
 use Rattle.account.specs.Measures.{deviation-of}
 use Rattle.account.specs.Answers.{class-row, job-locals}
@@ -71,16 +69,3 @@ module _ (weights classes : List ℕ) (k : ℕ) where
         let d = deviation-of (at values) n in
         let f = pair-at (weights-in weights classes k) n in
         table-cong _ _ n (pos 0) (local-cong f (class-weight weights classes n k) n in-pairs d d (λ i p. refl))
-
--- ---- each weight counts in one class of the nine
-part-of : (b : Bool) (v : ℕ) (z : ℤ) → pos (cond b v 0) *ℤ z ≡ cond b (pos v *ℤ z) (pos 0)
-part-of true v z = refl
-part-of false v z = zero-*ℤ z
-
-pub counts-once :
-    (weights classes : List ℕ) (n : ℕ) (z : ℤ) (i j : ℕ) → pair-at classes n i j < 9 →
-    sum (λ k. pos (class-weight weights classes n k i j) *ℤ z) 9 ≡ pos (pair-at weights n i j) *ℤ z
-unfolding class-weight
-counts-once weights classes n z i j h =
-    sum-cong _ _ 9 (λ k r. part-of (eqb (pair-at classes n i j) k) (pair-at weights n i j) z)
-    ∙ sum-pick (pair-at classes n i j) 9 (pos (pair-at weights n i j) *ℤ z) h

@@ -22,8 +22,8 @@ use Rattle.account.specs.Refusals.{job-rules, call-rules, account-rules,
 use Rattle.account.specs.Answers.{class-row}
 use Rattle.account.specs.Classes.{class-weight, class-row-of, class-local-of, sum-at, row-at, class-sums, class-locals, class-rules}
 use Rattle.account.proofs.Accepted.{let-in, account-called, classed, class-called}
-use Rattle.account.proofs.Adding.{locals-sum, weight-parts, cross-parts, squares-parts, local-parts}
-use Rattle.account.proofs.ByClass.{class-le, counts-once}
+use Rattle.account.proofs.Adding.{locals-sum, counts-once, weight-parts, cross-parts, squares-parts, local-parts}
+use Rattle.account.proofs.ByClass.{class-le}
 use Rattle.account.proofs.Reading.{weight-le}
 use Rattle.account.proofs.Theorems.{within-limits}
 
@@ -51,8 +51,8 @@ module _ (n : ℕ) (values : List ℤ) (weights classes : List ℕ) where
       (k i : ℕ) → k < 9 → i < n → at (class-locals n values weights classes) (k * n + i) ≡ class-local-of n values weights classes k i
   unfolding class-locals
   class-locals-at k i h p = rows.rows-at (class-local-of n values weights classes) 9 n k i (pos 0) h p
-      -- the local numerators of a class add up to its P
 
+  -- the local numerators of a class add up to its P
   pub class-adds-up : (k : ℕ) → sum (class-local-of n values weights classes k) n ≡ class-row-of n values weights classes k .cross
   unfolding class-local-of class-row-of class-row
   class-adds-up k = locals-sum (class-weight weights classes n k) (deviation-of (at values) n) n
@@ -86,9 +86,10 @@ module _ (n : ℕ) (values : List ℤ) (weights classes : List ℕ) (lent : List
   shared :
       (z : ℤ) (i j : ℕ) → i < n → j < n →
       sum (λ k. pos (class-weight weights classes n k i j) *ℤ z) 9 ≡ pos (pair-at weights n i j) *ℤ z
-  unfolding pair-at
+  unfolding pair-at class-weight
   shared z i j p q =
-      counts-once weights classes n z i j (omega (arith, classed n values weights classes lent taken .low (i * n + j) (within n i j p q)))
+      counts-once (pair-at classes n i j) (pair-at weights n i j) 9 z
+      (omega (arith, classed n values weights classes lent taken .low (i * n + j) (within n i j p q)))
 
   -- so the nine classes, unclassed pairs included, add up to W, P and G, and in each zone to its L
   pub nine-weights : sum (λ k. class-row-of n values weights classes k .weight) 9 ≡ weight-of (pair-at weights n) n

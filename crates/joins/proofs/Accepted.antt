@@ -19,7 +19,8 @@ pub record Accepted (n : ℕ) (categories weights : List ℕ) (room : ℕ) : Typ
   pub clear : any-on-diagonal n weights ≡ false
   pub low : any-above 7 categories ≡ false
 
-pub accepted : (n : ℕ) (categories weights : List ℕ) (room : ℕ) → join-refusal n categories weights room ≡ 0 → Accepted n categories weights room
+pub accepted :
+    (n : ℕ) (categories weights : List ℕ) (room : ℕ) → join-refusal n categories weights room ≡ 0 → Accepted n categories weights room
 unfolding join-refusal join-rules
 accepted n categories weights room e =
     let lengths : List (ℕ × ℕ) = (length categories, n) ∷ (length weights, n * n) ∷ (room, 64) ∷ [] in

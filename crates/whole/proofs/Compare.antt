@@ -1,12 +1,14 @@
 -- Two integers compared: one of less, equal and greater holds. Assumes nothing.
 use mathlib.Core.Path.{_≡_, refl, sym, ap, _∙_, subst}
-use mathlib.Core.Bool.{Bool, true, false, true≢false}
+use mathlib.Core.Bool.{Bool, true, false, not, true≢false}
 use Prim.Native.Nat.{ℕ, zero, suc, _*_, _<_}
 use native.Mathlib.Nat as N
+use native.Mathlib.Decide.{decLt}
 use native.Mathlib.Omega.{arith}
-use borrow.Author.Tests.{lt-ltb, le-ltb, eq-eqb, ne-eqb, ltb-true, ltb-false, eqb-true}
+use borrow.Author.Tests.{lt-ltb, le-ltb, lt-leb, le-leb, eq-eqb, ne-eqb, ltb-true, ltb-false, eqb-true}
 use lib.IntN.{ℤ, pos, negsuc, negℤ, natAbs, _-ℤ_, _*ℤ_, +ℤ-invr}
-use lib.Signed.{ltZ, _≤ℤ_}
+use lib.Dec.{ltb, leb}
+use lib.Signed.{ltZ, leZ, _≤ℤ_}
 use Rattle.whole.specs.Integer.{equal}
 use Rattle.whole.proofs.Integer.{equal-of-diff}
 use Rattle.whole.proofs.Size.{zero-of-size, one-above, one-some}
@@ -19,7 +21,7 @@ pub equal-true : (a b : ℤ) → equal a b ≡ true → a ≡ b
 equal-true a b e = equal-of-diff a b (zero-of-size (a -ℤ b) (eqb-true (natAbs (a -ℤ b)) 0 e))
 
 -- where a and b are two numbers the test fails
-unequal : (a b : ℤ) → (a ≡ b → ⊥) → equal a b ≡ false
+pub unequal : (a b : ℤ) → (a ≡ b → ⊥) → equal a b ≡ false
 unequal a b f = ne-eqb (natAbs (a -ℤ b)) 0 (λ e. f (equal-of-diff a b (zero-of-size (a -ℤ b) e)))
 
 -- ---- less
@@ -63,6 +65,20 @@ less-trans (negsuc a) (pos b) (pos c) h k = refl
 less-trans (negsuc a) (pos b) (negsuc c) h k = absurd (true≢false (sym k))
 less-trans (negsuc a) (negsuc b) (pos c) h k = refl
 less-trans (negsuc a) (negsuc b) (negsuc c) h k = lt-ltb c a (N.lt-trans (ltb-true c b k) (ltb-true b a h))
+
+-- at most is not more
+at-most-size : (a b : ℕ) → leb a b ≡ not (ltb b a)
+at-most-size a b = go (decLt b a)
+  where
+    go : Dec (b < a) → leb a b ≡ not (ltb b a)
+    go (yes h) = lt-leb a b h ∙ sym (ap not (lt-ltb b a h))
+    go (no h) = le-leb a b (omega arith) ∙ sym (ap not (le-ltb b a (omega arith)))
+
+pub at-most : (a b : ℤ) → leZ a b ≡ not (ltZ b a)
+at-most (pos a) (pos b) = at-most-size a b
+at-most (pos a) (negsuc b) = refl
+at-most (negsuc a) (pos b) = refl
+at-most (negsuc a) (negsuc b) = at-most-size b a
 
 -- ---- two numbers compare as their products by a number from 1 do
 -- a number below 0 and one that is not

@@ -6,7 +6,8 @@ use native.Mathlib.Nat as N
 use native.Mathlib.Numerals.{add-one}
 use native.Mathlib.Decide.{ℕ-discrete}
 use native.Mathlib.Omega.{arith}
-use Rattle.whole.specs.Search.{count, first}
+use Rattle.whole.specs.Search.{some, count, first}
+use Rattle.whole.proofs.Search.{some-none}
 
 -- what one number adds to a count is 0 or 1
 at-most-one : (b : Bool) → cond b 1 0 ≤ 1
@@ -30,6 +31,20 @@ first-found test (suc n) (suc k) h e = go (test 0) refl (first-found (λ i. test
         (cond b 0 (suc (first (λ i. test (suc i)) n)) < suc n) × (test (cond b 0 (suc (first (λ i. test (suc i)) n))) ≡ true)
     go true p g = (omega arith, p)
     go false p g = (omega (arith, g .0), g .1)
+
+-- the first that passes is k, where none before k does and k does
+first-here : (test : ℕ → Bool) (n k : ℕ) → k < n → ((i : ℕ) → i < k → test i ≡ false) → test k ≡ true → first test n ≡ k
+unfolding first
+first-here test zero k h f e = let z : ⊥ = omega arith in absurd z
+first-here test (suc n) zero h f e = rw e refl
+first-here test (suc n) (suc k) h f e =
+    rw (f 0 (omega arith)) (ap suc (first-here (λ i. test (suc i)) n k (omega arith) (λ i p. f (suc i) (omega arith)) e))
+
+-- it is n, where none below n does
+first-past : (test : ℕ → Bool) (n : ℕ) → ((i : ℕ) → i < n → test i ≡ false) → first test n ≡ n
+unfolding first
+first-past test zero f = refl
+first-past test (suc n) f = rw (f 0 (omega arith)) (ap suc (first-past (λ i. test (suc i)) n (λ i p. f (suc i) (omega arith))))
 
 module _ (test : ℕ → Bool) where
   pub count-zero : count test 0 ≡ 0
@@ -58,6 +73,13 @@ module _ (test : ℕ → Bool) where
 
   pub first-passes : (n k : ℕ) → k < n → test k ≡ true → test (first test n) ≡ true
   first-passes n k h e = first-found test n k h e .1
+
+  -- a loop that looks for the first has met it at k, and one that has passed all n has met none
+  pub first-is : (n k : ℕ) → k < n → some test k ≡ false → test k ≡ true → first test n ≡ k
+  first-is n k h p e = first-here test n k h (λ i q. some-none test k i p q) e
+
+  pub none-first : (n : ℕ) → some test n ≡ false → first test n ≡ n
+  none-first n p = first-past test n (λ i q. some-none test n i p q)
 
 pub count-cong : (a b : ℕ → Bool) (n : ℕ) → ((k : ℕ) → k < n → a k ≡ b k) → count a n ≡ count b n
 unfolding count

@@ -10,7 +10,8 @@ use mathlib.Core.Bool.{true, false}
 use mir.Syntax.{Width, w32, w64}
 use mir.Val.{SFits, hbits, toZ, ofZ}
 use mir.ValLaws.{toZ-ofZ}
-use Rattle.whole.specs.Integer.{is-zero}
+use Rattle.whole.specs.Integer.{is-zero, equal}
+use Rattle.whole.proofs.Compare.{equal-same, unequal}
 use Rattle.whole.proofs.Size.{fits-size, size-+-le, size---le, size-*-le, zero-of-size}
 
 -- ---- a number of size at most b
@@ -79,3 +80,11 @@ zero-yes w {y} {z} {b} i t e =
 
 pub zero-no : (w : Width) {y z : ℤ} → y ≡ z → (ofZ w y ≡ ofZ w (pos 0) → ⊥) → is-zero z ≡ false
 zero-no w {y} {z} i f = ne-eqb (natAbs z) 0 (λ e. f (ap (ofZ w) (i ∙ zero-of-size z e)))
+
+-- ---- two numbers compared: the test is one of their bits
+pub same-yes : (w : Width) (a b : ℤ) → SFits w a → SFits w b → ofZ w a ≡ ofZ w b → equal a b ≡ true
+same-yes w a b p q e =
+    subst (λ (x : ℤ). equal a x ≡ true) (sym (toZ-ofZ w a p) ∙ ap (toZ w) e ∙ toZ-ofZ w b q) (equal-same a)
+
+pub same-no : (w : Width) (a b : ℤ) → (ofZ w a ≡ ofZ w b → ⊥) → equal a b ≡ false
+same-no w a b f = unequal a b (λ e. f (ap (ofZ w) e))

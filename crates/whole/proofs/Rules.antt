@@ -1,7 +1,7 @@
 -- Laws of `first-broken`: what a judge that tests rule by rule has shown, and that its answer is the least number that applies.
 -- Assumes nothing.
 use mathlib.Core.Path.{_≡_, refl, sym, ap, _∙_, subst}
-use mathlib.Core.Bool.{Bool, true, false, not, cond, _||_}
+use mathlib.Core.Bool.{Bool, true, false, not, cond, _||_, _&&_}
 use mathlib.Core.List.{List, [], _∷_, _++_}
 use mathlib.Core.Logic.{inl, inr, ⊎-elim}
 use Prim.Native.Nat.{ℕ, suc, _≤_, _<_}
@@ -78,6 +78,11 @@ neither true b e = absurd (subst T e tt)
 pub beside : (a b : Bool) → b ≡ true → (a || b) ≡ true
 beside true b e = refl
 beside false b e = e
+
+-- two tests do not both pass where the second fails
+pub second-fails : (a b : Bool) → b ≡ false → (a && b) ≡ false
+second-fails true b e = e
+second-fails false b e = refl
 
 -- ---- what the first two rules tell where they hold
 pub in-range : (lowest highest n : ℕ) → outside lowest highest n ≡ false → (lowest ≤ n) × (n ≤ highest)

@@ -78,7 +78,8 @@ module _ {A : Type 0} (f : ℕ → ℕ → A) where
   -- ---- every place is written: the p-th entry is that of row p / n and column p % n
   pub rows-flat :
       (m n : ℕ) (d : A) (l : List A) → length l ≡ m * n → ((p : ℕ) → p < m * n → getD l p d ≡ f (p / n) (p % n)) → l ≡ table-rows f m n
-  rows-flat m n d l e h = ext-getD d l (table-rows f m n) (e ∙ sym (rows-length m n)) (λ p q. h p (omega arith) ∙ sym (there p (omega arith)))
+  rows-flat m n d l e h =
+      ext-getD d l (table-rows f m n) (e ∙ sym (rows-length m n)) (λ p q. h p (omega arith) ∙ sym (there p (omega arith)))
     where
       there : (p : ℕ) → p < m * n → getD (table-rows f m n) p d ≡ f (p / n) (p % n)
       there p q =

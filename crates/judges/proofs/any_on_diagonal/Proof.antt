@@ -26,7 +26,9 @@ abbrev μ-loop : tie.MeasureT-loop
 μ-loop n weights i₀ place₀ i place = n - i
 
 -- where the next entry lies behind the list's end, so do all later ones
-rest-behind : (n : ℕ) (weights : List ℕ) (i : ℕ) → some (test n weights) i ≡ false → length weights ≤ i * n + i → false ≡ some (test n weights) n
+rest-behind :
+    (n : ℕ) (weights : List ℕ) (i : ℕ) → some (test n weights) i ≡ false → length weights ≤ i * n + i →
+    false ≡ some (test n weights) n
 unfolding pair-at
 rest-behind n weights i e h = sym (none-some (test n weights) n (λ k p. go k (decLt k i)))
   where

@@ -146,7 +146,8 @@ returns : tie.Need-returns Inv-loop μ-loop
 returns c =
     let s = c .before .before in
     let all : c .before .loop .p ≡ n s * n s = omega (arith, c .before .loop .inv .passed, s .pre .1 .1 .0) in
-    all-counted (n s) (categories s) (weights s) (low s) _ (subst (Counted (n s) (categories s) (weights s) (c .before .loop .entries)) all (c .before .loop .inv))
+    all-counted (n s) (categories s) (weights s) (low s) _
+    (subst (Counted (n s) (categories s) (weights s) (c .before .loop .entries)) all (c .before .loop .inv))
 
 pub count-joins-spec : {M : Type 1} → statement M
 count-joins-spec =

@@ -18,8 +18,8 @@ module _ (c : tie.After-judge-sizes) where
 
   abbrev sizes : List Rule
   sizes =
-      size-rules (a .args .n)
-      ((length (a .args .categories .now), a .args .n) ∷ (length (a .args .weights .now), a .args .n * a .args .n) ∷ (a .args .table, 64) ∷ [])
+      let n = a .args .n in
+      size-rules n ((length (a .args .categories .now), n) ∷ (length (a .args .weights .now), n * n) ∷ (a .args .table, 64) ∷ [])
 
   abbrev rest : List Rule
   rest =

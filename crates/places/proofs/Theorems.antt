@@ -1,0 +1,113 @@
+-- Theorems of the Gabriel network and of the bands. Assumes nothing.
+use mathlib.Core.Path.{_≡_, refl, sym, _∙_}
+use mathlib.Core.Bool.{true, false}
+use mathlib.Core.List.{List}
+use Prim.Native.Nat.{ℕ, _≤_, _<_}
+use native.Mathlib.Omega.{arith}
+use borrow.Author.Tests.{ne-eqb, not-false}
+use lib.IntN.{ℤ, _+ℤ_, _-ℤ_}
+use lib.ListN.{length}
+use lib.Signed.{ltZ}
+use Rattle.whole.specs.Integer.{square}
+use Rattle.whole.specs.Network.{Network}
+use Rattle.whole.specs.Search.{any-above, any-on-diagonal}
+use Rattle.whole.specs.Table.{table-rows, pair-at}
+use Rattle.whole.proofs.Integer.{+-swap}
+use Rattle.whole.proofs.Network.{square-at, never-4, never-5, network-listed}
+use Rattle.whole.proofs.Search.{some-none, none-some, all-within}
+use Rattle.whole.proofs.TableRows.{rows-length, rows-each}
+use Rattle.places.specs.Places.{across, up, squared-distance}
+use Rattle.places.specs.Gabriel.{in-circle, gabriel-weight, gabriel-network}
+use Rattle.places.specs.Bands.{pair-class, band-classes}
+use Rattle.places.proofs.Circles.{third-in, third-is, none-in, weight-free, free-weight, weights-network, along, twice}
+use Rattle.places.proofs.Classes.{pair-itself, pair-most, pair-both-ways}
+use Rattle.places.proofs.Distance.{distance-both-ways}
+
+-- ---- the Gabriel network
+
+abbrev weight : List ℤ → ℕ → ℕ → ℕ → ℕ
+weight places n = gabriel-weight (squared-distance places) n
+
+joined-network : (n : ℕ) (places : List ℤ) → Network (weight places n) n
+joined-network n places = weights-network (squared-distance places) (distance-both-ways places) n
+
+-- the weights are 0 or 1, the same both ways, and 0 on the diagonal
+pub gabriel-is-network : (n : ℕ) (places : List ℤ) → Network (pair-at (gabriel-network n places) n) n
+unfolding gabriel-network
+gabriel-is-network n places = network-listed (weight places n) n (joined-network n places)
+
+-- so neither 4 nor 5 applies to them
+pub gabriel-never-4 : (n : ℕ) (places : List ℤ) → any-above 9 (gabriel-network n places) ≡ false
+unfolding gabriel-network
+gabriel-never-4 n places = never-4 (weight places n) n (joined-network n places)
+
+pub gabriel-never-5 : (n : ℕ) (places : List ℤ) → any-on-diagonal n (gabriel-network n places) ≡ false
+unfolding gabriel-network
+gabriel-never-5 n places = never-5 (weight places n) n (joined-network n places)
+
+-- two zones are joined exactly when for every third zone C the squared distance AB is less than AC squared plus BC squared
+pub gabriel-joined :
+    (n : ℕ) (places : List ℤ) (a b : ℕ) → a < n → b < n → (a ≡ b → ⊥) → pair-at (gabriel-network n places) n a b ≡ 1 →
+    (c : ℕ) → c < n → (c ≡ a → ⊥) → (c ≡ b → ⊥) →
+    ltZ (squared-distance places a b) (squared-distance places a c +ℤ squared-distance places b c) ≡ true
+unfolding gabriel-network in-circle
+gabriel-joined n places a b h k apart joined c l p q =
+    let d = squared-distance places in
+    let free = free-weight d a b n (sym (square-at (weight places n) n a b h k) ∙ joined) in
+    not-false (ltZ (d a b) (d a c +ℤ d b c))
+    (sym (third-is d a b c p (ne-eqb c b q)) ∙ some-none (third-in d a b) n c free l)
+
+pub gabriel-joins :
+    (n : ℕ) (places : List ℤ) (a b : ℕ) → a < n → b < n → (a ≡ b → ⊥) →
+    ((c : ℕ) → c < n → (c ≡ a → ⊥) → (c ≡ b → ⊥) →
+    ltZ (squared-distance places a b) (squared-distance places a c +ℤ squared-distance places b c) ≡ true) →
+    pair-at (gabriel-network n places) n a b ≡ 1
+unfolding gabriel-network
+gabriel-joins n places a b h k apart free =
+    let d = squared-distance places in
+    square-at (weight places n) n a b h k
+    ∙ weight-free d a b n apart (none-some (third-in d a b) n (λ c l. none-in d a b c (free c l)))
+
+-- the circle that has a and b at the ends of a diameter: four times the squared distance of c from its midpoint is twice the squared
+-- distances from a and from b, less that of a and b; so c is outside exactly when that is above d(a,b), four times the squared radius
+pub circle :
+    (places : List ℤ) (a b c : ℕ) →
+    square ((across places c +ℤ across places c) -ℤ (across places a +ℤ across places b))
+    +ℤ square ((up places c +ℤ up places c) -ℤ (up places a +ℤ up places b)) +ℤ squared-distance places a b
+    ≡ (squared-distance places a c +ℤ squared-distance places b c) +ℤ (squared-distance places a c +ℤ squared-distance places b c)
+unfolding squared-distance
+circle places a b c =
+    let x = across places in
+    let y = up places in
+    +-swap (square ((x c +ℤ x c) -ℤ (x a +ℤ x b))) (square ((y c +ℤ y c) -ℤ (y a +ℤ y b))) (square (x a -ℤ x b)) (square (y a -ℤ y b))
+    ∙ cc (along (x a) (x b) (x c), along (y a) (y b) (y c))
+    ∙ twice (square (x a -ℤ x c)) (square (x b -ℤ x c)) (square (y a -ℤ y c)) (square (y b -ℤ y c))
+
+-- ---- the bands
+
+-- what the list holds of two zones; the classes are at most 8, the same both ways, and 0 on the diagonal
+pub band-classes-at :
+    (n : ℕ) (places : List ℤ) (bands : List ℕ) (a b : ℕ) → a < n → b < n →
+    pair-at (band-classes n places bands) n a b ≡ pair-class bands (squared-distance places) a b
+unfolding band-classes
+band-classes-at n places bands a b h k = square-at (pair-class bands (squared-distance places)) n a b h k
+
+pub bands-both-ways :
+    (n : ℕ) (places : List ℤ) (bands : List ℕ) (a b : ℕ) → a < n → b < n →
+    pair-at (band-classes n places bands) n a b ≡ pair-at (band-classes n places bands) n b a
+bands-both-ways n places bands a b h k =
+    band-classes-at n places bands a b h k
+    ∙ pair-both-ways bands (squared-distance places) a b (distance-both-ways places a b)
+    ∙ sym (band-classes-at n places bands b a k h)
+
+pub bands-diagonal : (n : ℕ) (places : List ℤ) (bands : List ℕ) (a : ℕ) → a < n → pair-at (band-classes n places bands) n a a ≡ 0
+bands-diagonal n places bands a h =
+    band-classes-at n places bands a a h h ∙ sym (pair-itself bands (squared-distance places) a a refl)
+
+-- so 9 does not apply to them
+pub bands-never-9 : (n : ℕ) (places : List ℤ) (bands : List ℕ) → length bands ≤ 8 → any-above 8 (band-classes n places bands) ≡ false
+unfolding band-classes
+bands-never-9 n places bands few =
+    let f = pair-class bands (squared-distance places) in
+    let low = rows-each f (λ k. k ≤ 8) n n 0 (λ a b p q. omega (arith, pair-most bands (squared-distance places) a b)) in
+    all-within 8 (table-rows f n n) (λ t p. low t (omega (arith, rows-length f n n)))

@@ -1,0 +1,4 @@
+-- Meaning: Places, Gabriel, Bands.
+pub mod Places
+pub mod Gabriel
+pub mod Bands
