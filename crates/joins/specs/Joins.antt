@@ -1,12 +1,13 @@
 -- The join table: categories 0 to 7; T(r,s) = sum of w(i,j) with i in r and j in s. f gives the weight of each ordered pair of zones, and c
 -- the category of each zone. Assumes nothing.
-use mathlib.Core.Bool.{cond, _&&_}
+use mathlib.Core.Bool.{cond, _&&_, _||_}
 use mathlib.Core.List.{List, [], _∷_, _++_}
 use Prim.Native.Nat.{ℕ, _*_}
 use lib.Dec.{eqb}
-use lib.IntN.{ℤ}
+use lib.IntN.{ℤ, pos}
 use lib.ListN.{length, getD}
 use Rattle.whole.specs.Rules.{Rule, first-broken, size-rules, unless-refused}
+use Rattle.whole.specs.Sum.{sum}
 use Rattle.whole.specs.Search.{any-above, any-on-diagonal}
 use Rattle.whole.specs.Table.{table-rows, pair-at}
 use Rattle.account.specs.Measures.{weight-of}
@@ -20,6 +21,18 @@ weight-between f c r s i j = cond (eqb (c i) r && eqb (c j) s) (f i j) 0
 -- T(r,s): the sum of those weights, over all ordered pairs of n zones
 unfoldable pub joins-of : (ℕ → ℕ → ℕ) → (ℕ → ℕ) → ℕ → ℕ → ℕ → ℤ
 joins-of f c n r s = weight-of (weight-between f c r s) n
+
+-- like joins of category r: the weights of the pairs i < j with both zones in r
+unfoldable pub like-joins : (ℕ → ℕ → ℕ) → (ℕ → ℕ) → ℕ → ℕ → ℤ
+like-joins f c n r = sum (λ j. sum (λ i. pos (weight-between f c r r i j)) j) n
+
+-- the weight of a pair with one zone in r and the other in s, and 0 of another pair
+unfoldable pub weight-across : (ℕ → ℕ → ℕ) → (ℕ → ℕ) → ℕ → ℕ → ℕ → ℕ → ℕ
+weight-across f c r s i j = cond ((eqb (c i) r && eqb (c j) s) || (eqb (c i) s && eqb (c j) r)) (f i j) 0
+
+-- unlike joins of categories r and s: those of the pairs i < j
+unfoldable pub unlike-joins : (ℕ → ℕ → ℕ) → (ℕ → ℕ) → ℕ → ℕ → ℕ → ℤ
+unlike-joins f c n r s = sum (λ j. sum (λ i. pos (weight-across f c r s i j)) j) n
 
 -- the category of each zone, of a list
 abbrev pub category-at : List ℕ → ℕ → ℕ

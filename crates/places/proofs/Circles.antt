@@ -1,14 +1,14 @@
 -- Laws of the circle of two zones, and of the weight that the search for a third zone in it comes to. Assumes nothing.
 use mathlib.Core.Path.{_≡_, refl, sym, ap, _∙_}
-use mathlib.Core.Bool.{Bool, true, false, not, cond, _&&_, _||_, or-comm}
-use Prim.Native.Nat.{ℕ, _≤_, _<_}
-use native.Mathlib.Decide.{ℕ-discrete}
+use mathlib.Core.Bool.{Bool, true, false, not, cond, _&&_, _||_, or-comm, true≢false}
+use Prim.Native.Nat.{ℕ, _≤_, _<_, _+_}
+use native.Mathlib.Decide.{ℕ-discrete, decLt}
 use native.Mathlib.Omega.{arith}
-use borrow.Author.Tests.{eqb-true, eqb-false, eq-eqb, ne-eqb}
-use lib.Dec.{eqb}
-use lib.IntN.{ℤ, _+ℤ_, _-ℤ_, +ℤ-comm}
+use borrow.Author.Tests.{eqb-true, eqb-false, eq-eqb, ne-eqb, lt-ltb, le-ltb}
+use lib.Dec.{eqb, ltb}
+use lib.IntN.{ℤ, pos, negsuc, natAbs, _+ℤ_, _-ℤ_, +ℤ-comm}
 use lib.Signed.{ltZ, leZ}
-use Rattle.whole.specs.Integer.{square}
+use Rattle.whole.specs.Integer.{square, below-zero}
 use Rattle.whole.specs.Network.{Network}
 use Rattle.whole.specs.Search.{some}
 use Rattle.whole.proofs.Compare.{at-most}
@@ -125,3 +125,15 @@ along a b c = rw (diff-of a, diff-of b, diff-of c) (simp (diff-+, diff-*, diff-n
 
 pub twice : (p q r s : ℤ) → ((p +ℤ q) +ℤ (p +ℤ q)) +ℤ ((r +ℤ s) +ℤ (r +ℤ s)) ≡ ((p +ℤ r) +ℤ (q +ℤ s)) +ℤ ((p +ℤ r) +ℤ (q +ℤ s))
 twice p q r s = +-swap (p +ℤ q) (p +ℤ q) (r +ℤ s) (r +ℤ s) ∙ ap (λ z. z +ℤ z) (+-swap p q r s)
+
+-- where q + m is 2 s, m is less than s exactly when it is less than q
+pub less-halved :
+    (m s q : ℤ) → m ≡ pos (natAbs m) → s ≡ pos (natAbs s) → q ≡ pos (natAbs q) → q +ℤ m ≡ s +ℤ s → ltZ m s ≡ ltZ m q
+less-halved (pos m) (pos s) (pos q) h k l e = go (ap natAbs e) (decLt m s)
+  where
+    go : q + m ≡ s + s → Dec (m < s) → ltb m s ≡ ltb m q
+    go e (yes p) = lt-ltb m s p ∙ sym (lt-ltb m q (omega arith))
+    go e (no p) = le-ltb m s (omega arith) ∙ sym (le-ltb m q (omega arith))
+less-halved (negsuc m) s q h k l e = absurd (true≢false (ap below-zero h))
+less-halved (pos m) (negsuc s) q h k l e = absurd (true≢false (ap below-zero k))
+less-halved (pos m) (pos s) (negsuc q) h k l e = absurd (true≢false (ap below-zero l))

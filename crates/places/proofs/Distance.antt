@@ -4,7 +4,7 @@ use mathlib.Core.Bool.{false}
 use mathlib.Core.List.{List}
 use Prim.Native.Nat.{ℕ, _+_, _*_, _≤_, _<_}
 use native.Mathlib.Omega.{arith}
-use lib.IntN.{ℤ, natAbs, _+ℤ_, _-ℤ_}
+use lib.IntN.{ℤ, natAbs, _+ℤ_, _-ℤ_, pos}
 use lib.ListN.{length}
 use mir.Syntax.{w64}
 use Rattle.whole.specs.Integer.{square}
@@ -12,7 +12,7 @@ use Rattle.whole.specs.Search.{any-beyond}
 use Rattle.whole.proofs.Integer.{diff-of, diff-+, diff-*, diff-neg, diff-eq}
 use Rattle.whole.proofs.Machine.{Is, told, rd, r64}
 use Rattle.whole.proofs.Search.{none-beyond}
-use Rattle.whole.proofs.Size.{size-+-le, size---le, size-*-le}
+use Rattle.whole.proofs.Size.{size-+-le, size---le, size-*-le, +-above, square-above}
 use Rattle.places.specs.Places.{across, up, squared-distance}
 
 -- ---- the size
@@ -48,3 +48,12 @@ unfolding squared-distance
 distance-both-ways places a b =
     ap (λ z. z +ℤ square (up places a -ℤ up places b)) (square-turned (across places a) (across places b))
     ∙ ap (λ z. square (across places b -ℤ across places a) +ℤ z) (square-turned (up places a) (up places b))
+
+-- ---- not below 0
+
+pub squares-above : (x y : ℤ) → square x +ℤ square y ≡ pos (natAbs (square x +ℤ square y))
+squares-above x y = +-above (square x) (square y) (square-above x) (square-above y)
+
+pub distance-above : (places : List ℤ) (a b : ℕ) → squared-distance places a b ≡ pos (natAbs (squared-distance places a b))
+unfolding squared-distance
+distance-above places a b = squares-above (across places a -ℤ across places b) (up places a -ℤ up places b)

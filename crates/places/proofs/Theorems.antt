@@ -1,6 +1,6 @@
 -- Theorems of the Gabriel network and of the bands. Assumes nothing.
-use mathlib.Core.Path.{_≡_, refl, sym, _∙_}
-use mathlib.Core.Bool.{true, false}
+use mathlib.Core.Path.{_≡_, refl, sym, ap, _∙_}
+use mathlib.Core.Bool.{true, false, not}
 use mathlib.Core.List.{List}
 use Prim.Native.Nat.{ℕ, _≤_, _<_}
 use native.Mathlib.Omega.{arith}
@@ -16,12 +16,13 @@ use Rattle.whole.proofs.Integer.{+-swap}
 use Rattle.whole.proofs.Network.{square-at, never-4, never-5, network-listed}
 use Rattle.whole.proofs.Search.{some-none, none-some, all-within}
 use Rattle.whole.proofs.TableRows.{rows-length, rows-each}
+use Rattle.whole.proofs.Size.{+-above}
 use Rattle.places.specs.Places.{across, up, squared-distance}
 use Rattle.places.specs.Gabriel.{in-circle, gabriel-weight, gabriel-network}
 use Rattle.places.specs.Bands.{pair-class, band-classes}
-use Rattle.places.proofs.Circles.{third-in, third-is, none-in, weight-free, free-weight, weights-network, along, twice}
+use Rattle.places.proofs.Circles.{third-in, third-is, none-in, weight-free, free-weight, weights-network, along, twice, less-halved}
 use Rattle.places.proofs.Classes.{pair-itself, pair-most, pair-both-ways}
-use Rattle.places.proofs.Distance.{distance-both-ways}
+use Rattle.places.proofs.Distance.{distance-both-ways, squares-above, distance-above}
 
 -- ---- the Gabriel network
 
@@ -68,12 +69,17 @@ gabriel-joins n places a b h k apart free =
     square-at (weight places n) n a b h k
     ∙ weight-free d a b n apart (none-some (third-in d a b) n (λ c l. none-in d a b c (free c l)))
 
--- the circle that has a and b at the ends of a diameter: four times the squared distance of c from its midpoint is twice the squared
--- distances from a and from b, less that of a and b; so c is outside exactly when that is above d(a,b), four times the squared radius
-pub circle :
-    (places : List ℤ) (a b c : ℕ) →
+-- ---- the circle that has a and b at the ends of a diameter
+
+-- four times the squared distance of c from its midpoint
+abbrev pub from-midpoint : List ℤ → ℕ → ℕ → ℕ → ℤ
+from-midpoint places a b c =
     square ((across places c +ℤ across places c) -ℤ (across places a +ℤ across places b))
-    +ℤ square ((up places c +ℤ up places c) -ℤ (up places a +ℤ up places b)) +ℤ squared-distance places a b
+    +ℤ square ((up places c +ℤ up places c) -ℤ (up places a +ℤ up places b))
+
+circle :
+    (places : List ℤ) (a b c : ℕ) →
+    from-midpoint places a b c +ℤ squared-distance places a b
     ≡ (squared-distance places a c +ℤ squared-distance places b c) +ℤ (squared-distance places a c +ℤ squared-distance places b c)
 unfolding squared-distance
 circle places a b c =
@@ -82,6 +88,21 @@ circle places a b c =
     +-swap (square ((x c +ℤ x c) -ℤ (x a +ℤ x b))) (square ((y c +ℤ y c) -ℤ (y a +ℤ y b))) (square (x a -ℤ x b)) (square (y a -ℤ y b))
     ∙ cc (along (x a) (x b) (x c), along (y a) (y b) (y c))
     ∙ twice (square (x a -ℤ x c)) (square (x b -ℤ x c)) (square (y a -ℤ y c)) (square (y b -ℤ y c))
+
+-- c is inside it or on it, as the network has it, exactly when that is not above d(a,b), four times the squared radius
+pub in-circle-is :
+    (places : List ℤ) (a b c : ℕ) →
+    in-circle (squared-distance places) a b c ≡ not (ltZ (squared-distance places a b) (from-midpoint places a b c))
+unfolding in-circle
+in-circle-is places a b c =
+    let d = squared-distance places in
+    let x = across places in
+    let y = up places in
+    ap not
+    (less-halved (d a b) (d a c +ℤ d b c) (from-midpoint places a b c) (distance-above places a b)
+    (+-above (d a c) (d b c) (distance-above places a c) (distance-above places b c))
+    (squares-above ((x c +ℤ x c) -ℤ (x a +ℤ x b)) ((y c +ℤ y c) -ℤ (y a +ℤ y b)))
+    (circle places a b c))
 
 -- ---- the bands
 

@@ -54,6 +54,21 @@ unfolding sum
 sum-swap f zero n = sym (sum-none n)
 sum-swap f (suc m) n = ap (λ x. x +ℤ sum (λ j. f m j) n) (sum-swap f m n) ∙ sym (sum-+ (λ j. sum (λ i. f i j) m) (λ j. f m j) n)
 
+-- a double sum of what is the same both ways, and 0 on the diagonal, is twice the sum over the pairs i < j
+pub pairs-twice :
+    (g : ℕ → ℕ → ℤ) (n : ℕ) → ((i j : ℕ) → i < n → j < n → g i j ≡ g j i) → ((i : ℕ) → i < n → g i i ≡ pos 0) →
+    sum (λ j. sum (λ i. g i j) j) n +ℤ sum (λ j. sum (λ i. g i j) j) n ≡ sum (λ i. sum (λ j. g i j) n) n
+unfolding sum
+pairs-twice g zero both none = refl
+pairs-twice g (suc n) both none =
+    let before = sum (λ j. sum (λ i. g i j) j) n in
+    let column = sum (λ i. g i n) n in
+    let row : sum (λ j. g n j) n ≡ column = sum-cong _ _ n (λ j p. both n j (omega arith) (omega arith)) in
+    +-swap before column before column
+    ∙ ap (λ z. z +ℤ (column +ℤ column)) (pairs-twice g n (λ i j p q. both i j (omega arith) (omega arith)) (λ i p. none i (omega arith)))
+    ∙ sym (+ℤ-assoc (sum (λ i. sum (λ j. g i j) n) n) column column)
+    ∙ cc (sum-+ (λ i. sum (λ j. g i j) n) (λ i. g i n) n, row, none n (omega arith), +ℤ-idr column)
+
 -- ---- one term picked by its number
 sum-miss : (c n : ℕ) (z : ℤ) → n ≤ c → sum (λ k. cond (eqb c k) z (pos 0)) n ≡ pos 0
 unfolding sum
