@@ -4,18 +4,22 @@ use lib.Ieee.{toBits, round}
 use Rattle.whole.specs.Order.{place-of, ordered}
 use Rattle.whole.specs.Search.{count, first}
 use Rattle.whole.specs.Sum.{sum}
-use Rattle.whole.specs.Table.{table, pair-at}
+use Rattle.whole.specs.Table.{table, table-rows, pair-at}
 use Rattle.nearest.specs.Answers.{nearest-float}
 use Rattle.account.specs.Measures.{total-of, deviation-of, spread-of, row-of, pairs-of, weight-of, cross-of, squares-of, local-of}
 use Rattle.account.specs.Answers.{class-row, job-locals}
 use Rattle.account.specs.Classes.{class-weight, class-row-of}
 use Rattle.account.specs.HotList.{hotter, hot-list}
 use Rattle.account.specs.Rank.{shuffle-count, values-cross, shuffle-cross, compared, job-rank}
+use Rattle.joins.specs.Joins.{weight-between, joins-of, join-table}
+use Rattle.places.specs.Places.{across, up, squared-distance}
+use Rattle.places.specs.Bands.{within-band, band-class, pair-class, band-classes}
 use Rattle.report.specs.Coefficients.{coefficient, pair-of, job-pair, class-pair}
 use Rattle.figures.specs.Figures.{right, all-right, published}
 
 pub figures-right : T (all-right published)
-unfolding right all-right published sum count first place-of ordered table pair-at nearest-float round toBits
+unfolding right all-right published sum count first place-of ordered table table-rows pair-at nearest-float round toBits
     total-of deviation-of spread-of row-of pairs-of weight-of cross-of squares-of local-of class-row job-locals class-weight class-row-of
-    hotter hot-list shuffle-count values-cross shuffle-cross compared job-rank coefficient pair-of job-pair class-pair
+    hotter hot-list weight-between joins-of join-table across up squared-distance within-band band-class pair-class band-classes
+    shuffle-count values-cross shuffle-cross compared job-rank coefficient pair-of job-pair class-pair
 figures-right = tt

@@ -1,12 +1,12 @@
 -- The published cases as one table, a row each: what is worked, and what document 01 says that it gives. Assumes nothing.
 use mathlib.Core.Bool.{Bool, true, false, _&&_}
-use mathlib.Core.List.{List, [], _∷_}
+use mathlib.Core.List.{List, [], _∷_, _++_}
 use Prim.Native.Nat.{ℕ, _^_}
 use lib.Dec.{eqb}
 use lib.Ieee.{binary64, toBits}
 use lib.IntN.{ℤ, pos, negsuc, _*ℤ_}
 use Rattle.whole.specs.Integer.{equal}
-use Rattle.whole.specs.Table.{at, pair-at}
+use Rattle.whole.specs.Table.{table, at, pair-at}
 use Rattle.nearest.specs.Answers.{nearest-float}
 use Rattle.nearest.specs.Bits.{value-of}
 use Rattle.account.specs.Measures.{deviation-of, spread-of, weight-of, cross-of, squares-of}
@@ -14,6 +14,8 @@ use Rattle.account.specs.Answers.{job-locals}
 use Rattle.account.specs.Classes.{class-row-of}
 use Rattle.account.specs.HotList.{hot-list}
 use Rattle.account.specs.Rank.{job-rank}
+use Rattle.joins.specs.Joins.{join-table}
+use Rattle.places.specs.Bands.{band-classes}
 use Rattle.report.specs.Coefficients.{job-pair, class-pair}
 use Rattle.report.specs.declared.Coefficient.{Coefficient}
 use Rattle.report.specs.declared.Coefficient.the-variants.{Figure, Weightless}
@@ -40,6 +42,10 @@ pub data Row : Type 0 where
   class : Job → ℕ → ℤ → ℤ → ℤ → Printed → Printed → Row
   -- the zones of a job in hot-list order
   hot : Job → List ℕ → Row
+  -- the join table of a job's weights, under these categories
+  joins : Job → List ℕ → List ℤ → Row
+  -- the classes of a job are those that these places and bands give
+  banded : Job → List ℤ → List ℕ → Row
   -- less, equal and greater: the rank of a job among shuffles
   rank : Job → List ℕ → ℕ → ℕ → ℕ → Row
   -- the nearest float to p / q
@@ -81,6 +87,8 @@ right (class job k w p g moran geary) =
     let worked = class-pair (job .zones) (job .values) (job .weights) (job .classes) k in
     same equal (w ∷ p ∷ g ∷ []) (row .weight ∷ row .cross ∷ row .squares ∷ []) && shows moran (worked .moran) && shows geary (worked .geary)
 right (hot job zones) = same eqb zones (hot-list (job .zones) (job .values) (job .weights))
+right (joins job categories entries) = same equal entries (join-table (job .zones) categories (job .weights))
+right (banded job places bands) = same eqb (job .classes) (band-classes (job .zones) places bands)
 right (rank job shuffles less level greater) =
     same eqb (less ∷ level ∷ greater ∷ []) (job-rank (job .zones) (job .values) (job .weights) shuffles)
 right (ratio p q printed) = prints printed (toBits binary64 (nearest-float p q))
@@ -119,8 +127,13 @@ reported = record {
   classes = 0 ∷ 1 ∷ 0 ∷ 0 ∷ 1 ∷ 0 ∷ 2 ∷ 0 ∷ 0 ∷ 2 ∷ 0 ∷ 0 ∷ 0 ∷ 0 ∷ 0 ∷ 0 ∷ [];
 }
 
--- ---- the table: (a); (b); (c), with I and c; (d), with the unclassed pairs; the report's hot-list order; (f), whose second shuffle
--- exchanges the values of zones 0 and 2; (g) and (h), two ties; (i), below 0; (j)
+-- so many entries of 0
+abbrev pub zeros : ℕ → List ℤ
+zeros n = table (λ k. pos 0) n
+
+-- ---- the table: (a); (b); (c), with I and c; (d), with the unclassed pairs, and that its bands 1 and 4 give these classes; the report's
+-- hot-list order; (e), a row of eight for category 0, then one for 1; (f), whose second shuffle exchanges the values of zones 0 and 2;
+-- (g) and (h), two ties; (i), below 0; (j)
 unfoldable pub published : List Row
 published =
     sums line-of-three (negsuc 17) (pos 4) (pos 42) (pos 34) (pos 18 ∷ negsuc 8 ∷ negsuc 26 ∷ [])
@@ -130,7 +143,9 @@ published =
     ∷ class reported 0 (pos 0) (pos 0) (pos 0) none none
     ∷ class reported 1 (pos 6) (pos 96) (pos 0) (bits 0x3FF0000000000000) (bits 0x0000000000000000)
     ∷ class reported 2 (pos 2) (negsuc 31) (pos 8) (bits 0xBFF0000000000000) (bits 0x3FF8000000000000)
+    ∷ banded reported (pos 0 ∷ pos 0 ∷ pos 1 ∷ pos 0 ∷ pos 3 ∷ pos 0 ∷ pos 9 ∷ pos 9 ∷ []) (1 ∷ 4 ∷ [])
     ∷ hot reported (0 ∷ 1 ∷ 3 ∷ 2 ∷ [])
+    ∷ joins reported (0 ∷ 0 ∷ 1 ∷ 1 ∷ []) ((pos 6 ∷ pos 1 ∷ zeros 6) ++ (pos 1 ∷ zeros 7) ++ zeros 48)
     ∷ rank reported (0 ∷ 1 ∷ 2 ∷ 3 ∷ 2 ∷ 1 ∷ 0 ∷ 3 ∷ []) 1 1 0
     ∷ ratio (pos 9007199254740993) (pos 1) (number (pos 9007199254740992))
     ∷ ratio (pos 9007199254740995) (pos 1) (number (pos 9007199254740996))
