@@ -4,10 +4,12 @@ use mathlib.Core.Bool.{Bool, true, false, _||_}
 use Prim.Native.Nat.{ℕ, _+_, _*_, _≤_, _<_}
 use native.Mathlib.Omega.{arith}
 use Rattle.whole.specs.Network.{Network}
+use Rattle.whole.specs.Rules.{Applies}
 use Rattle.whole.specs.Search.{any-above, any-on-diagonal}
 use Rattle.whole.specs.Table.{pair-at}
 use Rattle.whole.proofs.Network.{square-at, never-4, never-5, network-listed}
-use Rattle.grid.specs.Grid.{grid-weight, grid-network}
+use Rattle.whole.proofs.Rules.{first-least, first-applies}
+use Rattle.grid.specs.Grid.{grid-weight, grid-network, grid-rules, grid-refusal}
 use Rattle.grid.specs.Moves.{rook-steps, bishop-steps, steps-of, any-leads}
 use Rattle.grid.specs.declared.Move.{Move}
 use Rattle.grid.specs.declared.Move.the-variants.{Rook, Bishop, Queen}
@@ -63,3 +65,16 @@ queen-is-both columns i j =
     one-of-two true false f = refl
     one-of-two false true f = refl
     one-of-two false false f = refl
+
+-- ---- the refusal is the least number that applies
+
+pub grid-refusal-applies :
+    (rows columns room : ℕ) → (grid-refusal rows columns room ≡ 0 → ⊥) →
+    Applies (grid-refusal rows columns room) (grid-rules rows columns room)
+unfolding grid-refusal
+grid-refusal-applies rows columns room f = first-applies (grid-rules rows columns room) f
+
+pub grid-refusal-least :
+    (rows columns room number : ℕ) → Applies number (grid-rules rows columns room) → grid-refusal rows columns room ≤ number
+unfolding grid-refusal
+grid-refusal-least rows columns room number = first-least 0 number (grid-rules rows columns room) (tt, (tt, tt))

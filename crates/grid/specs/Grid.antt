@@ -4,7 +4,7 @@ use mathlib.Core.Bool.{cond}
 use mathlib.Core.List.{List, [], _∷_}
 use Prim.Native.Nat.{ℕ, _*_}
 use lib.ListN.{length}
-use Rattle.whole.specs.Rules.{first-broken, size-rules, unless-refused}
+use Rattle.whole.specs.Rules.{Rule, first-broken, size-rules, unless-refused}
 use Rattle.whole.specs.Table.{table-rows}
 use Rattle.grid.specs.Moves.{steps-of, any-leads}
 use Rattle.grid.specs.declared.Move.{Move}
@@ -17,9 +17,13 @@ grid-weight kind columns i j = cond (any-leads columns i j (steps-of kind)) 1 0
 unfoldable pub grid-network : ℕ → ℕ → Move → List ℕ
 grid-network rows columns kind = table-rows (grid-weight kind columns) (rows * columns) (rows * columns)
 
--- 1 and 2, where `room` places are lent: r × c outside 2 to 64, and the list not of its exact length; 0 where no rule is broken
+-- 1 and 2, where `room` places are lent: r × c outside 2 to 64, and the list not of its exact length
+abbrev pub grid-rules : ℕ → ℕ → ℕ → List Rule
+grid-rules rows columns room = size-rules (rows * columns) ((room, (rows * columns) * (rows * columns)) ∷ [])
+
+-- the refusal, 0 where no rule is broken
 unfoldable pub grid-refusal : ℕ → ℕ → ℕ → ℕ
-grid-refusal rows columns room = first-broken (size-rules (rows * columns) ((room, (rows * columns) * (rows * columns)) ∷ []))
+grid-refusal rows columns room = first-broken (grid-rules rows columns room)
 
 -- what the lent list holds after the call
 unfoldable pub grid-left : ℕ → ℕ → Move → List ℕ → List ℕ

@@ -22,7 +22,7 @@ difference-size : (x y : ℤ) → natAbs x ≤ 30000 → natAbs y ≤ 30000 → 
 difference-size x y h k = let d = size---le x y 30000 30000 h k in size-*-le (x -ℤ y) (x -ℤ y) 60000 60000 d d
 
 -- of the squared distance, where no coordinate is beyond 30,000
-pub distance-size :
+distance-size :
     (places : List ℤ) (a b : ℕ) → any-beyond 30000 places ≡ false → 2 * a + 1 < length places → 2 * b + 1 < length places →
     natAbs (squared-distance places a b) ≤ 7200000000
 unfolding squared-distance across up

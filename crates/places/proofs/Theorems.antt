@@ -1,7 +1,7 @@
 -- Theorems of the Gabriel network and of the bands. Assumes nothing.
 use mathlib.Core.Path.{_≡_, refl, sym, ap, _∙_}
 use mathlib.Core.Bool.{true, false, not}
-use mathlib.Core.List.{List}
+use mathlib.Core.List.{List, [], _∷_}
 use Prim.Native.Nat.{ℕ, _≤_, _<_}
 use native.Mathlib.Omega.{arith}
 use borrow.Author.Tests.{ne-eqb, not-false}
@@ -10,16 +10,18 @@ use lib.ListN.{length}
 use lib.Signed.{ltZ}
 use Rattle.whole.specs.Integer.{square}
 use Rattle.whole.specs.Network.{Network}
+use Rattle.whole.specs.Rules.{Applies}
 use Rattle.whole.specs.Search.{any-above, any-on-diagonal}
 use Rattle.whole.specs.Table.{table-rows, pair-at}
 use Rattle.whole.proofs.Integer.{+-swap}
 use Rattle.whole.proofs.Network.{square-at, never-4, never-5, network-listed}
+use Rattle.whole.proofs.Rules.{first-least, first-applies}
 use Rattle.whole.proofs.Search.{some-none, none-some, all-within}
 use Rattle.whole.proofs.TableRows.{rows-length, rows-each}
 use Rattle.whole.proofs.Size.{+-above}
-use Rattle.places.specs.Places.{across, up, squared-distance}
-use Rattle.places.specs.Gabriel.{in-circle, gabriel-weight, gabriel-network}
-use Rattle.places.specs.Bands.{pair-class, band-classes}
+use Rattle.places.specs.Places.{across, up, squared-distance, place-rules, call-rules}
+use Rattle.places.specs.Gabriel.{in-circle, gabriel-weight, gabriel-network, gabriel-refusal}
+use Rattle.places.specs.Bands.{pair-class, band-classes, bands-broken, band-refusal}
 use Rattle.places.proofs.Circles.{third-in, third-is, none-in, weight-free, free-weight, weights-network, along, twice, less-halved}
 use Rattle.places.proofs.Classes.{pair-itself, pair-most, pair-both-ways}
 use Rattle.places.proofs.Distance.{distance-both-ways, squares-above, distance-above}
@@ -132,3 +134,29 @@ bands-never-9 n places bands few =
     let f = pair-class bands (squared-distance places) in
     let low = rows-each f (λ k. k ≤ 8) n n 0 (λ a b p q. omega (arith, pair-most bands (squared-distance places) a b)) in
     all-within 8 (table-rows f n n) (λ t p. low t (omega (arith, rows-length f n n)))
+
+-- ---- a refusal is the least number that applies
+
+pub gabriel-refusal-applies :
+    (n : ℕ) (places : List ℤ) (room : ℕ) → (gabriel-refusal n places room ≡ 0 → ⊥) →
+    Applies (gabriel-refusal n places room) (call-rules n places room [])
+unfolding gabriel-refusal
+gabriel-refusal-applies n places room f = first-applies (call-rules n places room []) f
+
+pub gabriel-refusal-least :
+    (n : ℕ) (places : List ℤ) (room number : ℕ) → Applies number (call-rules n places room []) → gabriel-refusal n places room ≤ number
+unfolding gabriel-refusal call-rules place-rules
+gabriel-refusal-least n places room number = first-least 0 number (call-rules n places room []) (tt, (tt, (tt, (tt, tt))))
+
+pub band-refusal-applies :
+    (n : ℕ) (places : List ℤ) (bands : List ℕ) (room : ℕ) → (band-refusal n places bands room ≡ 0 → ⊥) →
+    Applies (band-refusal n places bands room) (call-rules n places room ((bands-broken bands, 12) ∷ []))
+unfolding band-refusal
+band-refusal-applies n places bands room f = first-applies (call-rules n places room ((bands-broken bands, 12) ∷ [])) f
+
+pub band-refusal-least :
+    (n : ℕ) (places : List ℤ) (bands : List ℕ) (room number : ℕ) →
+    Applies number (call-rules n places room ((bands-broken bands, 12) ∷ [])) → band-refusal n places bands room ≤ number
+unfolding band-refusal call-rules place-rules
+band-refusal-least n places bands room number =
+    first-least 0 number (call-rules n places room ((bands-broken bands, 12) ∷ [])) (tt, (tt, (tt, (tt, (tt, tt)))))

@@ -1,16 +1,16 @@
 -- Laws of `table-rows`, and of a loop that writes it row by row, each row through a part that was lent. Assumes nothing.
 use mathlib.Core.Path.{_≡_, sym, ap, _∙_, subst}
 use mathlib.Core.List.{List, _++_, append-assoc}
-use Prim.Native.Nat.{ℕ, zero, suc, _+_, _*_, _-_, _/_, _%_, _≤_, _<_}
+use Prim.Native.Nat.{ℕ, zero, suc, _+_, _*_, _-_, _/_, _%_, _≤_, _<_, zero-le}
 use native.Mathlib.Nat as N
 use native.Mathlib.Decide.{decLt, ℕ-discrete}
 use native.Mathlib.Numerals.{add-one}
 use native.Mathlib.Omega.{arith}
 use borrow.Rule.Slice.PartMut.{putMid, mid-len, same-len-mid}
-use lib.ListN.{length, getD, take, length-append, List·getD-append}
+use lib.ListN.{length, getD, set, take, length-append, length-set, List·getD-append}
 use lib.Seq.{take-at, take-all, length-take-le, getD-append-add, ext-getD}
 use Rattle.whole.specs.Table.{table, table-rows}
-use Rattle.whole.proofs.Table.{table-length, table-at}
+use Rattle.whole.proofs.Table.{table-length, table-at, stored}
 
 -- ---- the place p of a list of m rows of n: it lies in row p / n, at column p % n
 pub record Split (m n p : ℕ) : Type 0 where
@@ -75,7 +75,7 @@ module _ {A : Type 0} (f : ℕ → ℕ → A) where
           subst (λ v. P (getD (table-rows f m n ++ table (f m) n) v d)) e
           (subst P (sym (rows-at (suc m) n m i d (omega arith) r)) (h m i (omega arith) r))
 
-  -- ---- every place is written: the p-th entry is that of row p / n and column p % n
+  -- ---- place after place: the p-th entry is that of row p / n and column p % n
   pub rows-flat :
       (m n : ℕ) (d : A) (l : List A) → length l ≡ m * n → ((p : ℕ) → p < m * n → getD l p d ≡ f (p / n) (p % n)) → l ≡ table-rows f m n
   rows-flat m n d l e h =
@@ -85,6 +85,28 @@ module _ {A : Type 0} (f : ℕ → ℕ → A) where
       there p q =
           let s = split m n p q in
           ap (λ t. getD (table-rows f m n) t d) (sym (s .whole)) ∙ rows-at m n (p / n) (p % n) d (s .row) (s .column)
+
+  -- the first p places are written
+  pub record Filled (m n : ℕ) (d : A) (l : List A) (p : ℕ) : Type 0 where
+    pub passed : p ≤ m * n
+    pub count : length l ≡ m * n
+    pub holds : (q : ℕ) → q < p → getD l q d ≡ f (q / n) (q % n)
+
+  -- none is, then one more, then all are
+  pub filled-none : (m n : ℕ) (d : A) (l : List A) → length l ≡ m * n → Filled m n d l 0
+  filled-none m n d l e = record { passed = zero-le; count = e; holds = λ q h. let z : ⊥ = omega arith in absurd z }
+
+  pub filled-next :
+      (m n : ℕ) (d : A) (l : List A) (p : ℕ) (v : A) → Filled m n d l p → p < m * n → v ≡ f (p / n) (p % n) →
+      Filled m n d (set l p v) (p + 1)
+  filled-next m n d l p v so h e = record {
+    passed = omega arith;
+    count = length-set l p v ∙ so .count;
+    holds = stored (λ q. f (q / n) (q % n)) d v l p (omega (arith, so .count)) e (so .holds);
+  }
+
+  pub filled-all : (m n : ℕ) (d : A) (l : List A) (p : ℕ) → Filled m n d l p → m * n ≤ p → l ≡ table-rows f m n
+  filled-all m n d l p so h = rows-flat m n d l (so .count) (λ q k. so .holds q (omega arith))
 
   -- ---- the first rows are written
   pub rows-none : (n : ℕ) (l : List A) → take (0 * n) l ≡ table-rows f 0 n

@@ -8,12 +8,12 @@ use Prim.Native.Nat.{ℕ, _+_, _*_, _-_, _/_, _%_, _≤_, _<_}
 use native.Mathlib.Nat as N
 use native.Mathlib.Omega.{arith}
 use lib.IntN.{ℤ}
-use lib.ListN.{length, getD, set, length-set}
+use lib.ListN.{length, set, length-set}
 use lib.Seq.{set-set}
 use Rattle.whole.specs.Search.{some}
+use Rattle.whole.proofs.Lists.{few}
 use Rattle.whole.proofs.Search.{some-zero, some-more}
-use Rattle.whole.proofs.Table.{stored}
-use Rattle.whole.proofs.TableRows.{Split, split, rows-flat}
+use Rattle.whole.proofs.TableRows.{Split, split, Filled, filled-none, filled-next, filled-all}
 use Rattle.places.specs.Places.{squared-distance}
 use Rattle.places.specs.Gabriel.{gabriel-weight, gabriel-network}
 use Rattle.places.proofs.Circles.{third-in, first-passed, second-passed, outside-passed}
@@ -21,10 +21,6 @@ use Rattle.places.proofs.Circles.{weight-none, weight-found, weight-fre
 use Rattle.places.proofs.Distance.{distance-read}
 use Rattle.places.proofs.joining.join_pairs.Statement.{statement}
 use Rattle.places.proofs.joining.join_pairs.Tie as tie
-
--- the first p of n rows of n are those of f
-abbrev Written : (ℕ → ℕ → ℕ) → ℕ → List ℕ → ℕ → Type 0
-Written f n weights p = (p ≤ n * n) × (length weights ≡ n * n) × ((q : ℕ) → q < p → getD weights q 0 ≡ f (q / n) (q % n))
 
 abbrev Inv-third : tie.InvT-third
 Inv-third n places weights pairs p₀ a b distance c₀ p c =
@@ -34,22 +30,17 @@ abbrev μ-third : tie.MeasureT-third
 μ-third n places weights pairs p₀ a b distance c₀ p c = n - c
 
 abbrev Inv-pair : tie.InvT-pair
-Inv-pair n places weights₀ pairs p₀ weights p = Written (gabriel-weight (squared-distance places) n) n weights p
+Inv-pair n places weights₀ pairs p₀ weights p = Filled (gabriel-weight (squared-distance places) n) n n 0 weights p
 
 abbrev μ-pair : tie.MeasureT-pair
 μ-pair n places weights₀ pairs p₀ weights p = n * n - p
 
--- at most 64 zones have at most 4,096 pairs
-few : (n : ℕ) → n ≤ 64 → n * n ≤ 4096
-few n h = N.mul-le-mul h h
+-- one entry more: v is stored at p, the next place, at once or over 0
+module _ (f : ℕ → ℕ → ℕ) (n p : ℕ) (weights : List ℕ) (so-far : Filled f n n 0 weights p) (room : p < n * n) where
+  entry-written : (k v : ℕ) → k ≡ p → v ≡ f (p / n) (p % n) → Filled f n n 0 (set weights p v) (k + 1)
+  entry-written k v e g = rw e (filled-next f n n 0 weights p v so-far room g)
 
--- one entry more: v is stored at p, the next place, over 0 or at once
-module _ (f : ℕ → ℕ → ℕ) (n p : ℕ) (weights : List ℕ) (so-far : Written f n weights p) (room : p < n * n) where
-  entry-written : (k v : ℕ) → k ≡ p → v ≡ f (p / n) (p % n) → Written f n (set weights p v) (k + 1)
-  entry-written k v e g =
-      rw e (omega arith, simp length-set (omega arith), stored (λ q. f (q / n) (q % n)) 0 v weights p (omega arith) g (so-far .2))
-
-  entry-over : (k v : ℕ) → k ≡ p → v ≡ f (p / n) (p % n) → Written f n (set (set weights p 0) k v) (k + 1)
+  entry-over : (k v : ℕ) → k ≡ p → v ≡ f (p / n) (p % n) → Filled f n n 0 (set (set weights p 0) k v) (k + 1)
   entry-over k v e g = rw (e, set-set weights p 0 v) (entry-written p v refl g)
 
 -- ---- a turn of 'pair
@@ -89,7 +80,7 @@ mul-pairs : tie.Need-mul-pairs Inv-third μ-third Inv-pair μ-pair
 mul-pairs c = omega (arith, few (c .before .args .n) (c .before .pre .0))
 
 pair-holds : tie.Need-pair-holds Inv-third μ-third Inv-pair μ-pair
-pair-holds c = (omega arith, omega arith, λ q h. let z : ⊥ = omega arith in absurd z)
+pair-holds c = filled-none _ _ _ 0 _ (c .before .pre .1 .1 .1)
 
 div-a : tie.Need-div-a Inv-third μ-third Inv-pair μ-pair
 div-a c = omega (arith, zones c .column)
@@ -211,8 +202,7 @@ returns : tie.Need-returns Inv-third μ-third Inv-pair μ-pair
 unfolding gabriel-network
 returns c =
     let t = c .before in
-    let s = t .before .before in
-    rows-flat _ (s .args .n) (s .args .n) 0 (t .pair .weights) (omega arith) (λ q h. t .pair .inv .2 q (omega arith))
+    filled-all _ _ _ 0 _ (t .pair .p) (t .pair .inv) (omega arith)
 
 pub join-pairs-spec : {M : Type 1} → statement M
 join-pairs-spec =
