@@ -45,51 +45,26 @@ module _ (f : ℕ → ℕ → ℕ) (c : ℕ → ℕ) (n : ℕ) (low : (i : ℕ) 
       sum-cong _ _ 8 (λ r h. row-adds-up r)
       ∙ weight-parts weight-from f 8 n (λ z i j p q. counts-once (c i) (f i j) 8 z (low i p))
 
--- ---- like and unlike joins, where the weights are the same both ways and 0 on the diagonal
-module _ (f : ℕ → ℕ → ℕ) (c : ℕ → ℕ) (n : ℕ)
-    (both-ways : (i j : ℕ) → i < n → j < n → f i j ≡ f j i) (diagonal : (i : ℕ) → i < n → f i i ≡ 0) where
-  -- a weight that counts where a test passes
-  none : (b : Bool) → cond {A = ℕ} b 0 0 ≡ 0
-  none true = refl
-  none false = refl
-
+-- ---- the sums of document 000's Appendix A: over the ordered pairs with both zones in r, which is T(r,r) as it stands, and over those
+-- with one zone in r and the other in s
+module _ (f : ℕ → ℕ → ℕ) (c : ℕ → ℕ) (n : ℕ) where
   -- W of any weights by its terms
   terms : (g : ℕ → ℕ → ℕ) → sum (λ i. sum (λ j. pos (g i j)) n) n ≡ weight-of g n
   unfolding weight-of pairs-of row-of
   terms g = sum-cong _ _ n (λ i p. sum-cong _ _ n (λ j q. ap pos (sym (N.mul-one (g i j)))))
 
-  -- twice the like joins of r are T(r,r)
-  pub like-doubled : (r : ℕ) → like-joins f c n r +ℤ like-joins f c n r ≡ joins-of f c n r r
-  unfolding like-joins joins-of weight-between
-  like-doubled r =
-      pairs-twice (λ i j. pos (weight-between f c r r i j)) n
-      (λ i j p q. ap pos (rw (and-comm (eqb (c i) r) (eqb (c j) r), both-ways i j p q) refl))
-      (λ i p. ap pos (rw (diagonal i p) (none (eqb (c i) r && eqb (c i) r))))
-      ∙ terms (weight-between f c r r)
-
   -- what counts from r to s
   abbrev counted : ℕ → ℕ → ℕ → ℕ → ℤ
   counted r s i j = pos (weight-between f c r s i j)
 
-  -- twice the unlike joins of r and s are T(r,s) + T(s,r)
-  pub unlike-doubled :
-      (r s : ℕ) → (r ≡ s → ⊥) → unlike-joins f c n r s +ℤ unlike-joins f c n r s ≡ joins-of f c n r s +ℤ joins-of f c n s r
-  unfolding unlike-joins joins-of weight-across weight-between
-  unlike-doubled r s apart =
-      pairs-twice (λ i j. pos (weight-across f c r s i j)) n
-      (λ i j p q. ap pos (turned (c i) (c j) (f i j) (f j i) (both-ways i j p q)))
-      (λ i p. ap pos (rw (diagonal i p) (none ((eqb (c i) r && eqb (c i) s) || (eqb (c i) s && eqb (c i) r)))))
+  pub across-is-both : (r s : ℕ) → (r ≡ s → ⊥) → weight-of (weight-across f c r s) n ≡ joins-of f c n r s +ℤ joins-of f c n s r
+  unfolding joins-of weight-across weight-between
+  across-is-both r s apart =
+      sym (terms (weight-across f c r s))
       ∙ sum-cong _ _ n (λ i p. sum-cong _ _ n (λ j q. ap pos (one-way (c i) (c j) (f i j))) ∙ sum-+ (counted r s i) (counted s r i) n)
       ∙ sum-+ (λ i. sum (counted r s i) n) (λ i. sum (counted s r i) n) n
       ∙ cc (terms (weight-between f c r s), terms (weight-between f c s r))
     where
-      -- the test is the same both ways
-      turned :
-          (a b v w : ℕ) → v ≡ w →
-          cond ((eqb a r && eqb b s) || (eqb a s && eqb b r)) v 0 ≡ cond ((eqb b r && eqb a s) || (eqb b s && eqb a r)) w 0
-      turned a b v w e =
-          rw (e, or-comm (eqb a r && eqb b s) (eqb a s && eqb b r), and-comm (eqb a s) (eqb b r), and-comm (eqb a r) (eqb b s)) refl
-
       -- a pair lies one way or the other
       one-way :
           (a b v : ℕ) →
@@ -105,6 +80,40 @@ module _ (f : ℕ → ℕ → ℕ) (c : ℕ → ℕ) (n : ℕ)
           go false e true g true u = sym (N.zero-add v)
           go false e true g false u = refl
           go false e false g t u = refl
+
+  -- ---- like and unlike joins, where the weights are the same both ways and 0 on the diagonal
+  module _ (both-ways : (i j : ℕ) → i < n → j < n → f i j ≡ f j i) (diagonal : (i : ℕ) → i < n → f i i ≡ 0) where
+    -- nothing counts, whether the test passes or not
+    none : (b : Bool) → cond {A = ℕ} b 0 0 ≡ 0
+    none true = refl
+    none false = refl
+
+    -- twice the like joins of r are T(r,r)
+    pub like-doubled : (r : ℕ) → like-joins f c n r +ℤ like-joins f c n r ≡ joins-of f c n r r
+    unfolding like-joins joins-of weight-between
+    like-doubled r =
+        pairs-twice (counted r r) n
+        (λ i j p q. ap pos (rw (and-comm (eqb (c i) r) (eqb (c j) r), both-ways i j p q) refl))
+        (λ i p. ap pos (rw (diagonal i p) (none (eqb (c i) r && eqb (c i) r))))
+        ∙ terms (weight-between f c r r)
+
+    -- twice the unlike joins of r and s are T(r,s) + T(s,r)
+    pub unlike-doubled :
+        (r s : ℕ) → (r ≡ s → ⊥) → unlike-joins f c n r s +ℤ unlike-joins f c n r s ≡ joins-of f c n r s +ℤ joins-of f c n s r
+    unfolding unlike-joins weight-across
+    unlike-doubled r s apart =
+        pairs-twice (λ i j. pos (weight-across f c r s i j)) n
+        (λ i j p q. ap pos (turned (c i) (c j) (f i j) (f j i) (both-ways i j p q)))
+        (λ i p. ap pos (rw (diagonal i p) (none ((eqb (c i) r && eqb (c i) s) || (eqb (c i) s && eqb (c i) r)))))
+        ∙ terms (weight-across f c r s)
+        ∙ across-is-both r s apart
+      where
+        -- the test is the same both ways
+        turned :
+            (a b v w : ℕ) → v ≡ w →
+            cond ((eqb a r && eqb b s) || (eqb a s && eqb b r)) v 0 ≡ cond ((eqb b r && eqb a s) || (eqb b s && eqb a r)) w 0
+        turned a b v w e =
+            rw (e, or-comm (eqb a r && eqb b s) (eqb a s && eqb b r), and-comm (eqb a s) (eqb b r), and-comm (eqb a r) (eqb b s)) refl
 
 -- ---- the table by its places
 pub join-table-at :
