@@ -11,7 +11,7 @@ mod reading;
 mod working;
 
 use reading::Lengths;
-ghost use Prim.Native.Nat.{_*_, _<_, _≤_};
+ghost use Prim.Native.Nat.{_<_};
 ghost use lib.ListN.{length};
 ghost use Rattle.vectors.specs.Steps.{Room};
 
@@ -26,11 +26,10 @@ fn run_job(
     lengths: Lengths,
 )
     requires { ⌜ Room lengths ⌝ }
-    requires { ⌜ 4 * lengths .values ≤ length (now bytes) ⌝ }
 {
     let count = lengths.values;
     let mut decoded: [i32; 66] = [0; 66];
-    reading::decode(bytes, &mut decoded[..count]);
+    words::signed_words_in(bytes, &mut decoded[..count]);
     let values = &decoded[..count];
     working::work_account(name, n, values, weights, lengths.locals);
     working::work_classes(
@@ -61,7 +60,7 @@ fn run_one(input: &[u8], at: usize) -> usize
     ensures { λ r. ⌜ at < r ⌝ }
 {
     let name = at + 1;
-    let head = name + reading::byte_at(input, at);
+    let head = name + words::byte_at(input, at) as usize;
     let lengths = reading::lengths_at(input, head + 8);
     let values = head + 23;
     let weights = values + 4 * lengths.values;

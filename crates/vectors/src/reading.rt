@@ -1,8 +1,7 @@
-// Numbers and lengths in the bytes of a job. A byte beyond the end counts as 0, so that lengths can be read before the job is known to
-// be whole.
+// The lengths in the bytes of a job. A byte beyond the end counts as 0, so that they can be read before the job is known to be whole.
 ghost use mathlib.Core.Path.{_≡_};
 ghost use mathlib.Core.Bool.{true};
-ghost use Prim.Native.Nat.{_+_, _*_, _<_, _≤_};
+ghost use Prim.Native.Nat.{_+_, _<_, _≤_};
 ghost use lib.ListN.{length};
 ghost use Rattle.vectors.specs.Steps.{Room};
 
@@ -24,18 +23,6 @@ pub struct Lengths {
     pub zones: usize,
 }
 
-pub fn byte_at(bytes: &[u8], at: usize) -> usize
-    ensures { λ r. ⌜ r < 256 ⌝ }
-{
-    (words::word_at(bytes, at) % 256) as usize
-}
-
-fn two_at(bytes: &[u8], at: usize) -> usize
-    ensures { λ r. ⌜ r < 65536 ⌝ }
-{
-    (words::word_at(bytes, at) % 65536) as usize
-}
-
 // The bounds are for the places after the head, which are sums of these lengths.
 pub fn lengths_at(bytes: &[u8], at: usize) -> Lengths
     requires { ⌜ at ≤ length (now bytes) + 264 ⌝ }
@@ -45,16 +32,16 @@ pub fn lengths_at(bytes: &[u8], at: usize) -> Lengths
     ensures { λ r. ⌜ r .shuffles < 65536 ⌝ }
 {
     Lengths {
-        values: byte_at(bytes, at),
-        weights: two_at(bytes, at + 1),
-        classes: two_at(bytes, at + 3),
-        shuffles: two_at(bytes, at + 5),
-        locals: byte_at(bytes, at + 7),
-        rows: byte_at(bytes, at + 8),
-        numerators: two_at(bytes, at + 9),
-        figures: byte_at(bytes, at + 11),
-        parts: two_at(bytes, at + 12),
-        zones: byte_at(bytes, at + 14),
+        values: words::byte_at(bytes, at) as usize,
+        weights: words::two_at(bytes, at + 1) as usize,
+        classes: words::two_at(bytes, at + 3) as usize,
+        shuffles: words::two_at(bytes, at + 5) as usize,
+        locals: words::byte_at(bytes, at + 7) as usize,
+        rows: words::byte_at(bytes, at + 8) as usize,
+        numerators: words::two_at(bytes, at + 9) as usize,
+        figures: words::byte_at(bytes, at + 11) as usize,
+        parts: words::two_at(bytes, at + 12) as usize,
+        zones: words::byte_at(bytes, at + 14) as usize,
     }
 }
 
@@ -84,15 +71,4 @@ pub fn has_room(lengths: Lengths) -> bool
         return false;
     }
     true
-}
-
-pub fn decode(bytes: &[u8], values: &mut [i32])
-    requires { ⌜ 4 * length (now values) ≤ length (now bytes) ⌝ }
-{
-    let mut i: usize = 0;
-    while i < values.len() {
-        let value = words::signed_word(words::word_at(bytes, 4 * i));
-        values[i] = value;
-        i += 1;
-    }
 }

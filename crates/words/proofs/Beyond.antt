@@ -4,10 +4,14 @@ use mathlib.Core.List.{List}
 use Prim.Native.Nat.{ℕ, _+_, _≤_}
 use native.Mathlib.Omega.{arith}
 use lib.ListN.{length, List·getD-eq-default}
-use Rattle.words.specs.Words.{byte-at, word-at, long-at}
+use Rattle.words.specs.Words.{byte-at, two-at, word-at, long-at}
 
 pub byte-beyond : (bytes : List ℕ) (at : ℕ) → length bytes ≤ at → byte-at bytes at ≡ 0
 byte-beyond bytes at h = List·getD-eq-default bytes 0 h
+
+pub two-beyond : (bytes : List ℕ) (at : ℕ) → length bytes ≤ at → two-at bytes at ≡ 0
+unfolding two-at
+two-beyond bytes at h = omega (arith, byte-beyond bytes at h, byte-beyond bytes (at + 1) (omega arith))
 
 pub word-beyond : (bytes : List ℕ) (at : ℕ) → length bytes ≤ at → word-at bytes at ≡ 0
 unfolding word-at

@@ -8,6 +8,10 @@ use lib.ListN.{getD}
 abbrev pub byte-at : List ℕ → ℕ → ℕ
 byte-at bytes at = getD bytes at 0
 
+-- the number of the two bytes from a place on
+unfoldable pub two-at : List ℕ → ℕ → ℕ
+two-at bytes at = byte-at bytes at + 256 * byte-at bytes (at + 1)
+
 -- the number of the four bytes from a place on
 unfoldable pub word-at : List ℕ → ℕ → ℕ
 word-at bytes at =

@@ -1,9 +1,11 @@
 // Numbers in bytes, their lowest byte first, for the programs that read jobs from standard input.
 ghost use mathlib.Core.Path.{_≡_};
-ghost use Prim.Native.Nat.{_<_};
+ghost use Prim.Native.Nat.{_*_, _<_};
+ghost use lib.ListN.{length};
 ghost use mir.Syntax.{w32, w64};
 ghost use mir.Val.{toZ};
-ghost use Rattle.words.specs.Words.{byte-at, word-at, long-at};
+ghost use Rattle.whole.specs.Table.{table};
+ghost use Rattle.words.specs.Words.{byte-at, two-at, word-at, long-at};
 
 fn wide(x: u8) -> u32
     ensures { λ r. ⌜ r ≡ x ⌝ }
@@ -12,11 +14,23 @@ fn wide(x: u8) -> u32
     x as u32
 }
 
-fn byte_at(bytes: &[u8], at: usize) -> u32
+// The number of one byte.
+pub fn byte_at(bytes: &[u8], at: usize) -> u32
     ensures { λ r. ⌜ r ≡ byte-at (now (bytes .entry)) at ⌝ }
     ensures { λ r. ⌜ r < 256 ⌝ }
 {
     if at < bytes.len() { wide(bytes[at]) } else { 0 }
+}
+
+// The number of two bytes.
+pub fn two_at(bytes: &[u8], at: usize) -> u32
+    ensures { λ r. ⌜ r ≡ two-at (now (bytes .entry)) at ⌝ }
+    ensures { λ r. ⌜ r < 65536 ⌝ }
+{
+    if at > bytes.len() {
+        return 0;
+    }
+    byte_at(bytes, at) + 256 * byte_at(bytes, at + 1)
 }
 
 // The number of four bytes.
@@ -50,6 +64,30 @@ pub fn signed_word(u: u32) -> i32
         u as i32
     } else {
         -1 - ((4294967295 - u) as i32)
+    }
+}
+
+// The numbers of each four bytes, as many as there are places for them.
+pub fn words_in(bytes: &[u8], numbers: &mut [u32])
+    ensures { λ _. ⌜ now (numbers .exit) ≡ table (λ k. word-at (now (bytes .entry)) (4 * k)) (length (now (numbers .entry))) ⌝ }
+{
+    let mut k: usize = 0;
+    while k < numbers.len() {
+        let number = word_at(bytes, 4 * k);
+        numbers[k] = number;
+        k += 1;
+    }
+}
+
+// The same for signed numbers.
+pub fn signed_words_in(bytes: &[u8], numbers: &mut [i32])
+    ensures { λ _. ⌜ now (numbers .exit) ≡ table (λ k. toZ w32 (word-at (now (bytes .entry)) (4 * k))) (length (now (numbers .entry))) ⌝ }
+{
+    let mut k: usize = 0;
+    while k < numbers.len() {
+        let number = signed_word(word_at(bytes, 4 * k));
+        numbers[k] = number;
+        k += 1;
     }
 }
 

@@ -9,6 +9,9 @@ add-name c = search needs
 byte-at-requires : tie.Need-byte-at-requires
 byte-at-requires c κs = search needs
 
+cast-head : tie.Need-cast-head
+cast-head c = search needs
+
 add-head : tie.Need-add-head
 add-head c = search needs
 
@@ -93,7 +96,7 @@ part-run-job-end-5 c = search needs
 run-job-requires : tie.Need-run-job-requires
 run-job-requires c κs =
     let t = c .before .before .before .before .before .before in
-    (t .before .has-room .ensures (t .if2 .taken), search needs)
+    t .before .has-room .ensures (t .if2 .taken)
 
 returns-2 : tie.Need-returns-2
 returns-2 c = search needs
@@ -107,6 +110,7 @@ run-one-spec =
     (tie.spec
     add-name
     byte-at-requires
+    cast-head
     add-head
     add-lengths-at
     lengths-at-requires
