@@ -7,8 +7,8 @@ use lib.Dec.{eqb}
 use lib.IntN.{ℤ, pos}
 use lib.ListN.{length, getD}
 use Rattle.whole.specs.Rules.{Rule, first-broken, size-rules, unless-refused}
-use Rattle.whole.specs.Sum.{sum}
 use Rattle.whole.specs.Search.{any-above, any-on-diagonal}
+use Rattle.whole.specs.Sum.{sum}
 use Rattle.whole.specs.Table.{table-rows, pair-at}
 use Rattle.account.specs.Measures.{weight-of}
 
@@ -22,6 +22,16 @@ weight-between f c r s i j = cond (eqb (c i) r && eqb (c j) s) (f i j) 0
 unfoldable pub joins-of : (ℕ → ℕ → ℕ) → (ℕ → ℕ) → ℕ → ℕ → ℕ → ℤ
 joins-of f c n r s = weight-of (weight-between f c r s) n
 
+-- the category of each zone, of a list
+abbrev pub category-at : List ℕ → ℕ → ℕ
+category-at categories i = getD categories i 0
+
+-- the join table of two lists: T(0,0), T(0,1), .., T(7,7), a row of eight for each r
+unfoldable pub join-table : ℕ → List ℕ → List ℕ → List ℤ
+join-table n categories weights = table-rows (joins-of (pair-at weights n) (category-at categories) n) 8 8
+
+-- ---- like and unlike joins, each pair of zones once: the table keeps them twice over where the weights are the same both ways
+
 -- like joins of category r: the weights of the pairs i < j with both zones in r
 unfoldable pub like-joins : (ℕ → ℕ → ℕ) → (ℕ → ℕ) → ℕ → ℕ → ℤ
 like-joins f c n r = sum (λ j. sum (λ i. pos (weight-between f c r r i j)) j) n
@@ -33,14 +43,6 @@ weight-across f c r s i j = cond ((eqb (c i) r && eqb (c j) s) || (eqb (c i) s &
 -- unlike joins of categories r and s: those of the pairs i < j
 unfoldable pub unlike-joins : (ℕ → ℕ → ℕ) → (ℕ → ℕ) → ℕ → ℕ → ℕ → ℤ
 unlike-joins f c n r s = sum (λ j. sum (λ i. pos (weight-across f c r s i j)) j) n
-
--- the category of each zone, of a list
-abbrev pub category-at : List ℕ → ℕ → ℕ
-category-at categories i = getD categories i 0
-
--- the join table of two lists: T(0,0), T(0,1), .., T(7,7), a row of eight for each r
-unfoldable pub join-table : ℕ → List ℕ → List ℕ → List ℤ
-join-table n categories weights = table-rows (joins-of (pair-at weights n) (category-at categories) n) 8 8
 
 -- ---- what is refused
 

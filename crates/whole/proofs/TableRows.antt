@@ -3,7 +3,7 @@ use mathlib.Core.Path.{_≡_, sym, ap, _∙_, subst}
 use mathlib.Core.List.{List, _++_, append-assoc}
 use Prim.Native.Nat.{ℕ, zero, suc, _+_, _*_, _-_, _/_, _%_, _≤_, _<_, zero-le}
 use native.Mathlib.Nat as N
-use native.Mathlib.Decide.{decLt, ℕ-discrete}
+use native.Mathlib.Decide.{ℕ-discrete}
 use native.Mathlib.Numerals.{add-one}
 use native.Mathlib.Omega.{arith}
 use borrow.Rule.Slice.PartMut.{putMid, mid-len, same-len-mid}
@@ -56,35 +56,26 @@ module _ {A : Type 0} (f : ℕ → ℕ → A) where
           (omega (arith, rows-length m n, N.mul-le-mul-right n (before k m h q)))
           ∙ g (omega arith)
 
+  -- the p-th of the whole list
+  rows-place : (m n p : ℕ) (d : A) → p < m * n → getD (table-rows f m n) p d ≡ f (p / n) (p % n)
+  rows-place m n p d h =
+      let s = split m n p h in
+      ap (λ t. getD (table-rows f m n) t d) (sym (s .whole)) ∙ rows-at m n (p / n) (p % n) d (s .row) (s .column)
+
   -- what holds of every entry holds of every place
   pub rows-each :
       (P : A → Type 0) (m n : ℕ) (d : A) → ((k i : ℕ) → k < m → i < n → P (f k i)) → (t : ℕ) → t < m * n →
       P (getD (table-rows f m n) t d)
-  unfolding table-rows
-  rows-each P zero n d h t p = let z : ⊥ = omega arith in absurd z
-  rows-each P (suc m) n d h t p = pick (decLt t (m * n)) (λ (q : t < m * n). rows-each P m n d (λ k i r s. h k i (omega arith) s) t q)
-    where
-      pick : Dec (t < m * n) → (t < m * n → P (getD (table-rows f m n) t d)) → P (getD (table-rows f m n ++ table (f m) n) t d)
-      pick (yes q) g =
-          subst P (sym (List·getD-append (table-rows f m n) (table (f m) n) d t (omega (arith, rows-length m n))))
-          (g q)
-      pick (no q) g =
-          let i = t - m * n in
-          let r : i < n = omega arith in
-          let e : m * n + i ≡ t = omega arith in
-          subst (λ v. P (getD (table-rows f m n ++ table (f m) n) v d)) e
-          (subst P (sym (rows-at (suc m) n m i d (omega arith) r)) (h m i (omega arith) r))
+  rows-each P m n d h t p =
+      let s = split m n t p in
+      subst P (sym (rows-place m n t d p)) (h (t / n) (t % n) (s .row) (s .column))
 
-  -- ---- place after place: the p-th entry is that of row p / n and column p % n
+  -- ---- place after place: a list that holds each entry at its place is the table
   pub rows-flat :
       (m n : ℕ) (d : A) (l : List A) → length l ≡ m * n → ((p : ℕ) → p < m * n → getD l p d ≡ f (p / n) (p % n)) → l ≡ table-rows f m n
   rows-flat m n d l e h =
-      ext-getD d l (table-rows f m n) (e ∙ sym (rows-length m n)) (λ p q. h p (omega arith) ∙ sym (there p (omega arith)))
-    where
-      there : (p : ℕ) → p < m * n → getD (table-rows f m n) p d ≡ f (p / n) (p % n)
-      there p q =
-          let s = split m n p q in
-          ap (λ t. getD (table-rows f m n) t d) (sym (s .whole)) ∙ rows-at m n (p / n) (p % n) d (s .row) (s .column)
+      ext-getD d l (table-rows f m n) (e ∙ sym (rows-length m n))
+      (λ p q. h p (omega arith) ∙ sym (rows-place m n p d (omega arith)))
 
   -- the first p places are written
   pub record Filled (m n : ℕ) (d : A) (l : List A) (p : ℕ) : Type 0 where
