@@ -1,15 +1,17 @@
 -- Theorems of the grid network. Assumes nothing.
 use mathlib.Core.Path.{_≡_, refl, ap, _∙_}
 use mathlib.Core.Bool.{Bool, true, false, _||_}
+use mathlib.Core.List.{List}
 use Prim.Native.Nat.{ℕ, _+_, _*_, _≤_, _<_}
 use native.Mathlib.Omega.{arith}
+use lib.ListN.{length}
 use Rattle.whole.specs.Network.{Network}
 use Rattle.whole.specs.Rules.{Applies}
 use Rattle.whole.specs.Search.{any-above, any-on-diagonal}
 use Rattle.whole.specs.Table.{pair-at}
 use Rattle.whole.proofs.Network.{square-at, never-4, never-5, network-listed}
-use Rattle.whole.proofs.Rules.{first-least, first-applies}
-use Rattle.grid.specs.Grid.{grid-weight, grid-network, grid-rules, grid-refusal}
+use Rattle.whole.proofs.Rules.{first-least, first-applies, kept-when-refused, worked-when-taken}
+use Rattle.grid.specs.Grid.{grid-weight, grid-network, grid-rules, grid-refusal, grid-left}
 use Rattle.grid.specs.Moves.{rook-steps, bishop-steps, steps-of, any-leads}
 use Rattle.grid.specs.declared.Move.{Move}
 use Rattle.grid.specs.declared.Move.the-variants.{Rook, Bishop, Queen}
@@ -65,6 +67,16 @@ queen-is-both columns i j =
     one-of-two true false f = refl
     one-of-two false true f = refl
     one-of-two false false f = refl
+
+-- ---- what the call leaves in the lent list
+module _ (rows columns : ℕ) (kind : Move) (weights left : List ℕ) (e : left ≡ grid-left rows columns kind weights) where
+  pub network-left : grid-refusal rows columns (length weights) ≡ 0 → left ≡ grid-network rows columns kind
+  unfolding grid-left
+  network-left z = e ∙ worked-when-taken _ _ _ z
+
+  pub network-leaves : (grid-refusal rows columns (length weights) ≡ 0 → ⊥) → left ≡ weights
+  unfolding grid-left
+  network-leaves f = e ∙ kept-when-refused _ _ _ f
 
 -- ---- the refusal is the least number that applies
 

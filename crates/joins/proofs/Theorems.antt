@@ -8,17 +8,18 @@ use native.Mathlib.Omega.{arith}
 use borrow.Author.Tests.{eqb-true}
 use lib.Dec.{eqb}
 use lib.IntN.{ℤ, pos, _+ℤ_, _*ℤ_}
+use lib.ListN.{length}
 use Rattle.whole.specs.Rules.{Applies}
 use Rattle.whole.specs.Sum.{sum}
 use Rattle.whole.specs.Table.{at, pair-at}
-use Rattle.whole.proofs.Rules.{first-least, first-applies}
+use Rattle.whole.proofs.Rules.{first-least, first-applies, kept-when-refused, worked-when-taken}
 use Rattle.whole.proofs.Search.{none-above}
 use Rattle.whole.proofs.Sum.{sum-cong, sum-+, sum-rows, pairs-twice}
 use Rattle.whole.proofs.TableRows.{rows-at}
 use Rattle.account.specs.Measures.{weight-of, pairs-of, row-of}
 use Rattle.account.proofs.Adding.{counts-once, weight-parts}
 use Rattle.joins.specs.Joins.{weight-between, joins-of, like-joins, weight-across, unlike-joins}
-use Rattle.joins.specs.Joins.{category-at, join-table, join-rules, join-refusal}
+use Rattle.joins.specs.Joins.{category-at, join-table, join-rules, join-refusal, joins-left}
 use Rattle.joins.proofs.Accepted.{accepted}
 
 -- ---- T adds up to W over all pairs of categories
@@ -133,6 +134,16 @@ joins-left-add-up n categories weights room e =
     sum-rows (at (join-table n categories weights)) 8 8
     ∙ sum-cong _ _ 8 (λ r h. sum-cong _ _ 8 (λ s k. join-table-at n categories weights r s h k))
     ∙ joins-add-up f c n (λ i p. let z = none-above 7 categories (g .low) i (omega (arith, g .categories-fit)) in omega arith)
+
+-- ---- what the call leaves in the lent list
+module _ (n : ℕ) (categories weights : List ℕ) (lent left : List ℤ) (e : left ≡ joins-left n categories weights lent) where
+  pub table-left : join-refusal n categories weights (length lent) ≡ 0 → left ≡ join-table n categories weights
+  unfolding joins-left
+  table-left z = e ∙ worked-when-taken _ _ _ z
+
+  pub table-leaves : (join-refusal n categories weights (length lent) ≡ 0 → ⊥) → left ≡ lent
+  unfolding joins-left
+  table-leaves f = e ∙ kept-when-refused _ _ _ f
 
 -- ---- the refusal is the least number that applies
 pub join-refusal-least :

@@ -15,13 +15,13 @@ use Rattle.whole.specs.Search.{any-above, any-on-diagonal}
 use Rattle.whole.specs.Table.{table-rows, pair-at}
 use Rattle.whole.proofs.Integer.{+-swap}
 use Rattle.whole.proofs.Network.{square-at, never-4, never-5, network-listed}
-use Rattle.whole.proofs.Rules.{first-least, first-applies}
+use Rattle.whole.proofs.Rules.{first-least, first-applies, kept-when-refused, worked-when-taken}
 use Rattle.whole.proofs.Search.{some-none, none-some, all-within}
 use Rattle.whole.proofs.TableRows.{rows-length, rows-each}
 use Rattle.whole.proofs.Size.{+-above}
 use Rattle.places.specs.Places.{across, up, squared-distance, place-rules, call-rules}
-use Rattle.places.specs.Gabriel.{in-circle, gabriel-weight, gabriel-network, gabriel-refusal}
-use Rattle.places.specs.Bands.{pair-class, band-classes, bands-broken, band-refusal}
+use Rattle.places.specs.Gabriel.{in-circle, gabriel-weight, gabriel-network, gabriel-refusal, gabriel-left}
+use Rattle.places.specs.Bands.{pair-class, band-classes, bands-broken, band-refusal, bands-left}
 use Rattle.places.proofs.Circles.{third-in, third-is, none-in, weight-free, free-weight, weights-network, along, twice, less-halved}
 use Rattle.places.proofs.Classes.{pair-itself, pair-most, pair-both-ways}
 use Rattle.places.proofs.Distance.{distance-both-ways, squares-above, distance-above}
@@ -134,6 +134,25 @@ bands-never-9 n places bands few =
     let f = pair-class bands (squared-distance places) in
     let low = rows-each f (λ k. k ≤ 8) n n 0 (λ a b p q. omega (arith, pair-most bands (squared-distance places) a b)) in
     all-within 8 (table-rows f n n) (λ t p. low t (omega (arith, rows-length f n n)))
+
+-- ---- what the two calls leave in the lent list
+module _ (n : ℕ) (places : List ℤ) (weights left : List ℕ) (e : left ≡ gabriel-left n places weights) where
+  pub network-left : gabriel-refusal n places (length weights) ≡ 0 → left ≡ gabriel-network n places
+  unfolding gabriel-left
+  network-left z = e ∙ worked-when-taken _ _ _ z
+
+  pub network-leaves : (gabriel-refusal n places (length weights) ≡ 0 → ⊥) → left ≡ weights
+  unfolding gabriel-left
+  network-leaves f = e ∙ kept-when-refused _ _ _ f
+
+module _ (n : ℕ) (places : List ℤ) (bands classes left : List ℕ) (e : left ≡ bands-left n places bands classes) where
+  pub classes-left : band-refusal n places bands (length classes) ≡ 0 → left ≡ band-classes n places bands
+  unfolding bands-left
+  classes-left z = e ∙ worked-when-taken _ _ _ z
+
+  pub classes-leaves : (band-refusal n places bands (length classes) ≡ 0 → ⊥) → left ≡ classes
+  unfolding bands-left
+  classes-leaves f = e ∙ kept-when-refused _ _ _ f
 
 -- ---- a refusal is the least number that applies
 
