@@ -1,25 +1,21 @@
 -- The table of steps as the code has it, and that no step is of more than one cell. Assumes nothing.
 use mathlib.Core.Path.{_≡_, refl, ap, _∙_}
-use mathlib.Core.Bool.{Bool, false, _||_}
+use mathlib.Core.Bool.{Bool, false}
 use mathlib.Core.List.{List, [], _∷_}
 use Prim.Native.Nat.{ℕ, zero, suc, _+_, _*_, _<_}
 use native.Mathlib.Omega.{arith}
 use borrow.Author.Tests.{ltb-false}
 use lib.Dec.{ltb}
-use lib.IntN.{ℤ, pos}
+use lib.IntN.{pos}
 use lib.ListN.{getD}
 use lib.Signed.{mag}
 use Rattle.whole.specs.Search.{some}
-use Rattle.whole.proofs.Rules.{neither}
+use Rattle.whole.specs.Table.{at}
 use Rattle.whole.proofs.Search.{some-none}
 use Rattle.grid.specs.Moves.{Step}
-use Rattle.grid.specs.Steps.{step-at}
+use Rattle.grid.specs.Steps.{all-steps, numbers}
 
--- ---- the steps as one list of numbers, row step and column step in turn
-abbrev pub numbers : List Step → List ℤ
-numbers [] = []
-numbers (step ∷ steps) = step .0 ∷ step .1 ∷ numbers steps
-
+-- ---- the steps as one list of numbers
 -- the row step of step k
 pub row-number : (steps : List Step) (k : ℕ) → getD (numbers steps) (2 * k) (pos 0) ≡ getD steps k (pos 0, pos 0) .0
 row-number [] k = refl
@@ -38,13 +34,13 @@ column-number (step ∷ steps) (suc k) =
 
 -- ---- no step is of more than one cell
 abbrev wide : ℕ → Bool
-wide k = ltb 1 (mag (step-at k .0)) || ltb 1 (mag (step-at k .1))
+wide place = ltb 1 (mag (at (numbers all-steps) place))
 
-none-wide : some wide 8 ≡ false
+none-wide : some wide 16 ≡ false
 unfolding some
 none-wide = refl
 
-pub step-small : (k : ℕ) → k < 8 → (mag (step-at k .0) < 2) × (mag (step-at k .1) < 2)
-step-small k h =
-    let f = neither (ltb 1 (mag (step-at k .0))) (ltb 1 (mag (step-at k .1))) (some-none wide 8 k none-wide h) in
-    (omega (arith, ltb-false 1 (mag (step-at k .0)) (f .0)), omega (arith, ltb-false 1 (mag (step-at k .1)) (f .1)))
+pub step-small : (place : ℕ) → place < 16 → mag (at (numbers all-steps) place) < 2
+step-small place h =
+    let f = ltb-false 1 (mag (at (numbers all-steps) place)) (some-none wide 16 place none-wide h) in
+    omega arith

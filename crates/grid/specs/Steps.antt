@@ -1,6 +1,6 @@
 -- What the private functions ask of each other; no part of the public promise. Assumes nothing.
 use mathlib.Core.Bool.{cond}
-use mathlib.Core.List.{_++_}
+use mathlib.Core.List.{List, [], _∷_, _++_}
 use Prim.Native.Nat.{ℕ}
 use lib.Dec.{ltb}
 use lib.IntN.{ℤ, pos, negsuc}
@@ -9,9 +9,17 @@ use Rattle.grid.specs.Moves.{Step, rook-steps, bishop-steps}
 use Rattle.grid.specs.declared.Move.{Move}
 use Rattle.grid.specs.declared.Move.the-variants.{Rook, Bishop, Queen}
 
--- the k-th of all eight steps
+-- all eight steps, and the k-th of them
+abbrev pub all-steps : List Step
+all-steps = rook-steps ++ bishop-steps
+
 abbrev pub step-at : ℕ → Step
-step-at k = getD (rook-steps ++ bishop-steps) k (pos 0, pos 0)
+step-at k = getD all-steps k (pos 0, pos 0)
+
+-- steps as one list of numbers, row step and column step in turn
+abbrev pub numbers : List Step → List ℤ
+numbers [] = []
+numbers (step ∷ steps) = step .0 ∷ step .1 ∷ numbers steps
 
 -- the steps of a kind among them: the first, and the place after the last
 abbrev pub first-of : Move → ℕ

@@ -5,28 +5,20 @@ ghost use Prim.Native.Nat.{_*_, _<_, _≤_};
 ghost use lib.IntN.{pos, _+ℤ_};
 ghost use lib.ListN.{length};
 ghost use lib.Signed.{mag};
-ghost use Rattle.whole.specs.Table.{table};
+ghost use Rattle.whole.specs.Table.{table, at};
 ghost use Rattle.grid.specs.Grid.{grid-weight, grid-network};
-ghost use Rattle.grid.specs.Steps.{step-at, first-of, end-of, landing};
+ghost use Rattle.grid.specs.Steps.{all-steps, numbers, first-of, end-of, landing};
 
 // Row step and column step of each move: the rook's four, then the bishop's four.
 const STEPS: [i64; 16] = [-1, 0, 1, 0, 0, -1, 0, 1, -1, -1, 1, 1, -1, 1, 1, -1];
 
-// The row step and the column step of move k.
-fn row_step(k: usize) -> i64
-    requires { ⌜ k < 8 ⌝ }
-    ensures { λ r. ⌜ r ≡ step-at k .0 ⌝ }
+// The number at a place of the table.
+fn number_at(place: usize) -> i64
+    requires { ⌜ place < 16 ⌝ }
+    ensures { λ r. ⌜ r ≡ at (numbers all-steps) place ⌝ }
     ensures { λ r. ⌜ mag r < 2 ⌝ }
 {
-    STEPS[2 * k]
-}
-
-fn column_step(k: usize) -> i64
-    requires { ⌜ k < 8 ⌝ }
-    ensures { λ r. ⌜ r ≡ step-at k .1 ⌝ }
-    ensures { λ r. ⌜ mag r < 2 ⌝ }
-{
-    STEPS[2 * k + 1]
+    STEPS[place]
 }
 
 // The first move of a kind in the table.
@@ -91,8 +83,8 @@ fn mark_moves(rows: usize, columns: usize, kind: Move, i: usize, marks: &mut [u8
     let end = end_move(kind);
     let mut k = first_move(kind);
     while k < end {
-        let r = landing(row, row_step(k), rows);
-        let c = landing(column, column_step(k), columns);
+        let r = landing(row, number_at(2 * k), rows);
+        let c = landing(column, number_at(2 * k + 1), columns);
         if r < rows {
             if c < columns {
                 marks[r * columns + c] = 1;

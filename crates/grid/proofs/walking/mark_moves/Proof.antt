@@ -14,9 +14,10 @@ use Rattle.whole.proofs.Machine.{back, r64}
 use Rattle.whole.proofs.Table.{table-length}
 use Rattle.whole.proofs.TableRows.{some-columns}
 use Rattle.grid.specs.Moves.{row-of, column-of}
-use Rattle.grid.specs.Steps.{step-at, first-of, end-of, landing}
+use Rattle.grid.specs.Steps.{all-steps, step-at, first-of, end-of, landing}
 use Rattle.grid.specs.declared.Move.{Move}
 use Rattle.grid.specs.declared.Move.the-variants.{Rook, Bishop, Queen}
+use Rattle.grid.proofs.StepTable.{row-number, column-number}
 use Rattle.grid.proofs.Zones.{zone-within, Lands}
 use Rattle.grid.proofs.Marking.{Marked, marked-none, marked-there, marked-out, marked-done}
 use Rattle.grid.proofs.walking.mark_moves.Statement.{statement}
@@ -61,23 +62,32 @@ step-below c =
     let e = c .before .before .before in
     omega (arith, c .loop-test .taken, e .end-move .ensures, of-eight (e .before .before .args .kind) .1)
 
-row-step-requires : tie.Need-row-step-requires Inv-loop μ-loop
-row-step-requires c κs = step-below c
+mul-number-at : tie.Need-mul-number-at Inv-loop μ-loop
+mul-number-at c = omega (arith, step-below c)
+
+number-at-requires : tie.Need-number-at-requires Inv-loop μ-loop
+number-at-requires c κs = omega (arith, step-below c)
 
 landing-requires : tie.Need-landing-requires Inv-loop μ-loop
 landing-requires c κs =
     let a = c .before .before .before .before .before .before in
-    let s = c .row-step in
+    let s = c .number-at in
     let h = N.div-le-self (a .args .i) (a .args .columns) in
     (omega (arith, a .pre .0, a .pre .1 .0), rw (read-back (s .result) (s .ensures .1)) (s .ensures .1))
 
-column-step-requires : tie.Need-column-step-requires Inv-loop μ-loop
-column-step-requires c κs = step-below (c .before .before)
+mul-number-at-2 : tie.Need-mul-number-at-2 Inv-loop μ-loop
+mul-number-at-2 c = omega (arith, step-below (c .before .before))
+
+add-number-at : tie.Need-add-number-at Inv-loop μ-loop
+add-number-at c = omega (arith, step-below (c .before .before))
+
+number-at-requires-2 : tie.Need-number-at-requires-2 Inv-loop μ-loop
+number-at-requires-2 c κs = omega (arith, step-below (c .before .before))
 
 landing-requires-2 : tie.Need-landing-requires-2 Inv-loop μ-loop
 landing-requires-2 c κs =
     let a = c .before .before .before .before .before .before .before .before in
-    let s = c .column-step in
+    let s = c .number-at2 in
     let h = N.mod-le (a .args .i) (a .args .columns) in
     (omega (arith, a .pre .0, a .pre .1 .0), rw (read-back (s .result) (s .ensures .1)) (s .ensures .1))
 
@@ -108,14 +118,16 @@ module _ (c : tie.After-landing2 Inv-loop μ-loop) where
   lands : Lands rows columns i (step-at (b .loop .k)) to-row to-column
   unfolding row-of column-of
   lands =
-      let s = c .before .before .before .row-step in
-      let t = c .before .column-step in record {
+      let s = c .before .before .before .number-at in
+      let t = c .before .number-at2 in record {
         row =
             c .before .before .landing .ensures
-            ∙ ap (λ (z : ℤ). landing rows (pos (row-of columns i) +ℤ z)) (read-back (s .result) (s .ensures .1) ∙ s .ensures .0);
+            ∙ ap (λ (z : ℤ). landing rows (pos (row-of columns i) +ℤ z))
+            (read-back (s .result) (s .ensures .1) ∙ s .ensures .0 ∙ row-number all-steps (b .loop .k));
         column =
             c .landing2 .ensures
-            ∙ ap (λ (z : ℤ). landing columns (pos (column-of columns i) +ℤ z)) (read-back (t .result) (t .ensures .1) ∙ t .ensures .0);
+            ∙ ap (λ (z : ℤ). landing columns (pos (column-of columns i) +ℤ z))
+            (read-back (t .result) (t .ensures .1) ∙ t .ensures .0 ∙ column-number all-steps (b .loop .k));
       }
 
   -- the steps up to this one are marked
@@ -180,9 +192,12 @@ mark-moves-spec =
     end-move-requires
     first-move-requires
     loop-holds
-    row-step-requires
+    mul-number-at
+    number-at-requires
     landing-requires
-    column-step-requires
+    mul-number-at-2
+    add-number-at
+    number-at-requires-2
     landing-requires-2
     mul-marks
     add-marks
