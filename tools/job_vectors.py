@@ -13,19 +13,16 @@ formulas; the whole numbers of document 01 are scaled from the same sums at the 
 figures. Each shuffle is a job of its own here: the values are moved, and its mean and its sum of w z z are worked anew.
 """
 import functools
-import pathlib
 import random
 import struct
-import subprocess
 import sys
 from dataclasses import dataclass, replace
 from fractions import Fraction
 
 from nearest_float import nearest_bits
+from stored_runs import batches, command, files, must_be_kept, must_begin, run
 
 SEED = 20261115
-HERE = pathlib.Path(__file__).resolve().parent.parent / 'crates' / 'vectors'
-READ = 65535  # as many bytes as one run is given
 CLASSES = range(9)
 LENT, FLOAT_LENT = '7', '3fe0000000000000'  # what every place of a lent list holds before the call: 7, or the bits of 0.5
 
@@ -504,19 +501,14 @@ def kept():
     jobs = [*documents(), *ties(), *broken_sizes(), *broken_entries(), *broken_twice()]
     jobs += drawn(random.Random(SEED), 20, (2, 3, 4, 5, 6, 8))
     given, written = b''.join(image(made) for made in jobs), [x for made in jobs for x in lines(made)]
-    assert len(given) <= READ, 'the program reads at most 65,535 bytes'
-    for begun in PRINTED:
-        if not any(x.startswith(begun) for x in written):
-            sys.exit(f'a line must begin with "{begun}", and none does')
-    return jobs, {'stdin': given, 'stdout': ''.join(x + '\n' for x in written).encode()}
+    must_begin(written, PRINTED)
+    return jobs, files(given, written)
 
 
 def check():
-    jobs, files = kept()
-    for name, data in files.items():
-        if (HERE / name).read_bytes() != data:
-            sys.exit(f'crates/vectors/{name} is not what tools/job_vectors.py makes')
-    refused = sum(1 for made in jobs if is_refused(made))
+    jobs, made = kept()
+    must_be_kept('vectors', made)
+    refused = sum(1 for job in jobs if is_refused(job))
     print(f'the {len(jobs)} kept jobs, {refused} of them refused by some call, are what tools/job_vectors.py makes')
 
 
@@ -566,23 +558,6 @@ class Printed:
 
 
 # ---- the comparison
-
-def run(program, given):
-    return subprocess.run([program], input=given, capture_output=True, check=True).stdout.decode().splitlines()
-
-
-def batches(jobs):
-    """The jobs, as many together as one run is given."""
-    batch, size = [], 0
-    for made in jobs:
-        more = len(image(made))
-        if size + more > READ:
-            yield batch
-            batch, size = [], 0
-        batch.append(made)
-        size += more
-    yield batch
-
 
 def compare_batch(program, batch):
     """Answers how many floats were compared."""
@@ -649,24 +624,12 @@ def compare(program):
     rng = random.Random(SEED + 1)
     jobs = [*drawn(rng, 3600, range(2, 13)), *drawn(rng, 600, range(13, 33)), *drawn(rng, 120, range(33, 65))]
     jobs += [*(drawn_job(rng, f'largest-{k}', 64) for k in range(4)), *limits(rng)]
-    figures = sum(compare_batch(program, batch) for batch in batches(jobs))
+    figures = sum(compare_batch(program, batch) for batch in batches(jobs, image))
     ended = compare_cut(program) + compare_room(program)
     refused = sum(1 for made in jobs if is_refused(made))
     print(f'{len(jobs)} jobs equal, {refused} of them refused by some call; their printed numbers add up and are in order, and {figures} '
           f'floats are the nearest to their ratios; {ended} inputs cut off, or with lists that just fit or do not, equal')
 
 
-def main():
-    if sys.argv[1:] == ['--check']:
-        check()
-    elif len(sys.argv) == 3 and sys.argv[1] == '--compare':
-        compare(sys.argv[2])
-    elif len(sys.argv) == 1:
-        for name, data in kept()[1].items():
-            (HERE / name).write_bytes(data)
-    else:
-        sys.exit(__doc__)
-
-
 if __name__ == '__main__':
-    main()
+    command('vectors', lambda: kept()[1], check, compare, __doc__)

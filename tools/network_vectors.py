@@ -18,16 +18,14 @@ import collections
 import functools
 import itertools
 import math
-import pathlib
 import random
 import struct
-import subprocess
 import sys
 from dataclasses import dataclass, replace
 
+from stored_runs import batches, command, files, must_be_kept, must_begin, run
+
 SEED = 20261117
-HERE = pathlib.Path(__file__).resolve().parent.parent / 'crates' / 'networks'
-READ = 65535  # as many bytes as one run is given
 LENT = 7  # what every place of a lent list holds before the call
 FAR, BAND = 30000, 2 ** 32 - 1  # the largest coordinate and the largest band
 CALLS = ['joins', 'gabriel', 'bands', 'rook', 'bishop', 'queen']  # by the numbers that the program knows them by
@@ -503,9 +501,7 @@ def drawn(rng, count, among):
 
 def judge(written):
     """Whether the lines have what is known of them from elsewhere."""
-    for begun in [*PRINTED, *ONES]:
-        if not any(x.startswith(begun) for x in written):
-            sys.exit(f'a line must begin with "{begun}", and none does')
+    must_begin(written, [*PRINTED, *ONES])
     for begun, ones in ONES.items():
         if any(x.startswith(begun) and x.removeprefix(begun).count('1') != ones for x in written):
             sys.exit(f'the line that begins with "{begun}" must have {ones} ones')
@@ -516,18 +512,15 @@ def kept():
     cases = [*documents(), *grids(), *broken_grids(), *circles(), *distances(), *broken_sizes(), *broken_joins(), *broken_places()]
     cases += [*broken_bands(), *drawn(random.Random(SEED), 36, (2, 3, 4, 5, 6, 8))]
     given, written = b''.join(image(made) for made in cases), [line(made) for made in cases]
-    assert len(given) <= READ, 'one run is given at most 65,535 bytes'
     judge(written)
-    return cases, {'stdin': given, 'stdout': ''.join(x + '\n' for x in written).encode()}
+    return cases, files(given, written)
 
 
 def check():
     """Whether the two files are what is made here."""
-    cases, files = kept()
-    for name, data in files.items():
-        if (HERE / name).read_bytes() != data:
-            sys.exit(f'crates/networks/{name} is not what tools/network_vectors.py makes')
-    refused = sum(1 for made in cases if refusal(made))
+    cases, made = kept()
+    must_be_kept('networks', made)
+    refused = sum(1 for case in cases if refusal(case))
     print(f'the {len(cases)} kept cases, {refused} of them refused, are what tools/network_vectors.py makes')
 
 
@@ -566,24 +559,6 @@ def wrong(case, entries):
 
 # ---- the comparison
 
-def run(program, given):
-    """The lines that the program writes."""
-    return subprocess.run([program], input=given, capture_output=True, check=True).stdout.decode().splitlines()
-
-
-def batches(cases):
-    """The cases, as many together as one run is given."""
-    batch, size = [], 0
-    for made in cases:
-        more = len(image(made))
-        if size + more > READ:
-            yield batch
-            batch, size = [], 0
-        batch.append(made)
-        size += more
-    yield batch
-
-
 def compare_batch(program, batch):
     """Compares every line, looks at the numbers in it, and answers the entries of each."""
     found, lists = run(program, b''.join(image(made) for made in batch)), []
@@ -610,7 +585,7 @@ def lattices():
 
 def compare_lattices(program, groups):
     """What was printed of the five calls on one lattice must agree among itself."""
-    lists = [entries for batch in batches(made for group in groups for made in group) for entries in compare_batch(program, batch)]
+    lists = [entries for batch in batches((made for group in groups for made in group), image) for entries in compare_batch(program, batch)]
     for k, group in enumerate(groups):
         rook, bishop, queen, joined, classes = lists[5 * k:5 * k + 5]
         if queen != [a + b for a, b in zip(rook, bishop)]:
@@ -663,7 +638,7 @@ def compare(program):
     """Compares all that is drawn, and prints what was compared."""
     rng, groups = random.Random(SEED + 1), list(lattices())
     cases = [*drawn(rng, 6000, range(2, 11)), *drawn(rng, 900, range(11, 33)), *drawn(rng, 120, range(33, 65)), *largest(rng)]
-    for batch in batches(cases):
+    for batch in batches(cases, image):
         compare_batch(program, batch)
     compare_lattices(program, groups)
     ended = compare_cut(program) + compare_room(program)
@@ -677,18 +652,5 @@ def compare(program):
     print(f'compared {len(cases)} cases, {len(cases) - taken} of them refused: all equal')
 
 
-def main():
-    """As the words of the command line say."""
-    if sys.argv[1:] == ['--check']:
-        check()
-    elif len(sys.argv) == 3 and sys.argv[1] == '--compare':
-        compare(sys.argv[2])
-    elif len(sys.argv) == 1:
-        for name, data in kept()[1].items():
-            (HERE / name).write_bytes(data)
-    else:
-        sys.exit(__doc__)
-
-
 if __name__ == '__main__':
-    main()
+    command('networks', lambda: kept()[1], check, compare, __doc__)

@@ -8,16 +8,14 @@
 The float is Python's int / int, which rounds correctly. That it did so is looked at too (nearest_float.py), ratio by ratio, in exact
 fractions: the float's two neighbours lie no nearer, and where one lies equally near, the float's last bit is 0.
 """
-import pathlib
 import random
 import struct
-import subprocess
 import sys
 
 from nearest_float import nearest_bits
+from stored_runs import command, files, must_be_kept, run
 
 SEED = 20261116
-HERE = pathlib.Path(__file__).resolve().parent.parent / 'crates' / 'ratios'
 LIMIT = 6 * 10**18
 LEAST, MOST = -2**63, 2**63 - 1
 AT_ONCE = 65536 // 16  # as many ratios as the program reads
@@ -156,7 +154,7 @@ def kept():
     for (p, q, wanted), found in zip(PRINTED, lines):
         if found != f'{wanted:016X}':
             sys.exit(f'{p} / {q} gives {found}, and document 01 has {wanted:016X}')
-    return {'stdin': packed(ratios), 'stdout': ''.join(x + '\n' for x in lines).encode()}
+    return files(packed(ratios), lines)
 
 
 # ---- the comparison
@@ -168,8 +166,7 @@ def compare(program):
         wanted = [line(p, q) for p, q in ratios]
         found = []
         for i in range(0, len(ratios), AT_ONCE):
-            ran = subprocess.run([program], input=packed(ratios[i:i + AT_ONCE]), capture_output=True, check=True)
-            found += ran.stdout.decode().splitlines()
+            found += run(program, packed(ratios[i:i + AT_ONCE]))
         if found != wanted:
             wrong = [(r, w, f) for r, w, f in zip(ratios, wanted, found) if w != f]
             sys.exit(f'{kind.__name__}: {len(wanted)} lines wanted, {len(found)} found; first that differ: {wrong[:3]}')
@@ -177,28 +174,17 @@ def compare(program):
         print(f'{kind.__name__:12} {len(wanted):6} ratios equal, {wanted.count("refused 18")} of them refused')
     whole = packed(PRINTED_RATIOS)
     for length in range(len(whole)):
-        ran = subprocess.run([program], input=whole[:length], capture_output=True, check=True)
-        if ran.stdout.decode().splitlines() != [line(p, q) for p, q in PRINTED_RATIOS[:length // 16]]:
+        if run(program, whole[:length]) != [line(p, q) for p, q in PRINTED_RATIOS[:length // 16]]:
             sys.exit(f'input cut off after {length} bytes: another number of lines than whole ratios')
     print(f'{every} ratios equal, {refused} of them refused; {len(whole)} inputs cut off, of which each whole ratio has its line')
     if every < 100000:
         sys.exit('fewer than 100,000 ratios')
 
 
-def main():
-    if sys.argv[1:] == ['--check']:
-        for name, data in kept().items():
-            if (HERE / name).read_bytes() != data:
-                sys.exit(f'crates/ratios/{name} is not what tools/ratios.py makes')
-        print('the kept ratios are what tools/ratios.py makes')
-    elif len(sys.argv) == 3 and sys.argv[1] == '--compare':
-        compare(sys.argv[2])
-    elif len(sys.argv) == 1:
-        for name, data in kept().items():
-            (HERE / name).write_bytes(data)
-    else:
-        sys.exit(__doc__)
+def check():
+    must_be_kept('ratios', kept())
+    print('the kept ratios are what tools/ratios.py makes')
 
 
 if __name__ == '__main__':
-    main()
+    command('ratios', kept, check, compare, __doc__)
