@@ -14,7 +14,7 @@ use Rattle.whole.proofs.Compare.{equal-true}
 use Rattle.whole.proofs.Integer.{diff-of, diff-+, diff-neg, diff-eq}
 use Rattle.whole.proofs.Search.{some-none, some-witness}
 use Rattle.whole.proofs.Size.{size-neg}
-use Rattle.grid.specs.Moves.{Step, rook-steps, bishop-steps, steps-of, row-of, column-of, leads, any-leads}
+use Rattle.grid.specs.Moves.{Step, rook-steps, bishop-steps, steps-of, grid-row, grid-column, leads, any-leads}
 use Rattle.grid.specs.declared.Move.{Move}
 use Rattle.grid.specs.declared.Move.the-variants.{Rook, Bishop, Queen}
 use Rattle.grid.proofs.Zones.{both-passed}
@@ -41,10 +41,10 @@ equal-back a s b = ap (λ m. eqb m 0) (sym (size-neg ((a +ℤ s) -ℤ b)) ∙ ap
 leads-back : (columns i j : ℕ) (step : Step) → leads columns i j step ≡ leads columns j i (back step)
 unfolding leads
 leads-back columns i j step =
-    let row = equal-back (pos (row-of columns i)) (step .0) (pos (row-of columns j)) in
-    let column = equal-back (pos (column-of columns i)) (step .1) (pos (column-of columns j)) in
-    ap (λ b. b && equal (pos (column-of columns i) +ℤ step .1) (pos (column-of columns j))) row
-    ∙ ap (λ b. equal (pos (row-of columns j) +ℤ negℤ (step .0)) (pos (row-of columns i)) && b) column
+    let row = equal-back (pos (grid-row columns i)) (step .0) (pos (grid-row columns j)) in
+    let column = equal-back (pos (grid-column columns i)) (step .1) (pos (grid-column columns j)) in
+    ap (λ b. b && equal (pos (grid-column columns i) +ℤ step .1) (pos (grid-column columns j))) row
+    ∙ ap (λ b. equal (pos (grid-row columns j) +ℤ negℤ (step .0)) (pos (grid-row columns i)) && b) column
 
 -- a test of four, in pairs the other way round
 crossed : (a b c d : Bool) → (((a || b) || c) || d) ≡ (((b || a) || d) || c)
@@ -84,7 +84,7 @@ move-back Queen columns i j = queen-leads columns i j ∙ rw (rook-back columns 
 -- a step does where it is (0, 0)
 stays : (columns i : ℕ) (step : Step) → leads columns i i step ≡ (is-zero (step .0) && is-zero (step .1))
 unfolding leads
-stays columns i step = rw (added (pos (row-of columns i)) (step .0), added (pos (column-of columns i)) (step .1)) refl
+stays columns i step = rw (added (pos (grid-row columns i)) (step .0), added (pos (grid-column columns i)) (step .1)) refl
 
 pub move-away : (kind : Move) (columns i : ℕ) → any-leads columns i i (steps-of kind) ≡ false
 unfolding any-leads some
@@ -120,7 +120,7 @@ between-is a s b e = sym (added a s) ∙ ap (λ z. z -ℤ a) (equal-true (a +ℤ
 module _ (columns i j : ℕ) where
   -- the step between two zones
   abbrev between : Step
-  between = (pos (row-of columns j) -ℤ pos (row-of columns i), pos (column-of columns j) -ℤ pos (column-of columns i))
+  between = (pos (grid-row columns j) -ℤ pos (grid-row columns i), pos (grid-column columns j) -ℤ pos (grid-column columns i))
 
   -- it is straight where a step that leads from the one to the other is
   leads-between : (step : Step) → leads columns i j step ≡ true → straight step ≡ straight between
@@ -128,8 +128,8 @@ module _ (columns i j : ℕ) where
   leads-between step e =
       let f = both-passed _ _ e in
       rw (
-        between-is (pos (row-of columns i)) (step .0) (pos (row-of columns j)) (f .0),
-        between-is (pos (column-of columns i)) (step .1) (pos (column-of columns j)) (f .1),
+        between-is (pos (grid-row columns i)) (step .0) (pos (grid-row columns j)) (f .0),
+        between-is (pos (grid-column columns i)) (step .1) (pos (grid-column columns j)) (f .1),
       ) refl
 
   -- so not both a rook and a bishop lead there

@@ -11,35 +11,35 @@ use lib.IntN.{ℤ, pos, negsuc, _+ℤ_}
 use Rattle.whole.specs.Integer.{equal}
 use Rattle.whole.proofs.Compare.{equal-same, equal-true}
 use Rattle.whole.proofs.TableRows.{split}
-use Rattle.grid.specs.Moves.{Step, row-of, column-of, leads}
+use Rattle.grid.specs.Moves.{Step, grid-row, grid-column, leads}
 use Rattle.grid.specs.Steps.{landing}
 
 -- ---- the row and the column of a zone
 -- they lie in the grid
 module _ (rows columns i : ℕ) (h : i < rows * columns) where
-  row-within : row-of columns i < rows
-  unfolding row-of
+  row-within : grid-row columns i < rows
+  unfolding grid-row
   row-within = split rows columns i h .row
 
-  column-within : column-of columns i < columns
-  unfolding column-of
+  column-within : grid-column columns i < columns
+  unfolding grid-column
   column-within = split rows columns i h .column
 
   -- and give the zone
-  zone-is : i ≡ row-of columns i * columns + column-of columns i
-  unfolding row-of column-of
+  zone-is : i ≡ grid-row columns i * columns + grid-column columns i
+  unfolding grid-row grid-column
   zone-is = sym (split rows columns i h .whole)
 
 -- ---- the zone at row r and column c
 module _ (columns r c : ℕ) (h : c < columns) where
   -- that is its row
-  row-is : row-of columns (r * columns + c) ≡ r
-  unfolding row-of
+  row-is : grid-row columns (r * columns + c) ≡ r
+  unfolding grid-row
   row-is = digits-div r {m = columns} {r = c} h
 
   -- and that its column
-  column-is : column-of columns (r * columns + c) ≡ c
-  unfolding column-of
+  column-is : grid-column columns (r * columns + c) ≡ c
+  unfolding grid-column
   column-is = digits-mod r {m = columns} {r = c} h
 
   -- it is one of the grid's
@@ -74,15 +74,15 @@ equal-at z a b e f = rw (e, f) (equal-same (pos a))
 
 -- ---- a step from zone i lands at row r and column c
 pub record Lands (rows columns i : ℕ) (step : Step) (r c : ℕ) : Type 0 where
-  pub row : r ≡ landing rows (pos (row-of columns i) +ℤ step .0)
-  pub column : c ≡ landing columns (pos (column-of columns i) +ℤ step .1)
+  pub row : r ≡ landing rows (pos (grid-row columns i) +ℤ step .0)
+  pub column : c ≡ landing columns (pos (grid-column columns i) +ℤ step .1)
 
 module _ {rows columns i : ℕ} {step : Step} {r c : ℕ} (lands : Lands rows columns i step r c) where
   abbrev row-sum : ℤ
-  row-sum = pos (row-of columns i) +ℤ step .0
+  row-sum = pos (grid-row columns i) +ℤ step .0
 
   abbrev column-sum : ℤ
-  column-sum = pos (column-of columns i) +ℤ step .1
+  column-sum = pos (grid-column columns i) +ℤ step .1
 
   -- where these are in the grid, it leads to the zone there
   pub leads-there : r < rows → c < columns → leads columns i (r * columns + c) step ≡ true
@@ -95,9 +95,9 @@ module _ {rows columns i : ℕ} {step : Step} {r c : ℕ} (lands : Lands rows co
   pub leads-only : (j : ℕ) → j < rows * columns → leads columns i j step ≡ true → (r < rows) × (c < columns) × (j ≡ r * columns + c)
   unfolding leads
   leads-only j h e =
-      let f = both-passed (equal row-sum (pos (row-of columns j))) (equal column-sum (pos (column-of columns j))) e in
+      let f = both-passed (equal row-sum (pos (grid-row columns j))) (equal column-sum (pos (grid-column columns j))) e in
       let p = row-within rows columns j h in
       let q = column-within rows columns j h in
-      let in-row = lands .row ∙ lands-at rows (row-of columns j) row-sum (equal-true row-sum _ (f .0)) p in
-      let in-column = lands .column ∙ lands-at columns (column-of columns j) column-sum (equal-true column-sum _ (f .1)) q in
+      let in-row = lands .row ∙ lands-at rows (grid-row columns j) row-sum (equal-true row-sum _ (f .0)) p in
+      let in-column = lands .column ∙ lands-at columns (grid-column columns j) column-sum (equal-true column-sum _ (f .1)) q in
       (omega arith, omega arith, rw (in-row, in-column) (zone-is rows columns j h))

@@ -26,17 +26,17 @@ steps-of Bishop = bishop-steps
 steps-of Queen = rook-steps ++ bishop-steps
 
 -- ---- zones row by row: the row and the column of a zone, where a row has so many columns
-unfoldable pub row-of : ℕ → ℕ → ℕ
-row-of columns i = i / columns
+unfoldable pub grid-row : ℕ → ℕ → ℕ
+grid-row columns i = i / columns
 
-unfoldable pub column-of : ℕ → ℕ → ℕ
-column-of columns i = i % columns
+unfoldable pub grid-column : ℕ → ℕ → ℕ
+grid-column columns i = i % columns
 
 -- a step leads from zone i to zone j
 unfoldable pub leads : ℕ → ℕ → ℕ → Step → Bool
 leads columns i j step =
-    equal (pos (row-of columns i) +ℤ step .0) (pos (row-of columns j))
-    && equal (pos (column-of columns i) +ℤ step .1) (pos (column-of columns j))
+    equal (pos (grid-row columns i) +ℤ step .0) (pos (grid-row columns j))
+    && equal (pos (grid-column columns i) +ℤ step .1) (pos (grid-column columns j))
 
 -- some step of the list does
 unfoldable pub any-leads : ℕ → ℕ → ℕ → List Step → Bool

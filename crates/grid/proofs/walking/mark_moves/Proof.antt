@@ -13,7 +13,7 @@ use mir.Syntax.{w64}
 use Rattle.whole.proofs.Machine.{back, r64}
 use Rattle.whole.proofs.Table.{table-length}
 use Rattle.whole.proofs.TableRows.{some-columns}
-use Rattle.grid.specs.Moves.{row-of, column-of}
+use Rattle.grid.specs.Moves.{grid-row, grid-column}
 use Rattle.grid.specs.Steps.{all-steps, step-at, first-of, end-of, landing}
 use Rattle.grid.specs.declared.Move.{Move}
 use Rattle.grid.specs.declared.Move.the-variants.{Rook, Bishop, Queen}
@@ -116,17 +116,17 @@ module _ (c : tie.After-landing2 Inv-loop μ-loop) where
 
   -- where it lands
   lands : Lands rows columns i (step-at (b .loop .k)) to-row to-column
-  unfolding row-of column-of
+  unfolding grid-row grid-column
   lands =
       let s = c .before .before .before .number-at in
       let t = c .before .number-at2 in record {
         row =
             c .before .before .landing .ensures
-            ∙ ap (λ (z : ℤ). landing rows (pos (row-of columns i) +ℤ z))
+            ∙ ap (λ (z : ℤ). landing rows (pos (grid-row columns i) +ℤ z))
             (read-back (s .result) (s .ensures .1) ∙ s .ensures .0 ∙ row-number all-steps (b .loop .k));
         column =
             c .landing2 .ensures
-            ∙ ap (λ (z : ℤ). landing columns (pos (column-of columns i) +ℤ z))
+            ∙ ap (λ (z : ℤ). landing columns (pos (grid-column columns i) +ℤ z))
             (read-back (t .result) (t .ensures .1) ∙ t .ensures .0 ∙ column-number all-steps (b .loop .k));
       }
 
