@@ -1,7 +1,7 @@
 -- The rank of a job: how many shuffles of its values have a P less than, equal to and greater than its own. The job itself is not counted.
 -- A list of shuffles has a row of n zone numbers for each. Assumes nothing.
 use mathlib.Core.Bool.{Bool, cond}
-use mathlib.Core.List.{List, [], _∷_}
+use mathlib.Core.List.{List, [], _∷_, _++_}
 use Prim.Native.Nat.{ℕ, _*_, _/_}
 use lib.Dec.{ltb}
 use lib.IntN.{ℤ}
@@ -9,7 +9,7 @@ use lib.ListN.{length}
 use lib.Signed.{ltZ}
 use Rattle.whole.specs.Integer.{equal}
 use Rattle.whole.specs.Order.{lacks}
-use Rattle.whole.specs.Rules.{Rule, first-broken, unless-refused}
+use Rattle.whole.specs.Rules.{Rule, first-broken, size-rules, unless-refused}
 use Rattle.whole.specs.Search.{some, count}
 use Rattle.whole.specs.Table.{at, pair-at}
 use Rattle.account.specs.Measures.{deviation-of, cross-of}
@@ -57,9 +57,15 @@ unfoldable pub rank-rules : ℕ → List ℤ → List ℕ → List ℕ → List 
 rank-rules n values weights shuffles =
     call-rules n values weights ((length shuffles, shuffle-count n (length shuffles) * n) ∷ []) ((any-lacking n shuffles, 13) ∷ [])
 
--- its refusal, 0 where no rule is broken
+-- the rank's refusal, 0 where no rule is broken
 unfoldable pub rank-refusal : ℕ → List ℤ → List ℕ → List ℕ → ℕ
 rank-refusal n values weights shuffles = first-broken (rank-rules n values weights shuffles)
+
+-- 1, 2 and 13 of a list of shuffles alone; the refusal is 0 where no rule is broken
+unfoldable pub shuffle-refusal : ℕ → List ℕ → ℕ
+shuffle-refusal n shuffles =
+    first-broken
+    (size-rules n ((length shuffles, shuffle-count n (length shuffles) * n) ∷ []) ++ ((any-lacking n shuffles, 13) ∷ []))
 
 -- ---- what is answered
 

@@ -12,15 +12,14 @@ use Rattle.account.specs.Measures.{weight-of, spread-of}
 
 -- ---- a job's own rules
 
--- 3 to 7: the values, the weights, W and M
+-- 6 and 7: W and M
+abbrev pub sum-rules : ℕ → List ℤ → List ℕ → List Rule
+sum-rules n values weights = (is-zero (weight-of (pair-at weights n) n), 6) ∷ (is-zero (spread-of (at values) n), 7) ∷ []
+
+-- 3 to 7: the values, the weights, then 6 and 7
 unfoldable pub job-rules : ℕ → List ℤ → List ℕ → List Rule
 job-rules n values weights =
-    (any-beyond 100000 values, 3)
-    ∷ (any-above 9 weights, 4)
-    ∷ (any-on-diagonal n weights, 5)
-    ∷ (is-zero (weight-of (pair-at weights n) n), 6)
-    ∷ (is-zero (spread-of (at values) n), 7)
-    ∷ []
+    (any-beyond 100000 values, 3) ∷ (any-above 9 weights, 4) ∷ (any-on-diagonal n weights, 5) ∷ sum-rules n values weights
 
 -- ---- a call on a job
 
@@ -32,6 +31,12 @@ job-lengths n values weights lent = (values, n) ∷ (weights, n * n) ∷ lent
 unfoldable pub call-rules : ℕ → List ℤ → List ℕ → List (ℕ × ℕ) → List Rule → List Rule
 call-rules n values weights lent besides =
     size-rules n (job-lengths n (length values) (length weights) lent) ++ (job-rules n values weights ++ besides)
+
+-- ---- a job alone, with no further list
+
+-- 1 to 7; the refusal is 0 where no rule is broken
+unfoldable pub job-refusal : ℕ → List ℤ → List ℕ → ℕ
+job-refusal n values weights = first-broken (call-rules n values weights [] [])
 
 -- ---- the account, and the hot list: each is lent a list of n places, for the local numerators or for the zone numbers
 

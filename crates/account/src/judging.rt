@@ -7,9 +7,9 @@ ghost use mathlib.Core.List.{[], _∷_};
 ghost use Prim.Native.Nat.{_*_, _≤_};
 ghost use lib.ListN.{length};
 ghost use Rattle.whole.specs.Rules.{first-broken, size-rules};
-ghost use Rattle.account.specs.Refusals.{job-rules, job-lengths, call-rules};
+ghost use Rattle.account.specs.Refusals.{job-rules, job-lengths, call-rules, job-refusal};
 ghost use Rattle.account.specs.Classes.{class-refusal};
-ghost use Rattle.account.specs.Rank.{shuffle-count, rank-refusal};
+ghost use Rattle.account.specs.Rank.{shuffle-count, rank-refusal, shuffle-refusal};
 
 // 3 to 7, of a job whose sizes are good.
 pub fn judge_job(n: usize, values: &[i32], weights: &[u8]) -> u8
@@ -46,6 +46,13 @@ pub fn judge_account(n: usize, values: &[i32], weights: &[u8], places: usize) ->
         return sizes;
     }
     judge_job(n, values, weights)
+}
+
+// 1 to 7 of a job alone.
+pub fn judge(n: usize, values: &[i32], weights: &[u8]) -> u8
+    ensures { λ r. ⌜ r ≡ job-refusal n (now (values .entry)) (now (weights .entry)) ⌝ }
+{
+    judge_account(n, values, weights, n)
 }
 
 // 1 and 2 of a class account: n, and the lengths of its five lists, the nine rows in `room` places.
@@ -140,6 +147,26 @@ pub fn judge_rank(n: usize, values: &[i32], weights: &[u8], shuffles: &[u8]) -> 
     let job = judge_job(n, values, weights);
     if job != 0 {
         return job;
+    }
+    if shuffling::any_lacking(n, shuffles, shuffles.len() / n) {
+        return 13;
+    }
+    0
+}
+
+// 1, 2 and 13 of a list of shuffles alone.
+pub fn judge_shuffles(n: usize, shuffles: &[u8]) -> u8
+    ensures { λ r. ⌜ r ≡ shuffle-refusal n (now (shuffles .entry)) ⌝ }
+{
+    if n < 2 {
+        return 1;
+    }
+    if n > 64 {
+        return 1;
+    }
+    let sizes = judge_rank_sizes(n, n, n * n, shuffles.len());
+    if sizes != 0 {
+        return sizes;
     }
     if shuffling::any_lacking(n, shuffles, shuffles.len() / n) {
         return 13;

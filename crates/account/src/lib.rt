@@ -11,6 +11,8 @@ mod rows;
 mod shuffling;
 mod working;
 
+pub use judging::judge;
+pub use judging::judge_shuffles;
 ghost use mathlib.Core.Path.{_≡_};
 ghost use lib.ListN.{length};
 ghost use Rattle.account.specs.Refusals.{account-refusal};

@@ -48,9 +48,13 @@ any-empty-band bands = some (λ k. eqb (band-at bands k) 0) (length bands)
 unfoldable pub any-not-rising : List ℕ → Bool
 any-not-rising bands = some (λ k. not (ltb (band-at bands k) (band-at bands (k + 1)))) (length bands - 1)
 
+-- a band of 0, or bands not strictly rising
+unfoldable pub any-misplaced : List ℕ → Bool
+any-misplaced bands = any-empty-band bands || any-not-rising bands
+
 -- 12: a count outside 1 to 8, a band of 0, or bands not strictly rising
 unfoldable pub bands-broken : List ℕ → Bool
-bands-broken bands = outside 1 8 (length bands) || (any-empty-band bands || any-not-rising bands)
+bands-broken bands = outside 1 8 (length bands) || any-misplaced bands
 
 -- 1, 2, 10, 11 and 12, the band list having no exact length; the refusal is 0 where no rule is broken
 unfoldable pub band-refusal : ℕ → List ℤ → List ℕ → ℕ → ℕ

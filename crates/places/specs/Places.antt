@@ -1,11 +1,11 @@
 -- Places: two coordinates for each zone from -30,000 to 30,000, across then up, in one list. Assumes nothing.
 use mathlib.Core.Bool.{Bool, _&&_}
 use mathlib.Core.List.{List, [], _∷_, _++_}
-use Prim.Native.Nat.{ℕ, _+_, _*_}
+use Prim.Native.Nat.{ℕ, _+_, _*_, _/_}
 use lib.IntN.{ℤ, _+ℤ_, _-ℤ_}
 use lib.ListN.{length}
 use Rattle.whole.specs.Integer.{square, equal}
-use Rattle.whole.specs.Rules.{Rule, size-rules}
+use Rattle.whole.specs.Rules.{Rule, size-rules, in-turn}
 use Rattle.whole.specs.Search.{some, any-beyond}
 use Rattle.whole.specs.Table.{at}
 
@@ -36,3 +36,13 @@ place-rules n places = (any-beyond 30000 places, 10) ∷ (any-at-one-place n pla
 unfoldable pub call-rules : ℕ → List ℤ → ℕ → List Rule → List Rule
 call-rules n places room besides =
     size-rules n ((length places, 2 * n) ∷ (room, n * n) ∷ []) ++ (place-rules n places ++ besides)
+
+-- ---- place by place, as the job image is judged
+
+-- of zone a: 10, then 11 against the earlier places
+unfoldable pub place-rules-of : List ℤ → ℕ → List Rule
+place-rules-of places a = (any-beyond 30000 (across places a ∷ up places a ∷ []), 10) ∷ (some (at-one-place places a) a, 11) ∷ []
+
+-- of every zone in turn; two coordinates are a zone's
+unfoldable pub places-in-turn : List ℤ → List Rule
+places-in-turn places = in-turn (place-rules-of places) (length places / 2)

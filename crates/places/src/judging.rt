@@ -5,12 +5,11 @@ ghost use Prim.Native.Nat.{_+_, _*_, _<_, _≤_};
 ghost use lib.ListN.{length};
 ghost use Rattle.whole.specs.Rules.{first-broken, size-rules};
 ghost use Rattle.whole.specs.Search.{some};
-ghost use Rattle.places.specs.Places.{at-one-place, any-at-one-place, call-rules};
-ghost use Rattle.places.specs.Bands.{any-empty-band, any-not-rising, bands-broken, band-refusal};
+ghost use Rattle.places.specs.Places.{at-one-place, any-at-one-place, call-rules, places-in-turn};
+ghost use Rattle.places.specs.Bands.{any-empty-band, any-not-rising, any-misplaced, bands-broken, band-refusal};
 
 // Whether a zone before a is at its place.
 pub fn earlier_at_place(places: &[i32], a: usize) -> bool
-    requires { ⌜ length (now places) ≤ 128 ⌝ }
     requires { ⌜ 2 * a + 1 < length (now places) ⌝ }
     ensures { λ r. ⌜ r ≡ some (at-one-place (now (places .entry)) a) a ⌝ }
 {
@@ -80,6 +79,26 @@ pub fn judge_places(n: usize, places: &[i32], room: usize) -> u8
     0
 }
 
+// 10 and 11 zone by zone: at each its coordinates, then the earlier places.
+pub fn judge_in_turn(places: &[i32]) -> u8
+    ensures { λ r. ⌜ r ≡ first-broken (places-in-turn (now (places .entry))) ⌝ }
+{
+    let zones = places.len() / 2;
+    let mut a: usize = 0;
+    while a < zones {
+        let first = 2 * a;
+        let end = first + 2;
+        if judges::any_beyond(30000, &places[first..end]) {
+            return 10;
+        }
+        if earlier_at_place(places, a) {
+            return 11;
+        }
+        a += 1;
+    }
+    0
+}
+
 // Whether some band is 0.
 pub fn any_empty_band(bands: &[u32]) -> bool
     ensures { λ r. ⌜ r ≡ any-empty-band (now (bands .entry)) ⌝ }
@@ -109,6 +128,19 @@ pub fn any_not_rising(bands: &[u32]) -> bool
     false
 }
 
+// Whether a band is 0, or the bands do not rise strictly. Of no bands neither is so.
+pub fn any_misplaced(bands: &[u32]) -> bool
+    ensures { λ r. ⌜ r ≡ any-misplaced (now (bands .entry)) ⌝ }
+{
+    if bands.len() == 0 {
+        return false;
+    }
+    if any_empty_band(bands) {
+        return true;
+    }
+    any_not_rising(bands)
+}
+
 // Whether the bands break rule 12.
 pub fn bands_broken(bands: &[u32]) -> bool
     ensures { λ r. ⌜ r ≡ bands-broken (now (bands .entry)) ⌝ }
@@ -119,10 +151,7 @@ pub fn bands_broken(bands: &[u32]) -> bool
     if bands.len() > 8 {
         return true;
     }
-    if any_empty_band(bands) {
-        return true;
-    }
-    any_not_rising(bands)
+    any_misplaced(bands)
 }
 
 // 1, 2, 10, 11, then 12: the bands' refusal.

@@ -4,6 +4,8 @@ mod distances;
 mod joining;
 mod judging;
 
+pub use judging::any_misplaced;
+pub use judging::judge_in_turn;
 ghost use mathlib.Core.Path.{_≡_};
 ghost use lib.ListN.{length};
 ghost use Rattle.places.specs.Gabriel.{gabriel-refusal, gabriel-left};

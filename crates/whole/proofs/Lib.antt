@@ -12,6 +12,7 @@ pub mod Counting
 pub mod Permutation
 pub mod Order
 pub mod Rules
+pub mod InTurn
 pub mod Machine
 pub mod Sign
 pub mod Accumulate

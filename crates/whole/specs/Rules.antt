@@ -1,9 +1,9 @@
 -- Numbered rules, the refusal that they lead to, and what a refusal leaves. Assumes nothing.
 use mathlib.Core.Path.{_≡_}
 use mathlib.Core.Bool.{Bool, true, false, not, cond, _||_}
-use mathlib.Core.List.{List, [], _∷_}
+use mathlib.Core.List.{List, [], _∷_, _++_}
 use mathlib.Core.Logic.{_⊎_}
-use Prim.Native.Nat.{ℕ}
+use Prim.Native.Nat.{ℕ, zero, suc}
 use lib.Dec.{ltb, eqb}
 
 -- a rule: whether it is broken, and its number
@@ -14,6 +14,11 @@ Rule = Bool × ℕ
 abbrev pub first-broken : List Rule → ℕ
 first-broken [] = 0
 first-broken (rule ∷ rules) = cond (rule .0) (rule .1) (first-broken rules)
+
+-- the rules of item 0, then those of item 1, .., then those of item k − 1
+unfoldable pub in-turn : (ℕ → List Rule) → ℕ → List Rule
+in-turn rules zero = []
+in-turn rules (suc k) = in-turn rules k ++ rules k
 
 -- the number applies: a rule with that number is broken
 abbrev pub Applies : ℕ → List Rule → Type 0

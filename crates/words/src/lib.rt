@@ -67,6 +67,18 @@ pub fn signed_word(u: u32) -> i32
     }
 }
 
+// The numbers of each byte, as many as there are places for them.
+pub fn bytes_in(bytes: &[u8], numbers: &mut [u8])
+    ensures { λ _. ⌜ now (numbers .exit) ≡ table (λ k. byte-at (now (bytes .entry)) k) (length (now (numbers .entry))) ⌝ }
+{
+    let mut k: usize = 0;
+    while k < numbers.len() {
+        let number = if k < bytes.len() { bytes[k] } else { 0 };
+        numbers[k] = number;
+        k += 1;
+    }
+}
+
 // The numbers of each four bytes, as many as there are places for them.
 pub fn words_in(bytes: &[u8], numbers: &mut [u32])
     ensures { λ _. ⌜ now (numbers .exit) ≡ table (λ k. word-at (now (bytes .entry)) (4 * k)) (length (now (numbers .entry))) ⌝ }

@@ -25,7 +25,7 @@ loop-holds : tie.Need-loop-holds Inv-loop μ-loop
 loop-holds c = (omega arith, some-zero _)
 
 earlier-at-place-requires : tie.Need-earlier-at-place-requires Inv-loop μ-loop
-earlier-at-place-requires c κs = (omega arith, omega arith)
+earlier-at-place-requires c κs = omega arith
 
 returns : tie.Need-returns Inv-loop μ-loop
 unfolding any-at-one-place

@@ -1,0 +1,6 @@
+-- Meaning: Joins, Image, Reader, Writer. Steps is what private functions ask of each other.
+pub mod Joins
+pub mod Image
+pub mod Reader
+pub mod Writer
+pub mod Steps

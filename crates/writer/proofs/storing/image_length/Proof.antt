@@ -1,0 +1,70 @@
+use borrow.Author.Needs.{needs}
+use Rattle.writer.proofs.storing.image_length.Statement.{statement}
+use Rattle.writer.proofs.storing.image_length.Tie as tie
+use Rattle.writer.proofs.storing.image_length.Reads as reads
+use Rattle.writer.proofs.storing.image_length.Lts as lts
+
+-- src/storing.rt:64:11
+mul-result : tie.Need-mul-result
+mul-result c = search needs
+
+-- src/storing.rt:63:5
+add-result : tie.Need-add-result
+add-result c = search needs
+
+-- src/storing.rt:63:5
+add-result-2 : tie.Need-add-result-2
+add-result-2 c = search needs
+
+-- src/storing.rt:66:11
+mul-result-2 : tie.Need-mul-result-2
+mul-result-2 c = search needs
+
+-- src/storing.rt:63:5
+add-result-3 : tie.Need-add-result-3
+add-result-3 c = search needs
+
+-- src/storing.rt:67:11
+mul-result-3 : tie.Need-mul-result-3
+mul-result-3 c = search needs
+
+-- src/storing.rt:63:5
+add-result-4 : tie.Need-add-result-4
+add-result-4 c = search needs
+
+-- src/storing.rt:68:11
+mul-result-4 : tie.Need-mul-result-4
+mul-result-4 c = search needs
+
+-- src/storing.rt:63:5
+add-result-5 : tie.Need-add-result-5
+add-result-5 c = search needs
+
+-- src/storing.rt:69:11
+mul-result-5 : tie.Need-mul-result-5
+mul-result-5 c = ?
+
+-- src/storing.rt:63:5
+add-result-6 : tie.Need-add-result-6
+add-result-6 c = ?
+
+-- src/storing.rt:58:1
+returns : tie.Need-returns
+returns c = search needs
+
+pub image-length-spec : {M : Type 1} → statement M
+image-length-spec =
+    tie.close
+    (tie.spec
+    mul-result
+    add-result
+    add-result-2
+    mul-result-2
+    add-result-3
+    mul-result-3
+    add-result-4
+    mul-result-4
+    add-result-5
+    mul-result-5
+    add-result-6
+    returns)
