@@ -1,0 +1,186 @@
+-- What is known of joins and of weights that break no rule, and what decides where 1 to 5 hold. Assumes nothing.
+use mathlib.Core.Path.{_≡_, refl, sym, ap, _∙_, subst}
+use mathlib.Core.Bool.{Bool, true, false, not, _&&_, _||_, false≢true}
+use mathlib.Core.List.{List, [], _∷_, _++_}
+use Prim.Native.Nat.{ℕ, zero, suc, _+_, _*_, _/_, _%_, _≤_, _<_}
+use native.Mathlib.Decide.{ℕ-discrete}
+use native.Mathlib.Omega.{arith}
+use borrow.Author.Tests.{lt-ltb, le-ltb, eq-eqb, ne-eqb, ltb-true, ltb-false, eqb-false, not-false}
+use lib.Dec.{eqb, ltb}
+use lib.Arith.{digits-div, digits-mod}
+use lib.IntN.{ℤ}
+use lib.ListN.{length, getD, set, replicate, length-set, length-replicate, List·getD-eq-default, getD-replicate}
+use lib.Seq.{getD-set-same, getD-set-other, set-out}
+use Rattle.whole.specs.Rules.{first-broken, in-turn, outside, size-rules}
+use Rattle.whole.specs.Search.{any-beyond, any-above, any-on-diagonal}
+use Rattle.whole.specs.Table.{table, pair-at}
+use Rattle.whole.proofs.InTurn.{Numbered, turn-each}
+use Rattle.whole.proofs.Lists.{within}
+use Rattle.whole.proofs.Rules.{holds, in-range, both-hold, first-next, sizes-let-in}
+use Rattle.whole.proofs.Search.{none-some, all-within}
+use Rattle.account.specs.Refusals.{job-rules, sum-rules, job-lengths, call-rules, job-refusal}
+use Rattle.account.specs.Rank.{any-lacking, shuffle-refusal}
+use Rattle.account.specs.Rank as rank
+use Rattle.account.proofs.ShuffleList.{rows-counted}
+use Rattle.image.specs.Joins.{Join, place, put, weights-of, not-rising, join-rules, weight-rules}
+use Rattle.image.specs.Image.{shuffle-rules}
+
+-- ---- one join that breaks no rule
+
+pub join-numbered : (n : ℕ) (join : ℕ → Join) (k : ℕ) → Numbered (join-rules n join k)
+unfolding join-rules
+join-numbered n join k = (tt, (tt, (tt, (tt, tt))))
+
+pub record Fair (n : ℕ) (join : ℕ → Join) (k : ℕ) : Type 0 where
+  pub from-in : join k .from < n
+  pub to-in : join k .to < n
+  pub apart : join k .from ≡ join k .to → ⊥
+  pub risen : not-rising join k ≡ false
+  pub heavy : 1 ≤ join k .weight
+  pub light : join k .weight ≤ 9
+
+both : (a b : Bool) → not (a && b) ≡ false → (a ≡ true) × (b ≡ true)
+both true true e = (refl, refl)
+both true false e = absurd (false≢true (sym e))
+both false b e = absurd (false≢true (sym e))
+
+pub fair : (n : ℕ) (join : ℕ → Join) (k : ℕ) → first-broken (join-rules n join k) ≡ 0 → Fair n join k
+unfolding join-rules
+fair n join k e =
+    let ends = holds (not (ltb (join k .from) n && ltb (join k .to) n)) 15 _ e in
+    let loop = holds (eqb (join k .from) (join k .to)) 4 _ (ends .1) in
+    let order = holds (not-rising join k) 15 _ (loop .1) in
+    let weight = holds (outside 1 9 (join k .weight)) 3 0 (order .1) in
+    let inside = both (ltb (join k .from) n) (ltb (join k .to) n) (ends .0) in
+    let r = in-range 1 9 (join k .weight) (weight .0) in record {
+      from-in = ltb-true (join k .from) n (inside .0);
+      to-in = ltb-true (join k .to) n (inside .1);
+      apart = eqb-false (join k .from) (join k .to) (loop .0);
+      risen = order .0;
+      heavy = r .0;
+      light = r .1;
+    }
+
+-- ---- some joins of which none breaks a rule, and the table that they make
+module _ (n : ℕ) (join : ℕ → Join) (k : ℕ) (sound : first-broken (in-turn (join-rules n join) k) ≡ 0) where
+  pub fair-each : (i : ℕ) → i < k → Fair n join i
+  fair-each i h = fair n join i (turn-each (join-rules n join) (join-numbered n join) k i h sound)
+
+  pub joins-inside : (i : ℕ) → i < k → place n (join i) < n * n
+  joins-inside i h = let f = fair-each i h in within n (join i .from) (join i .to) (f .from-in) (f .to-in)
+
+-- ---- the table of a list of joins
+
+-- putting weights keeps the length
+put-length : (n : ℕ) (joins : List Join) (weights : List ℕ) → length (put n joins weights) ≡ length weights
+unfolding put
+put-length n [] weights = refl
+put-length n (join ∷ joins) weights =
+    put-length n joins (set weights (place n join) (join .weight)) ∙ length-set weights (place n join) (join .weight)
+
+pub weights-length : (n : ℕ) (joins : List Join) → length (weights-of n joins) ≡ n * n
+weights-length n joins = put-length n joins (replicate (n * n) 0) ∙ length-replicate (n * n) 0
+
+-- what holds of every entry after a store
+stored-each : (P : ℕ → Type 0) (weights : List ℕ) (q w : ℕ) → P w → ((p : ℕ) → P (getD weights p 0)) → (p : ℕ) → P (getD (set weights q w) p 0)
+stored-each P weights q w e h p = pick (ℕ-discrete p q) (ltb q (length weights)) refl
+  where
+    pick : Dec (p ≡ q) → (b : Bool) → ltb q (length weights) ≡ b → P (getD (set weights q w) p 0)
+    pick (yes r) true t =
+        subst P (sym (ap (λ t. getD (set weights q w) t 0) r ∙ getD-set-same weights q w 0 (ltb-true q (length weights) t))) e
+    pick (yes r) false t = subst P (sym (ap (λ l. getD l p 0) (set-out weights q w (ltb-false q (length weights) t)))) (h p)
+    pick (no r) b t = subst P (sym (getD-set-other weights q p w 0 r)) (h p)
+
+put-light :
+    (n : ℕ) (join : ℕ → Join) (k : ℕ) (weights : List ℕ) → ((i : ℕ) → i < k → join i .weight ≤ 9) → ((p : ℕ) → getD weights p 0 ≤ 9) →
+    (p : ℕ) → getD (put n (table join k) weights) p 0 ≤ 9
+unfolding put table
+put-light n join zero weights h l = l
+put-light n join (suc k) weights h l =
+    put-light n (λ i. join (suc i)) k (set weights (place n (join 0)) (join 0 .weight)) (λ i q. h (suc i) (omega arith))
+    (stored-each (λ w. w ≤ 9) weights (place n (join 0)) (join 0 .weight) (h 0 (omega arith)) l)
+
+put-past :
+    (n : ℕ) (join : ℕ → Join) (k p : ℕ) (weights : List ℕ) → ((i : ℕ) → i < k → place n (join i) ≡ p → ⊥) → getD weights p 0 ≡ 0 →
+    getD (put n (table join k) weights) p 0 ≡ 0
+unfolding put table
+put-past n join zero p weights h e = e
+put-past n join (suc k) p weights h e =
+    put-past n (λ i. join (suc i)) k p (set weights (place n (join 0)) (join 0 .weight)) (λ i q. h (suc i) (omega arith))
+    (getD-set-other weights (place n (join 0)) p (join 0 .weight) 0 (λ r. h 0 (omega arith) (sym r)) ∙ e)
+
+none-yet : (m p : ℕ) → getD {A = ℕ} (replicate m 0) p 0 ≡ 0
+none-yet zero p = refl
+none-yet (suc m) zero = refl
+none-yet (suc m) (suc p) = none-yet m p
+
+module _ (n : ℕ) (join : ℕ → Join) (k : ℕ) (sound : first-broken (in-turn (join-rules n join) k) ≡ 0) where
+  pub joins-light : any-above 9 (weights-of n (table join k)) ≡ false
+  joins-light =
+      all-within 9 (weights-of n (table join k))
+      (λ p q. put-light n join k (replicate (n * n) 0) (λ i h. fair-each n join k sound i h .light) (λ t. omega (arith, none-yet (n * n) t)) p)
+
+  -- a place on the diagonal has no join
+  off-diagonal : (i j : ℕ) → i < k → j < n → place n (join i) ≡ j * n + j → ⊥
+  off-diagonal i j h l e =
+      let f = fair-each n join k sound i h in
+      let row : join i .from ≡ j = sym (digits-div (join i .from) (f .to-in)) ∙ ap (λ t. t / n) e ∙ digits-div j l in
+      let column : join i .to ≡ j = sym (digits-mod (join i .from) (f .to-in)) ∙ ap (λ t. t % n) e ∙ digits-mod j l in
+      f .apart (row ∙ sym column)
+
+  pub joins-clear : any-on-diagonal n (weights-of n (table join k)) ≡ false
+  unfolding any-on-diagonal pair-at
+  joins-clear =
+      none-some (λ j. ltb 0 (getD (weights-of n (table join k)) (j * n + j) 0)) n
+      (λ j l.
+      let none = put-past n join k (j * n + j) (replicate (n * n) 0) (λ i h. off-diagonal i j h l) (none-yet (n * n) (j * n + j)) in
+      le-ltb 0 (getD (weights-of n (table join k)) (j * n + j) 0) (omega arith))
+
+-- ---- a table of weights of which none breaks a rule
+
+pub weight-numbered : (n : ℕ) (weights : List ℕ) (p : ℕ) → Numbered (weight-rules n weights p)
+unfolding weight-rules
+weight-numbered n weights p = (tt, (tt, tt))
+
+module _ (n : ℕ) (weights : List ℕ) (there : length weights ≡ n * n) (sound : first-broken (in-turn (weight-rules n weights) (n * n)) ≡ 0) where
+  each : (p : ℕ) → p < n * n → first-broken (weight-rules n weights p) ≡ 0
+  each p h = turn-each (weight-rules n weights) (weight-numbered n weights) (n * n) p h sound
+
+  pub weights-light : any-above 9 weights ≡ false
+  unfolding weight-rules
+  weights-light =
+      all-within 9 weights
+      (λ p h.
+      let first = holds (ltb 0 (getD weights p 0) && eqb (p / n) (p % n)) 4 _ (each p (omega arith)) in
+      ltb-false 9 (getD weights p 0) (holds (ltb 9 (getD weights p 0)) 3 0 (first .1) .0))
+
+  -- on the diagonal row and column are one
+  pub weights-clear : any-on-diagonal n weights ≡ false
+  unfolding any-on-diagonal pair-at weight-rules
+  weights-clear =
+      none-some (λ j. ltb 0 (getD weights (j * n + j) 0)) n
+      (λ j l.
+      let first = holds (ltb 0 (getD weights (j * n + j) 0) && eqb ((j * n + j) / n) ((j * n + j) % n)) 4 _ (each (j * n + j) (within n j j l l)) in
+      first-fails _ _ (first .0) (eq-eqb _ _ (digits-div j l ∙ sym (digits-mod j l))))
+    where
+      first-fails : (a b : Bool) → (a && b) ≡ false → b ≡ true → a ≡ false
+      first-fails false b e f = refl
+      first-fails true b e f = absurd (false≢true (sym e ∙ f))
+
+-- ---- where 1 to 5 hold, 6 and 7 decide
+pub sums-decide :
+    (n : ℕ) (values : List ℤ) (weights : List ℕ) → 2 ≤ n → n ≤ 64 → length values ≡ n → length weights ≡ n * n →
+    any-beyond 100000 values ≡ false → any-above 9 weights ≡ false → any-on-diagonal n weights ≡ false →
+    job-refusal n values weights ≡ first-broken (sum-rules n values weights)
+unfolding job-refusal call-rules job-rules
+sums-decide n values weights two zones l m near light clear =
+    rw (le-ltb n 2 two, le-ltb 64 n zones, eq-eqb (length values) n l, eq-eqb (length weights) (n * n) m, near, light, clear)
+
+-- ---- where the shuffles are whole rows, 13 decides
+pub shuffles-decide :
+    (n k : ℕ) (shuffles : List ℕ) → 2 ≤ n → n ≤ 64 → k ≤ 499 → length shuffles ≡ k * n →
+    shuffle-refusal n shuffles ≡ first-broken (shuffle-rules n shuffles)
+unfolding shuffle-refusal
+shuffles-decide n k shuffles two zones few e =
+    let whole = e ∙ ap (λ t. t * n) (sym (rows-counted n (length shuffles) k (omega arith) few e)) in
+    rw (le-ltb n 2 two, le-ltb 64 n zones, eq-eqb (length shuffles) (rank.shuffle-count n (length shuffles) * n) whole)
