@@ -52,7 +52,7 @@ end-rules image end n at k =
 pub record Passed (image : List ℕ) (at size number : ℕ) (r : Section) : Type 0 where
   pub counted : number ≡ 0 → r .count ≡ count (drop at image)
   pub next : number ≡ 0 → r .next ≡ at + (2 + size * count (drop at image))
-  pub inside : number ≡ 0 → r .next ≤ length image
+  pub inside : r .next ≤ length image
 
 -- where a section was found: it begins there, has this count, and is whole
 pub record Found (image b : List ℕ) (size at k : ℕ) : Type 0 where

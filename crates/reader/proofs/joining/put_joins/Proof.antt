@@ -1,102 +1,129 @@
+-- `put_joins` meets its contract. The loop's invariant: the weights are those of the joins passed. Assumes nothing.
+use mathlib.Core.Path.{_≡_, refl, ap, _∙_}
+use Prim.Native.Nat.{ℕ, _+_, _*_, _-_, _≤_, _<_}
+use native.Mathlib.Omega.{arith}
+use lib.ListN.{length, drop, length-set}
+use Rattle.whole.specs.Table.{table}
+use Rattle.image.specs.Image.{join-in}
+use Rattle.image.specs.Joins.{Join, place, put}
+use Rattle.image.proofs.Weights.{joins-inside}
+use Rattle.reader.proofs.JoinsPut.{put-none, put-next}
+use Rattle.reader.proofs.Parts.{weight-read, place-read}
 use Rattle.reader.proofs.joining.put_joins.Statement.{statement}
 use Rattle.reader.proofs.joining.put_joins.Tie as tie
-use Rattle.reader.proofs.joining.put_joins.Reads as reads
-use Rattle.reader.proofs.joining.put_joins.Lts as lts
-use Rattle.reader.proofs.joining.wide.Reads as wide-reads
 
 abbrev Inv-loop : tie.InvT-loop
-Inv-loop image at k n weights₀ i₀ weights i = ?
+Inv-loop image at k n weights₀ i₀ weights i =
+    (i ≤ k) × (length weights ≡ length weights₀) × (weights ≡ put n (table (join-in (drop at image)) i) weights₀)
 
 abbrev μ-loop : tie.MeasureT-loop
-μ-loop image at k n weights₀ i₀ weights i = ?
+μ-loop image at k n weights₀ i₀ weights i = k - i
 
--- src/joining.rt:85:5
+-- the join whose weight is stored
+module _ (c : tie.After-shared-slice-known4 Inv-loop μ-loop) where
+  abbrev at-from : tie.After-wide Inv-loop μ-loop
+  at-from = c .before .before .before
+
+  abbrev at-loop : tie.At-loop Inv-loop μ-loop
+  at-loop = at-from .before .before .before
+
+  abbrev start : tie.Start Inv-loop μ-loop
+  start = at-loop .before .before .before
+
+  abbrev n : ℕ
+  n = start .args .n
+
+  abbrev join : ℕ → Join
+  join = join-in (drop (start .args .at) (start .args .image .now))
+
+  place-is : at-from .wide .result * n + c .before .wide2 .result ≡ place n (join (at-loop .loop .i))
+  place-is =
+      let a = start .args in
+      place-read (a .image .now) (a .at) (at-loop .loop .i) n _ _ (at-from .wide .ensures .0) (c .before .wide2 .ensures .0)
+
+  inside : at-from .wide .result * n + c .before .wide2 .result < length (at-loop .loop .weights)
+  inside =
+      let in-table = joins-inside n join (start .args .k) (start .pre .0 .sound) (at-loop .loop .i) (omega arith) in
+      omega (arith, place-is, at-loop .loop .inv .1, start .pre .1)
+
 loop-holds : tie.Need-loop-holds Inv-loop μ-loop
-loop-holds c = ?
+loop-holds c =
+    let a = c .before .before .args in
+    (omega arith, refl, put-none (a .n) (join-in (drop (a .at) (a .image .now))) (a .weights .now))
 
--- src/joining.rt:86:36
 mul-wide : tie.Need-mul-wide Inv-loop μ-loop
-mul-wide c = ?
+mul-wide c = omega arith
 
--- src/joining.rt:86:31
 add-wide : tie.Need-add-wide Inv-loop μ-loop
-add-wide c = ?
+add-wide c = omega arith
 
--- src/joining.rt:86:25
 shared-slice-read-wide : tie.Need-shared-slice-read-wide Inv-loop μ-loop
-shared-slice-read-wide c = ?
+shared-slice-read-wide c = omega arith
 
--- src/joining.rt:86:13
 wide-requires : tie.Need-wide-requires Inv-loop μ-loop
-wide-requires c κs = ?
+wide-requires c κs = tt
 
--- src/joining.rt:87:34
 mul-wide-2 : tie.Need-mul-wide-2 Inv-loop μ-loop
-mul-wide-2 c = ?
+mul-wide-2 c = omega arith
 
--- src/joining.rt:87:29
 add-wide-2 : tie.Need-add-wide-2 Inv-loop μ-loop
-add-wide-2 c = ?
+add-wide-2 c = omega arith
 
--- src/joining.rt:87:29
 add-wide-3 : tie.Need-add-wide-3 Inv-loop μ-loop
-add-wide-3 c = ?
+add-wide-3 c = omega arith
 
--- src/joining.rt:87:23
 shared-slice-read-wide-2 : tie.Need-shared-slice-read-wide-2 Inv-loop μ-loop
-shared-slice-read-wide-2 c = ?
+shared-slice-read-wide-2 c = omega arith
 
--- src/joining.rt:87:13
 wide-requires-2 : tie.Need-wide-requires-2 Inv-loop μ-loop
-wide-requires-2 c κs = ?
+wide-requires-2 c κs = tt
 
--- src/joining.rt:88:45
 mul-weights : tie.Need-mul-weights Inv-loop μ-loop
-mul-weights c = ?
+mul-weights c = omega arith
 
--- src/joining.rt:88:40
 add-weights : tie.Need-add-weights Inv-loop μ-loop
-add-weights c = ?
+add-weights c = omega arith
 
--- src/joining.rt:88:40
 add-weights-2 : tie.Need-add-weights-2 Inv-loop μ-loop
-add-weights-2 c = ?
+add-weights-2 c = omega arith
 
--- src/joining.rt:88:34
 shared-slice-read-weights : tie.Need-shared-slice-read-weights Inv-loop μ-loop
-shared-slice-read-weights c = ?
+shared-slice-read-weights c = omega arith
 
--- src/joining.rt:88:17
 mul-weights-2 : tie.Need-mul-weights-2 Inv-loop μ-loop
-mul-weights-2 c = ?
+mul-weights-2 c = omega (arith, inside c)
 
--- src/joining.rt:88:17
 add-weights-3 : tie.Need-add-weights-3 Inv-loop μ-loop
-add-weights-3 c = ?
+add-weights-3 c = omega (arith, inside c)
 
--- src/joining.rt:88:9
 slice-write-weights : tie.Need-slice-write-weights Inv-loop μ-loop
-slice-write-weights c = ?
+slice-write-weights c = omega (arith, inside c)
 
--- src/joining.rt:89:9
 add-i : tie.Need-add-i Inv-loop μ-loop
-add-i c = ?
+add-i c = omega arith
 
--- src/joining.rt:85:5
 loop-less : tie.Need-loop-less Inv-loop μ-loop
-loop-less c = ?
+loop-less c = omega arith
 
--- src/joining.rt:85:5
 loop-again : tie.Need-loop-again Inv-loop μ-loop
-loop-again c = ?
+loop-again c =
+    let b = at-loop c .loop in (
+      omega arith,
+      length-set (b .weights) _ _ ∙ b .inv .1,
+      put-next (n c) (join c) (b .i) (b .weights) (start c .args .weights .now) _ _ (b .inv .2) (place-is c)
+          (weight-read (start c .args .image .now) (start c .args .at) (b .i)),
+    )
 
--- src/joining.rt:79:1
 same-length : tie.Need-same-length Inv-loop μ-loop
-same-length c = ?
+same-length c = c .before .loop .inv .1
 
--- src/joining.rt:79:1
 returns : tie.Need-returns Inv-loop μ-loop
-returns c = ?
+returns c =
+    let a = c .before .before .before .before .args in
+    let b = c .before .loop in
+    let join = join-in (drop (a .at) (a .image .now)) in
+    let all : b .i ≡ a .k = omega arith in
+    b .inv .2 ∙ ap (λ m. put (a .n) (table join m) (a .weights .now)) all
 
 pub put-joins-spec : {M : Type 1} → statement M
 put-joins-spec =

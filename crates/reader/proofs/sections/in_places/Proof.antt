@@ -1,68 +1,122 @@
-use borrow.Author.Needs.{needs}
+-- `in_places` meets its contract: it tests the rules of the section in their order. Assumes nothing.
+use mathlib.Core.Path.{_≡_, ap, _∙_}
+use mathlib.Core.List.{List, [], _∷_}
+use Prim.Native.Nat.{ℕ, _+_, _*_, _≤_}
+use native.Mathlib.Omega.{arith}
+use lib.ListN.{length, drop}
+use Rattle.whole.specs.Rules.{first-broken}
+use Rattle.places.specs.Places.{places-in-turn}
+use Rattle.image.specs.Image.{count, signed-words, none-or-all, in-places}
+use Rattle.image.proofs.Accepted.{at-most-all}
+use Rattle.image.proofs.Bytes.{count-from}
+use Rattle.image.proofs.Sections.{there, unbroken, already, no-count, bad-count, no-section, by-items}
+use Rattle.reader.proofs.Parts.{items-from}
 use Rattle.reader.proofs.sections.in_places.Statement.{statement}
 use Rattle.reader.proofs.sections.in_places.Tie as tie
-use Rattle.reader.proofs.sections.in_places.Reads as reads
-use Rattle.reader.proofs.sections.in_places.Lts as lts
-use Rattle.image.proofs.judge_none_or_all.Reads as judge-none-or-all-reads
-use Rattle.reader.proofs.sections.cut.Reads as cut-reads
-use Rattle.reader.proofs.sections.judge_places.Reads as judge-places-reads
-use Rattle.words.proofs.two_at.Reads as two-at-reads
 
--- src/sections.rt:162:9
+-- the bytes from the section on
+abbrev b : tie.Start → List ℕ
+b a = drop (a .args .at) (a .args .image .now)
+
+-- its count, as it was judged
+module _ (c : tie.After-judge-none-or-all) where
+  abbrev start : tie.Start
+  start = c .before .before .before .before .before .before
+
+  abbrev k : ℕ
+  k = c .before .two-at .result
+
+  counted : k ≡ count (b start)
+  counted = c .before .two-at .ensures .0 ∙ count-from (start .args .image .now) (start .args .at)
+
+  judged : c .judge-none-or-all .result ≡ first-broken (none-or-all (start .args .n) (count (b start)) ∷ [])
+  judged = c .judge-none-or-all .ensures ∙ ap (λ m. first-broken (none-or-all (start .args .n) m ∷ [])) counted
+
+-- all of it is there
+module _ (c : tie.Else4) where
+  abbrev at-count : tie.After-judge-none-or-all
+  at-count = c .before .before .before
+
+  abbrev a : tie.Start
+  a = start at-count
+
+  none : a .args .before ≡ 0
+  none = at-count .before .before .before .before .if1 .left
+
+  whole : a .args .at + (2 + 8 * k at-count) ≤ length (a .args .image .now)
+  whole =
+      there (a .args .image .now) (a .args .at) (2 + 8 * k at-count) _ (a .pre .0 none) (c .before .cut2 .ensures) (c .if4 .left)
+
 returns : tie.Need-returns
-returns c = ?
+unfolding in-places
+returns c = let a = c .before .before in already (a .args .before) 8 _ 14 _ (b a) (c .if1 .taken)
 
--- src/sections.rt:164:8
 cut-requires : tie.Need-cut-requires
-cut-requires c κs = ?
+cut-requires c κs = c .before .before .pre .0 (c .if1 .left)
 
--- src/sections.rt:165:9
 returns-2 : tie.Need-returns-2
-returns-2 c = ?
+unfolding in-places
+returns-2 c =
+    let e = c .before .before in
+    let a = e .before .before in
+    no-count (a .args .before) 8 _ 14 _ (b a) (e .if1 .left) _ (c .before .cut .ensures) (c .if2 .taken)
 
--- src/sections.rt:167:13
 two-at-requires : tie.Need-two-at-requires
-two-at-requires c κs = search needs
+two-at-requires c κs = tt
 
--- src/sections.rt:167:13
 cast-k : tie.Need-cast-k
-cast-k c = search needs
+cast-k c = omega arith
 
--- src/sections.rt:168:9
 judge-none-or-all-requires : tie.Need-judge-none-or-all-requires
-judge-none-or-all-requires c κs = search needs
+judge-none-or-all-requires c κs = tt
 
--- src/sections.rt:170:9
 returns-3 : tie.Need-returns-3
-returns-3 c = ?
+unfolding in-places
+returns-3 c =
+    let e = c .before .before .before in
+    let a = start (c .before) in
+    bad-count (a .args .before) 8 _ 14 _ (b a) (e .before .before .if1 .left) _ (e .before .cut .ensures) (e .if2 .left) _
+    (judged (c .before)) (c .if3 .taken)
 
--- src/sections.rt:172:27
 mul-cut : tie.Need-mul-cut
-mul-cut c = search needs
+mul-cut c = omega arith
 
--- src/sections.rt:172:23
 add-cut : tie.Need-add-cut
-add-cut c = search needs
+add-cut c = omega arith
 
--- src/sections.rt:172:8
 cut-requires-2 : tie.Need-cut-requires-2
-cut-requires-2 c κs = ?
+cut-requires-2 c κs = start (c .before) .pre .0 (c .before .before .before .before .before .if1 .left)
 
--- src/sections.rt:173:9
 returns-4 : tie.Need-returns-4
-returns-4 c = ?
+unfolding in-places
+returns-4 c =
+    let d = c .before .before in
+    let e = d .before .before .before in
+    let a = start (d .before) in
+    no-section (a .args .before) 8 _ 14 _ (b a) (e .before .before .if1 .left) _ (e .before .cut .ensures) (e .if2 .left) _
+    (judged (d .before)) (d .if3 .left) _ (counted (d .before)) _ (c .before .cut2 .ensures) (c .if4 .taken)
 
--- src/sections.rt:175:25
 add-judge-places : tie.Need-add-judge-places
-add-judge-places c = ?
+add-judge-places c = omega (arith, whole c)
 
--- src/sections.rt:175:5
 judge-places-requires : tie.Need-judge-places-requires
-judge-places-requires c κs = ?
+judge-places-requires c κs =
+    let d = at-count c in
+    let all = at-most-all (a c .args .n) (k d) (unbroken _ 14 _ (d .judge-none-or-all .ensures) (c .before .before .if3 .left)) in
+    let zones = a c .pre .1 (none c) in
+    (omega (arith, whole c), omega arith)
 
--- src/sections.rt:156:1
 returns-5 : tie.Need-returns-5
-returns-5 c = ?
+unfolding in-places
+returns-5 c =
+    let d = c .before .before .before in
+    let e = d .before .before .before in
+    let a = start (d .before) in
+    by-items (a .args .before) 8 _ 14 _ (b a) (e .before .before .if1 .left) _ (e .before .cut .ensures) (e .if2 .left) _
+    (judged (d .before)) (d .if3 .left) _ (counted (d .before)) _ (c .before .before .cut2 .ensures) (c .before .if4 .left) _
+    (c .judge-places .ensures
+    ∙ items-from (λ m l. first-broken (places-in-turn (signed-words (2 * m) l)))
+    (a .args .image .now) (a .args .at) _ (counted (d .before)))
 
 pub in-places-spec : {M : Type 1} → statement M
 in-places-spec =

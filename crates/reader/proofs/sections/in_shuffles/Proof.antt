@@ -1,68 +1,127 @@
-use borrow.Author.Needs.{needs}
+-- `in_shuffles` meets its contract: it tests the rules of the section in their order. Assumes nothing.
+use mathlib.Core.Path.{_≡_, ap, _∙_}
+use mathlib.Core.List.{List, [], _∷_}
+use Prim.Native.Nat.{ℕ, _+_, _*_, _≤_}
+use native.Mathlib.Nat.{mul-le-mul}
+use native.Mathlib.Omega.{arith}
+use borrow.Author.Tests.{ltb-false}
+use lib.ListN.{length, drop}
+use Rattle.whole.specs.Rules.{first-broken}
+use Rattle.image.specs.Image.{count, bytes, shuffle-count, shuffle-rules, in-shuffles}
+use Rattle.image.proofs.Bytes.{count-from}
+use Rattle.image.proofs.Sections.{there, unbroken, already, no-count, bad-count, no-section, by-items}
+use Rattle.reader.proofs.Parts.{items-from}
 use Rattle.reader.proofs.sections.in_shuffles.Statement.{statement}
 use Rattle.reader.proofs.sections.in_shuffles.Tie as tie
-use Rattle.reader.proofs.sections.in_shuffles.Reads as reads
-use Rattle.reader.proofs.sections.in_shuffles.Lts as lts
-use Rattle.image.proofs.judge_shuffles.Reads as judge-shuffles-reads
-use Rattle.reader.proofs.sections.cut.Reads as cut-reads
-use Rattle.reader.proofs.sections.judge_shuffles.Reads as sections-judge-shuffles-reads
-use Rattle.words.proofs.two_at.Reads as two-at-reads
 
--- src/sections.rt:208:9
+-- the bytes from the section on
+abbrev b : tie.Start → List ℕ
+b a = drop (a .args .at) (a .args .image .now)
+
+-- its count, as it was judged
+module _ (c : tie.After-judge-shuffles) where
+  abbrev start : tie.Start
+  start = c .before .before .before .before .before .before
+
+  abbrev k : ℕ
+  k = c .before .two-at .result
+
+  counted : k ≡ count (b start)
+  counted = c .before .two-at .ensures .0 ∙ count-from (start .args .image .now) (start .args .at)
+
+  judged : c .judge-shuffles .result ≡ first-broken (shuffle-count (count (b start)) ∷ [])
+  judged = c .judge-shuffles .ensures ∙ ap (λ m. first-broken (shuffle-count m ∷ [])) counted
+
+-- all of it is there
+module _ (c : tie.Else4) where
+  abbrev at-count : tie.After-judge-shuffles
+  at-count = c .before .before .before
+
+  abbrev a : tie.Start
+  a = start at-count
+
+  none : a .args .before ≡ 0
+  none = at-count .before .before .before .before .if1 .left
+
+  whole : a .args .at + (2 + a .args .n * k at-count) ≤ length (a .args .image .now)
+  whole =
+      there (a .args .image .now) (a .args .at) (2 + a .args .n * k at-count) _ (a .pre .0 none) (c .before .cut2 .ensures) (c .if4 .left)
+
+-- so many bytes are counted for it
+near : (c : tie.Else3) → start (c .before) .args .n * k (c .before) ≤ 4194304
+near c =
+    let none = c .before .before .before .before .before .if1 .left in
+    mul-le-mul {n₂ = 64} {m₂ = 65536} (start (c .before) .pre .1 .1 none) (omega arith)
+
 returns : tie.Need-returns
-returns c = ?
+unfolding in-shuffles
+returns c = let a = c .before .before in already (a .args .before) (a .args .n) _ 14 _ (b a) (c .if1 .taken)
 
--- src/sections.rt:210:8
 cut-requires : tie.Need-cut-requires
-cut-requires c κs = ?
+cut-requires c κs = c .before .before .pre .0 (c .if1 .left)
 
--- src/sections.rt:211:9
 returns-2 : tie.Need-returns-2
-returns-2 c = ?
+unfolding in-shuffles
+returns-2 c =
+    let e = c .before .before in
+    let a = e .before .before in
+    no-count (a .args .before) (a .args .n) _ 14 _ (b a) (e .if1 .left) _ (c .before .cut .ensures) (c .if2 .taken)
 
--- src/sections.rt:213:13
 two-at-requires : tie.Need-two-at-requires
-two-at-requires c κs = search needs
+two-at-requires c κs = tt
 
--- src/sections.rt:213:13
 cast-k : tie.Need-cast-k
-cast-k c = search needs
+cast-k c = omega arith
 
--- src/sections.rt:214:9
 judge-shuffles-requires : tie.Need-judge-shuffles-requires
-judge-shuffles-requires c κs = search needs
+judge-shuffles-requires c κs = tt
 
--- src/sections.rt:216:9
 returns-3 : tie.Need-returns-3
-returns-3 c = ?
+unfolding in-shuffles
+returns-3 c =
+    let e = c .before .before .before in
+    let a = start (c .before) in
+    bad-count (a .args .before) (a .args .n) _ 14 _ (b a) (e .before .before .if1 .left) _ (e .before .cut .ensures) (e .if2 .left) _
+    (judged (c .before)) (c .if3 .taken)
 
--- src/sections.rt:218:27
 mul-cut : tie.Need-mul-cut
-mul-cut c = ?
+mul-cut c = omega (arith, near c)
 
--- src/sections.rt:218:23
 add-cut : tie.Need-add-cut
-add-cut c = ?
+add-cut c = omega (arith, near c)
 
--- src/sections.rt:218:8
 cut-requires-2 : tie.Need-cut-requires-2
-cut-requires-2 c κs = ?
+cut-requires-2 c κs = start (c .before) .pre .0 (c .before .before .before .before .before .if1 .left)
 
--- src/sections.rt:219:9
 returns-4 : tie.Need-returns-4
-returns-4 c = ?
+unfolding in-shuffles
+returns-4 c =
+    let d = c .before .before in
+    let e = d .before .before .before in
+    let a = start (d .before) in
+    no-section (a .args .before) (a .args .n) _ 14 _ (b a) (e .before .before .if1 .left) _ (e .before .cut .ensures) (e .if2 .left) _
+    (judged (d .before)) (d .if3 .left) _ (counted (d .before)) _ (c .before .cut2 .ensures) (c .if4 .taken)
 
--- src/sections.rt:221:27
 add-judge-shuffles : tie.Need-add-judge-shuffles
-add-judge-shuffles c = ?
+add-judge-shuffles c = omega (arith, whole c)
 
--- src/sections.rt:221:5
 judge-shuffles-requires-2 : tie.Need-judge-shuffles-requires-2
-judge-shuffles-requires-2 c κs = ?
+judge-shuffles-requires-2 c κs =
+    let d = at-count c in
+    let few = ltb-false 499 (k d) (unbroken _ 14 _ (d .judge-shuffles .ensures) (c .before .before .if3 .left)) in
+    (a c .pre .1 .0 (none c), (a c .pre .1 .1 (none c), (few, omega (arith, whole c))))
 
--- src/sections.rt:201:1
 returns-5 : tie.Need-returns-5
-returns-5 c = ?
+unfolding in-shuffles
+returns-5 c =
+    let d = c .before .before .before in
+    let e = d .before .before .before in
+    let a = start (d .before) in
+    by-items (a .args .before) (a .args .n) _ 14 _ (b a) (e .before .before .if1 .left) _ (e .before .cut .ensures) (e .if2 .left) _
+    (judged (d .before)) (d .if3 .left) _ (counted (d .before)) _ (c .before .before .cut2 .ensures) (c .before .if4 .left) _
+    (c .judge-shuffles2 .ensures
+    ∙ items-from (λ m l. first-broken (shuffle-rules (a .args .n) (bytes (m * a .args .n) l)))
+    (a .args .image .now) (a .args .at) _ (counted (d .before)))
 
 pub in-shuffles-spec : {M : Type 1} → statement M
 in-shuffles-spec =

@@ -1,37 +1,44 @@
+-- `judge_shuffles` meets its contract: the part of the image that is judged is the shuffles, whole rows of n. Assumes nothing.
+use mathlib.Core.Path.{refl, ap, _∙_}
+use Prim.Native.Nat.{_+_, _*_}
+use native.Mathlib.Omega.{arith}
 use borrow.Author.Needs.{needs}
+use lib.ListN.{drop}
+use Rattle.whole.proofs.Table.{table-length}
+use Rattle.account.specs.Rank.{shuffle-refusal}
+use Rattle.image.specs.Image.{bytes}
+use Rattle.image.proofs.Weights.{shuffles-decide}
+use Rattle.reader.proofs.Parts.{bytes-between}
 use Rattle.reader.proofs.sections.judge_shuffles.Statement.{statement}
 use Rattle.reader.proofs.sections.judge_shuffles.Tie as tie
-use Rattle.reader.proofs.sections.judge_shuffles.Reads as reads
-use Rattle.reader.proofs.sections.judge_shuffles.Lts as lts
-use Rattle.account.proofs.judge_shuffles.Reads as judge-shuffles-reads
 
--- src/sections.rt:84:20
 mul-end : tie.Need-mul-end
-mul-end c = search needs
+mul-end c = omega arith
 
--- src/sections.rt:84:15
 add-end : tie.Need-add-end
-add-end c = search needs
+add-end c = omega arith
 
--- src/sections.rt:85:32
 sub-judge-shuffles : tie.Need-sub-judge-shuffles
-sub-judge-shuffles c = search needs
+sub-judge-shuffles c = omega arith
 
--- src/sections.rt:85:32
 part-judge-shuffles-start : tie.Need-part-judge-shuffles-start
 part-judge-shuffles-start c = search needs
 
--- src/sections.rt:85:32
 part-judge-shuffles-end : tie.Need-part-judge-shuffles-end
 part-judge-shuffles-end c = search needs
 
--- src/sections.rt:85:5
 judge-shuffles-requires : tie.Need-judge-shuffles-requires
-judge-shuffles-requires c κs = search needs
+judge-shuffles-requires c κs = tt
 
--- src/sections.rt:77:1
 returns : tie.Need-returns
-returns c = ?
+returns c =
+    let b = c .before .before .before in
+    let a = b .args in
+    let rows = bytes-between (a .image .now) (a .at) (a .at + a .k * a .n) (a .k * a .n) refl (omega arith) in
+    let shuffles = bytes (a .k * a .n) (drop (a .at) (a .image .now)) in
+    c .judge-shuffles .ensures
+    ∙ ap (shuffle-refusal (a .n)) rows
+    ∙ shuffles-decide (a .n) (a .k) shuffles (b .pre .0) (b .pre .1 .0) (b .pre .1 .1 .0) (table-length _ (a .k * a .n))
 
 pub judge-shuffles-spec : {M : Type 1} → statement M
 judge-shuffles-spec =

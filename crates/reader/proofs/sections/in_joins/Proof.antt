@@ -1,0 +1,133 @@
+-- `in_joins` meets its contract: it tests the rules of the section in their order. Assumes nothing.
+use mathlib.Core.Path.{_≡_, ap, _∙_}
+use mathlib.Core.List.{List, [], _∷_}
+use Prim.Native.Nat.{ℕ, _+_, _*_, _≤_}
+use native.Mathlib.Omega.{arith}
+use lib.ListN.{length, drop}
+use Rattle.whole.specs.Rules.{first-broken, in-turn}
+use Rattle.image.specs.Image.{count, join-in, join-count, in-joins}
+use Rattle.image.specs.Joins.{join-rules}
+use Rattle.image.proofs.Bytes.{count-from}
+use Rattle.image.proofs.Sections.{there, already, no-count, bad-count, no-section, by-items}
+use Rattle.reader.proofs.Parts.{items-from}
+use Rattle.reader.proofs.sections.in_joins.Statement.{statement}
+use Rattle.reader.proofs.sections.in_joins.Tie as tie
+
+-- the bytes from the section on
+abbrev b : tie.Start → List ℕ
+b a = drop (a .args .at) (a .args .image .now)
+
+-- its count, as it was judged
+module _ (c : tie.After-judge-joins) where
+  abbrev start : tie.Start
+  start = c .before .before .before .before .before .before
+
+  abbrev k : ℕ
+  k = c .before .two-at .result
+
+  counted : k ≡ count (b start)
+  counted = c .before .two-at .ensures .0 ∙ count-from (start .args .image .now) (start .args .at)
+
+  judged : c .judge-joins .result ≡ first-broken (join-count (count (b start)) ∷ [])
+  judged = c .judge-joins .ensures ∙ ap (λ m. first-broken (join-count m ∷ [])) counted
+
+-- all of it is there
+module _ (c : tie.Else4) where
+  abbrev at-count : tie.After-judge-joins
+  at-count = c .before .before .before
+
+  abbrev a : tie.Start
+  a = start at-count
+
+  none : a .args .before ≡ 0
+  none = at-count .before .before .before .before .if1 .left
+
+  whole : a .args .at + (2 + 3 * k at-count) ≤ length (a .args .image .now)
+  whole =
+      there (a .args .image .now) (a .args .at) (2 + 3 * k at-count) _ (a .pre .0 none) (c .before .cut2 .ensures) (c .if4 .left)
+
+returns : tie.Need-returns
+unfolding in-joins
+returns c = let a = c .before .before in already (a .args .before) 3 _ 14 _ (b a) (c .if1 .taken)
+
+cut-requires : tie.Need-cut-requires
+cut-requires c κs = c .before .before .pre .0 (c .if1 .left)
+
+returns-2 : tie.Need-returns-2
+unfolding in-joins
+returns-2 c =
+    let e = c .before .before in
+    let a = e .before .before in
+    no-count (a .args .before) 3 _ 14 _ (b a) (e .if1 .left) _ (c .before .cut .ensures) (c .if2 .taken)
+
+two-at-requires : tie.Need-two-at-requires
+two-at-requires c κs = tt
+
+cast-k : tie.Need-cast-k
+cast-k c = omega arith
+
+judge-joins-requires : tie.Need-judge-joins-requires
+judge-joins-requires c κs = tt
+
+returns-3 : tie.Need-returns-3
+unfolding in-joins
+returns-3 c =
+    let e = c .before .before .before in
+    let a = start (c .before) in
+    bad-count (a .args .before) 3 _ 14 _ (b a) (e .before .before .if1 .left) _ (e .before .cut .ensures) (e .if2 .left) _
+    (judged (c .before)) (c .if3 .taken)
+
+mul-cut : tie.Need-mul-cut
+mul-cut c = omega arith
+
+add-cut : tie.Need-add-cut
+add-cut c = omega arith
+
+cut-requires-2 : tie.Need-cut-requires-2
+cut-requires-2 c κs = start (c .before) .pre .0 (c .before .before .before .before .before .if1 .left)
+
+returns-4 : tie.Need-returns-4
+unfolding in-joins
+returns-4 c =
+    let d = c .before .before in
+    let e = d .before .before .before in
+    let a = start (d .before) in
+    no-section (a .args .before) 3 _ 14 _ (b a) (e .before .before .if1 .left) _ (e .before .cut .ensures) (e .if2 .left) _
+    (judged (d .before)) (d .if3 .left) _ (counted (d .before)) _ (c .before .cut2 .ensures) (c .if4 .taken)
+
+add-judge-joins : tie.Need-add-judge-joins
+add-judge-joins c = omega (arith, whole c)
+
+judge-joins-requires-2 : tie.Need-judge-joins-requires-2
+judge-joins-requires-2 c κs = (omega (arith, whole c), a c .pre .1 (none c))
+
+returns-5 : tie.Need-returns-5
+unfolding in-joins
+returns-5 c =
+    let d = c .before .before .before in
+    let e = d .before .before .before in
+    let a = start (d .before) in
+    by-items (a .args .before) 3 _ 14 _ (b a) (e .before .before .if1 .left) _ (e .before .cut .ensures) (e .if2 .left) _
+    (judged (d .before)) (d .if3 .left) _ (counted (d .before)) _ (c .before .before .cut2 .ensures) (c .before .if4 .left) _
+    (c .judge-joins2 .ensures
+    ∙ items-from (λ m l. first-broken (in-turn (join-rules (a .args .n) (join-in l)) m))
+    (a .args .image .now) (a .args .at) _ (counted (d .before)))
+
+pub in-joins-spec : {M : Type 1} → statement M
+in-joins-spec =
+    tie.close
+    (tie.spec
+    returns
+    cut-requires
+    returns-2
+    two-at-requires
+    cast-k
+    judge-joins-requires
+    returns-3
+    mul-cut
+    add-cut
+    cut-requires-2
+    returns-4
+    add-judge-joins
+    judge-joins-requires-2
+    returns-5)
