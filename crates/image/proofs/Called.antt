@@ -1,12 +1,12 @@
 -- The reader and the writer as calls: what their refusal of 0 tells of buffers and counts, and what lets a job or an image in.
 -- Assumes nothing.
 use mathlib.Core.Path.{_≡_, refl, sym, ap, _∙_}
-use mathlib.Core.Bool.{Bool, true, false, not, cond, _||_}
+use mathlib.Core.Bool.{Bool, true, false, cond}
 use mathlib.Core.List.{List, [], _∷_, _++_}
 use Prim.Native.Nat.{ℕ, zero, suc, _+_, _*_, _≤_, _<_}
 use native.Mathlib.Nat as N
 use native.Mathlib.Omega.{arith}
-use borrow.Author.Tests.{le-ltb, eq-eqb, ltb-false, eqb-true, not-false}
+use borrow.Author.Tests.{le-ltb, ltb-false}
 use lib.Dec.{eqb, ltb}
 use lib.IntN.{ℤ}
 use lib.ListN.{length, getD, take, drop, length-append, length-drop}
@@ -20,47 +20,12 @@ use Rattle.image.specs.Reader.{Buffers, buffer-lengths, read-rules, read
 use Rattle.image.specs.Writer.{lent-job, part-rules, write-rules, write-refusal}
 use Rattle.image.specs.declared.Given.{Given}
 use Rattle.image.proofs.Accepted.{at-most-all}
+use Rattle.image.proofs.Buffers.{Exact, exact, exactly}
 use Rattle.image.proofs.ItemKinds.{All}
 use Rattle.image.proofs.JoinCount.{joins-few}
 use Rattle.image.proofs.Laid.{Writable}
 use Rattle.image.proofs.Limits.{all-from}
 use Rattle.image.proofs.Parts.{Parted, parted, parts-let-in, parts-numbered}
-
--- ---- buffers of their exact lengths
-pub record Exact (lent : Buffers) : Type 0 where
-  pub values : length (lent .values) ≡ 64
-  pub categories : length (lent .categories) ≡ 64
-  pub weights : length (lent .weights) ≡ 4096
-  pub places : length (lent .places) ≡ 128
-  pub bands : length (lent .bands) ≡ 8
-  pub shuffles : length (lent .shuffles) ≡ 31936
-
--- the first of some lengths is as it must be, and the others fit
-first-fits : (found wanted : ℕ) (others : Bool) → (not (eqb found wanted) || others) ≡ false → (found ≡ wanted) × (others ≡ false)
-first-fits found wanted others e =
-    let f = neither (not (eqb found wanted)) others e in
-    (eqb-true found wanted (not-false (eqb found wanted) (f .0)), f .1)
-
-pub exact : (lent : Buffers) → misfits (buffer-lengths lent) ≡ false → Exact lent
-exact lent e =
-    let a = first-fits (length (lent .values)) 64 _ e in
-    let b = first-fits (length (lent .categories)) 64 _ (a .1) in
-    let c = first-fits (length (lent .weights)) 4096 _ (b .1) in
-    let d = first-fits (length (lent .places)) 128 _ (c .1) in
-    let f = first-fits (length (lent .bands)) 8 _ (d .1) in
-    let g = first-fits (length (lent .shuffles)) 31936 _ (f .1) in
-    record { values = a .0; categories = b .0; weights = c .0; places = d .0; bands = f .0; shuffles = g .0 }
-
-pub exactly : (lent : Buffers) → Exact lent → misfits (buffer-lengths lent) ≡ false
-exactly lent x =
-    rw (
-      eq-eqb (length (lent .values)) 64 (x .values),
-      eq-eqb (length (lent .categories)) 64 (x .categories),
-      eq-eqb (length (lent .weights)) 4096 (x .weights),
-      eq-eqb (length (lent .places)) 128 (x .places),
-      eq-eqb (length (lent .bands)) 8 (x .bands),
-      eq-eqb (length (lent .shuffles)) 31936 (x .shuffles),
-    )
 
 -- ---- the reader
 pub read-taken : (image : List ℕ) (lent : Buffers) → read-refusal image lent ≡ 0 → Exact lent × (image-refusal image ≡ 0)
@@ -89,10 +54,9 @@ pub record Limited (given : Given) : Type 0 where
   pub bands : given .bands ≤ 8
   pub entries : given .shuffles * given .values ≤ 31936
 
-pub limited : (given : Given) (job : Job) → outside 2 64 (given .values) ≡ false → Parted given job → Limited given
-limited given job zones p =
+pub limited : (given : Given) (job : Job) → given .values ≤ 64 → Parted given job → Limited given
+limited given job z p =
     let n = given .values in
-    let z = in-range 2 64 n zones .1 in
     let c = at-most-all n (given .categories) (p .categories-count) in
     let q = at-most-all n (given .places) (p .places-count) in
     let s = ltb-false 499 (given .shuffles) (p .shuffles-count) in record {
@@ -210,8 +174,8 @@ module _ (given : Given) (lent : Buffers) (room : ℕ) where
   pub job-writable : ((k : ℕ) → getD (lent .bands) k 0 < 4294967296) → Taken given lent room → Writable given job
   unfolding lent-job
   job-writable words t =
-      let fit = job-within (limited given job (t .zones) (t .parts)) (t .buffers) in
-      let z = in-range 2 64 (given .values) (t .zones) in record {
+      let z = in-range 2 64 (given .values) (t .zones) in
+      let fit = job-within (limited given job (z .1) (t .parts)) (t .buffers) in record {
         zones = t .zones;
         some = omega (arith, z .0);
         values-fit = fit .values;

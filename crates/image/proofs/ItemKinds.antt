@@ -23,11 +23,19 @@ pub data All {A : Type 0} (P : A → Type 0) : List A → Type 0 where
   none : All P []
   more : {x : A} {xs : List A} → P x → All P xs → All P (x ∷ xs)
 
+-- the length of the bytes of items that have so many each
+module _ {A : Type 0} (bytes : A → List ℕ) (size : ℕ) (long : (x : A) → length (bytes x) ≡ size) where
+  pub each-length : (xs : List A) → length (each bytes xs) ≡ size * length xs
+  unfolding each
+  each-length [] = sym (mul-zero size)
+  each-length (x ∷ xs) =
+      length-append (bytes x) (each bytes xs) ∙ omega (arith, long x, each-length xs, mul-suc size (length xs))
+
 -- the laws of a kind of item: how it is read at a place, its size, its bytes, and which items have bytes
 pub record Kind {A : Type 0} (item : List ℕ → ℕ → A) (size : ℕ) (bytes : A → List ℕ) (Fit : A → Type 0) : Type 0 where
   pub further : (b : List ℕ) (p : ℕ) → item b (size + p) ≡ item (drop size b) p
   pub back : (x : A) (rest : List ℕ) → Fit x → item (bytes x ++ rest) 0 ≡ x
-  pub long : (x : A) → Fit x → length (bytes x) ≡ size
+  pub long : (x : A) → length (bytes x) ≡ size
   pub same : (b : List ℕ) → Bytes b → size ≤ length b → bytes (item b 0) ≡ take size b
 
 module _ {A : Type 0} (item : List ℕ → ℕ → A) (size : ℕ) where
@@ -44,12 +52,6 @@ module _ {A : Type 0} (item : List ℕ → ℕ → A) (size : ℕ) (bytes : A �
       (λ i h. ap (item b) (mul-suc size i ∙ add-comm (size * i) size) ∙ kind .further b (size * i)) in
       ap (λ p. item b p ∷ table (λ i. item b (size * suc i)) k) (mul-zero size) ∙ ap (λ l. item b 0 ∷ l) next
 
-  pub each-length : (xs : List A) → All Fit xs → length (each bytes xs) ≡ size * length xs
-  unfolding each
-  each-length [] none = sym (mul-zero size)
-  each-length (x ∷ xs) (more o os) =
-      length-append (bytes x) (each bytes xs) ∙ omega (arith, kind .long x o, each-length xs os, mul-suc size (length xs))
-
   pub listed-back : (xs : List A) (rest : List ℕ) → All Fit xs → listed item size (length xs) (each bytes xs ++ rest) ≡ xs
   unfolding each table
   listed-back [] rest none = refl
@@ -57,7 +59,7 @@ module _ {A : Type 0} (item : List ℕ → ℕ → A) (size : ℕ) (bytes : A �
       listed-more (length xs) ((bytes x ++ each bytes xs) ++ rest)
       ∙ ap (λ b. item b 0 ∷ listed item size (length xs) (drop size b)) (append-assoc (bytes x) (each bytes xs) rest)
       ∙ ap (λ y. y ∷ listed item size (length xs) (drop size (bytes x ++ (each bytes xs ++ rest)))) (kind .back x (each bytes xs ++ rest) o)
-      ∙ ap (λ b. x ∷ listed item size (length xs) b) (drop-at (bytes x) (each bytes xs ++ rest) size (kind .long x o))
+      ∙ ap (λ b. x ∷ listed item size (length xs) b) (drop-at (bytes x) (each bytes xs ++ rest) size (kind .long x))
       ∙ ap (λ l. x ∷ l) (listed-back xs rest os)
 
   pub listed-same : (k : ℕ) (b : List ℕ) → Bytes b → size * k ≤ length b → each bytes (listed item size k b) ≡ take (size * k) b

@@ -52,7 +52,7 @@ unfolding word-at
 word-small b h = omega (arith, h 0, h 1, h 2, h 3)
 
 pub word-kind : Kind word-at 4 word-bytes (λ u. u < 4294967296)
-word-kind = record { further = λ b p. sym (word-from b 4 p); back = word-back; long = λ u h. refl; same = word-same }
+word-kind = record { further = λ b p. sym (word-from b 4 p); back = word-back; long = λ u. refl; same = word-same }
 
 -- ---- a 4-byte signed number
 
@@ -66,7 +66,7 @@ signed-same : (b : List ℕ) → Bytes b → 4 ≤ length b → signed-bytes (si
 signed-same b h l = ap word-bytes (ofZ-toZ w32 (word-at b 0) (record { fits = word-small b h })) ∙ word-same b h l
 
 pub signed-kind : Kind signed-at 4 signed-bytes (λ x. SFits w32 x)
-signed-kind = record { further = λ b p. ap (toZ w32) (sym (word-from b 4 p)); back = signed-back; long = λ x h. refl; same = signed-same }
+signed-kind = record { further = λ b p. ap (toZ w32) (sym (word-from b 4 p)); back = signed-back; long = λ x. refl; same = signed-same }
 
 -- ---- a join
 
@@ -87,7 +87,7 @@ join-same (x ∷ y ∷ []) h l = let z : ⊥ = omega arith in absurd z
 join-same (x ∷ y ∷ z ∷ b) h l = refl
 
 pub join-kind : Kind join-at 3 join-bytes (λ join. Unit {0})
-join-kind = record { further = join-further; back = λ join rest h. refl; long = λ join h. refl; same = join-same }
+join-kind = record { further = join-further; back = λ join rest h. refl; long = λ join. refl; same = join-same }
 
 -- ---- bytes as they are
 

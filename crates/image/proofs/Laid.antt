@@ -154,22 +154,22 @@ module _ (given : Given) (job : Job) (w : Writable given job) where
 
   -- the sections have their sizes
   values-size : 4 * n ≡ length of-values
-  values-size = sym (each-length signed-at 4 signed-bytes (λ x. SFits w32 x) signed-kind (job .values) values-have ∙ ap (λ m. 4 * m) (w .values-fit))
+  values-size = sym (each-length signed-bytes 4 (λ x. refl) (job .values) ∙ ap (λ m. 4 * m) (w .values-fit))
 
   categories-size : 1 * given .categories ≡ length (job .categories)
   categories-size = let e = w .categories-fit in omega arith
 
   joins-size : 3 * length joins ≡ length of-joins
-  joins-size = sym (each-length join-at 3 join-bytes (λ join. Unit {0}) join-kind joins (any-join joins))
+  joins-size = sym (each-length join-bytes 3 (λ join. refl) joins)
 
   places-size : 8 * given .places ≡ length of-places
   places-size =
-      let e = each-length signed-at 4 signed-bytes (λ x. SFits w32 x) signed-kind (job .places) places-have in
+      let e = each-length signed-bytes 4 (λ x. refl) (job .places) in
       let f = w .places-fit in
       omega arith
 
   bands-size : 4 * given .bands ≡ length of-bands
-  bands-size = sym (each-length word-at 4 word-bytes (λ u. u < 4294967296) word-kind (job .bands) (w .words-fit) ∙ ap (λ m. 4 * m) (w .bands-fit))
+  bands-size = sym (each-length word-bytes 4 (λ u. refl) (job .bands) ∙ ap (λ m. 4 * m) (w .bands-fit))
 
   shuffles-size : n * given .shuffles ≡ length (job .shuffles)
   shuffles-size = N.mul-comm n (given .shuffles) ∙ sym (w .shuffles-fit)

@@ -9,6 +9,7 @@ pub mod ItemKinds
 pub mod Items
 pub mod JoinOrder
 pub mod Parts
+pub mod Buffers
 pub mod Limits
 pub mod Laid
 pub mod JoinCount

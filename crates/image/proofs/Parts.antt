@@ -13,9 +13,9 @@ use Rattle.places.specs.Places.{places-in-turn}
 use Rattle.image.specs.Joins.{weight-rules}
 use Rattle.image.specs.Image.{
   Job,
-  none-or-all,
-  band-count,
-  shuffle-count,
+  none-or-all-rule,
+  band-count-rule,
+  shuffle-count-rule,
   value-rules,
   category-rules,
   band-rules,
@@ -41,19 +41,19 @@ pub record Parted (given : Given) (job : Job) : Type 0 where
 module _ (given : Given) (job : Job) where
   -- the rules of each part, and of those after it
   abbrev pub of-shuffles : List Rule
-  of-shuffles = shuffle-count (given .shuffles) ∷ shuffle-rules (given .values) (job .shuffles)
+  of-shuffles = shuffle-count-rule (given .shuffles) ∷ shuffle-rules (given .values) (job .shuffles)
 
   abbrev pub of-bands : List Rule
-  of-bands = band-count (given .places) (given .bands) ∷ band-rules (job .bands)
+  of-bands = band-count-rule (given .places) (given .bands) ∷ band-rules (job .bands)
 
   abbrev pub of-places : List Rule
-  of-places = none-or-all (given .values) (given .places) ∷ places-in-turn (job .places)
+  of-places = none-or-all-rule (given .values) (given .places) ∷ places-in-turn (job .places)
 
   abbrev pub of-weights : List Rule
   of-weights = in-turn (weight-rules (given .values) (job .weights)) (given .values * given .values)
 
   abbrev pub of-categories : List Rule
-  of-categories = none-or-all (given .values) (given .categories) ∷ category-rules (job .categories)
+  of-categories = none-or-all-rule (given .values) (given .categories) ∷ category-rules (job .categories)
 
   abbrev pub after-places : List Rule
   after-places = of-bands ++ of-shuffles
@@ -67,7 +67,7 @@ module _ (given : Given) (job : Job) where
   abbrev pub after-values : List Rule
   after-values = of-categories ++ after-categories
 
-  weights-numbered : Numbered of-weights
+  pub weights-numbered : Numbered of-weights
   weights-numbered = in-turn-numbered (weight-rules (given .values) (job .weights)) (weight-numbered (given .values) (job .weights)) _
 
   pub parts-numbered : Numbered (part-rules given job)

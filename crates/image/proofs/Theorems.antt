@@ -9,7 +9,7 @@ use lib.ListN.{length, getD, take, drop, length-drop}
 use lib.Seq.{take-at}
 use Rattle.whole.specs.Rules.{first-broken, Applies, misfits}
 use Rattle.whole.specs.Search.{any-above}
-use Rattle.whole.proofs.Rules.{first-applies, worked-when-taken, kept-when-refused}
+use Rattle.whole.proofs.Rules.{in-range, first-applies, worked-when-taken, kept-when-refused}
 use Rattle.account.specs.Classes.{class-rules}
 use Rattle.account.specs.Refusals.{sum-rules}
 use Rattle.image.specs.Image.{
@@ -32,21 +32,8 @@ use Rattle.image.specs.RoundTrip.{image-of, ReadBack, given-in, left, Wr
 use Rattle.image.specs.declared.Given.{Given}
 use Rattle.image.proofs.Accepted.{accepted, counted}
 use Rattle.image.proofs.BytesBack.{within-counts, image-parts, bytes-same}
-use Rattle.image.proofs.Called.{
-  Exact,
-  exact,
-  read-taken,
-  read-let-in,
-  limited,
-  Within,
-  lent-filled,
-  filled-exact,
-  Taken,
-  write-taken,
-  write-let-in,
-  job-within,
-  job-writable,
-}
+use Rattle.image.proofs.Buffers.{Exact, exact}
+use Rattle.image.proofs.Called.{read-taken, read-let-in, limited, Within, lent-filled, filled-exact, Taken, write-taken, write-let-in, job-within, job-writable}
 use Rattle.image.proofs.ItemKinds.{Bytes}
 use Rattle.image.proofs.Laid as laid
 use Rattle.image.proofs.Laid.{Writable}
@@ -71,7 +58,7 @@ written-then-read given lent out others words e x =
     let job = lent-job given lent in
     let image = job-bytes given job in
     let w = job-writable given lent (length out) words t in
-    let fit = job-within given lent (length out) (limited given job (t .zones) (t .parts)) (t .buffers) in
+    let fit = job-within given lent (length out) (limited given job (in-range 2 64 (given .values) (t .zones) .1) (t .parts)) (t .buffers) in
     let taken = read-let-in image others (exact others x) (laid.image-taken given job w) in
     let filling = worked-when-taken (write-refusal given lent (length out)) (over image out) out e in record {
       written = ap (take (length image)) filling ∙ take-at image (drop (length image) out) (length image) refl;
@@ -99,7 +86,7 @@ read-then-written image lent out h e room =
     let job = job-of image in
     let fit = within-counts image a in
     let zones = a .values .counted in
-    let few = limited given job zones (image-parts image a) in
+    let few = limited given job (in-range 2 64 (count image) zones .1) (image-parts image a) in
     let is : left image lent out ≡ filled job lent = worked-when-taken (read-refusal image lent) (filled job lent) lent e in
     let same : lent-job given (left image lent out) ≡ job = ap (lent-job given) is ∙ lent-filled given job fit lent in
     let bytes : job-bytes given (lent-job given (left image lent out)) ≡ image = ap (job-bytes given) same ∙ bytes-same image a h in

@@ -110,24 +110,24 @@ job-of image = record {
 -- ---- the rules on a section's count, which the writer has too
 
 -- 2 to 64 values
-abbrev pub zone-count : ℕ → Rule
-zone-count n = (outside 2 64 n, 1)
+abbrev pub zone-count-rule : ℕ → Rule
+zone-count-rule n = (outside 2 64 n, 1)
 
 -- categories and places: 0 or n
-abbrev pub none-or-all : ℕ → ℕ → Rule
-none-or-all n k = (not (eqb k 0 || eqb k n), 15)
+abbrev pub none-or-all-rule : ℕ → ℕ → Rule
+none-or-all-rule n k = (not (eqb k 0 || eqb k n), 15)
 
 -- up to 4,032 joins
-abbrev pub join-count : ℕ → Rule
-join-count k = (ltb 4032 k, 15)
+abbrev pub join-count-rule : ℕ → Rule
+join-count-rule k = (ltb 4032 k, 15)
 
 -- 0 to 8 bands, and 0 where there are no places
-abbrev pub band-count : ℕ → ℕ → Rule
-band-count places k = (ltb 8 k || (ltb 0 k && eqb places 0), 12)
+abbrev pub band-count-rule : ℕ → ℕ → Rule
+band-count-rule places k = (ltb 8 k || (ltb 0 k && eqb places 0), 12)
 
 -- 0 to 499 shuffles
-abbrev pub shuffle-count : ℕ → Rule
-shuffle-count k = (ltb 499 k, 15)
+abbrev pub shuffle-count-rule : ℕ → Rule
+shuffle-count-rule k = (ltb 499 k, 15)
 
 -- ---- and on its items, which the writer has too but for the joins. Where all items of a section have one rule it is said of them together
 
@@ -150,22 +150,22 @@ abbrev pub section-rules : ℕ → Rule → List Rule → List ℕ → List Rule
 section-rules size of-count of-items b = (ltb (length b) 2, 14) ∷ of-count ∷ (ltb (length b) (2 + size * count b), 14) ∷ of-items
 
 unfoldable pub in-values : List ℕ → List Rule
-in-values b = section-rules 4 (zone-count (count b)) (value-rules (values-in b)) b
+in-values b = section-rules 4 (zone-count-rule (count b)) (value-rules (values-in b)) b
 
 unfoldable pub in-categories : ℕ → List ℕ → List Rule
-in-categories n b = section-rules 1 (none-or-all n (count b)) (category-rules (categories-in b)) b
+in-categories n b = section-rules 1 (none-or-all-rule n (count b)) (category-rules (categories-in b)) b
 
 unfoldable pub in-joins : ℕ → List ℕ → List Rule
-in-joins n b = section-rules 3 (join-count (count b)) (in-turn (join-rules n (join-in (items b))) (count b)) b
+in-joins n b = section-rules 3 (join-count-rule (count b)) (in-turn (join-rules n (join-in (items b))) (count b)) b
 
 unfoldable pub in-places : ℕ → List ℕ → List Rule
-in-places n b = section-rules 8 (none-or-all n (count b)) (places-in-turn (places-in b)) b
+in-places n b = section-rules 8 (none-or-all-rule n (count b)) (places-in-turn (places-in b)) b
 
 unfoldable pub in-bands : ℕ → List ℕ → List Rule
-in-bands places b = section-rules 4 (band-count places (count b)) (band-rules (bands-in b)) b
+in-bands places b = section-rules 4 (band-count-rule places (count b)) (band-rules (bands-in b)) b
 
 unfoldable pub in-shuffles : ℕ → List ℕ → List Rule
-in-shuffles n b = section-rules n (shuffle-count (count b)) (shuffle-rules n (shuffles-in n b)) b
+in-shuffles n b = section-rules n (shuffle-count-rule (count b)) (shuffle-rules n (shuffles-in n b)) b
 
 -- after the last section 17, 6, 7
 abbrev pub at-the-end : List ℕ → List Rule

@@ -7,7 +7,7 @@ use Rattle.whole.specs.Rules.{Rule, first-broken, in-turn, misfits, unless-refu
 use Rattle.account.specs.Refusals.{sum-rules}
 use Rattle.places.specs.Places.{places-in-turn}
 use Rattle.image.specs.Joins.{weight-rules}
-use Rattle.image.specs.Image.{Job, zone-count, none-or-all, band-count, shuffle-count, value-rules, category-rules, band-rules, shuffle-rules, job-bytes}
+use Rattle.image.specs.Image.{Job, zone-count-rule, none-or-all-rule, band-count-rule, shuffle-count-rule, value-rules, category-rules, band-rules, shuffle-rules, job-bytes}
 use Rattle.image.specs.Reader.{Buffers, buffer-lengths, over}
 use Rattle.image.specs.declared.Given.{Given}
 
@@ -27,17 +27,17 @@ unfoldable pub part-rules : Given → Job → List Rule
 part-rules given job =
     let n = given .values in
     value-rules (job .values)
-    ++ ((none-or-all n (given .categories) ∷ category-rules (job .categories))
+    ++ ((none-or-all-rule n (given .categories) ∷ category-rules (job .categories))
     ++ (in-turn (weight-rules n (job .weights)) (n * n)
-    ++ ((none-or-all n (given .places) ∷ places-in-turn (job .places))
-    ++ ((band-count (given .places) (given .bands) ∷ band-rules (job .bands))
-    ++ (shuffle-count (given .shuffles) ∷ shuffle-rules n (job .shuffles))))))
+    ++ ((none-or-all-rule n (given .places) ∷ places-in-turn (job .places))
+    ++ ((band-count-rule (given .places) (given .bands) ∷ band-rules (job .bands))
+    ++ (shuffle-count-rule (given .shuffles) ∷ shuffle-rules n (job .shuffles))))))
 
 -- 1, then 2, then its parts, then 6, 7 and 19, where the output has so much room
 unfoldable pub write-rules : Given → Buffers → ℕ → List Rule
 write-rules given lent room =
     let job = lent-job given lent in
-    zone-count (given .values)
+    zone-count-rule (given .values)
     ∷ (misfits (buffer-lengths lent), 2)
     ∷ (part-rules given job
     ++ (sum-rules (given .values) (job .values) (job .weights)

@@ -3,7 +3,7 @@
 ghost use mathlib.Core.Path.{_≡_};
 ghost use mathlib.Core.List.{[], _∷_};
 ghost use Rattle.whole.specs.Rules.{first-broken, misfits};
-ghost use Rattle.image.specs.Image.{zone-count, none-or-all, join-count, band-count, shuffle-count};
+ghost use Rattle.image.specs.Image.{zone-count-rule, none-or-all-rule, join-count-rule, band-count-rule, shuffle-count-rule};
 
 // The counts that the writer is lent.
 pub struct Given {
@@ -16,7 +16,7 @@ pub struct Given {
 
 // 1: a count of values outside 2 to 64.
 pub fn judge_zones(n: usize) -> u8
-    ensures { λ r. ⌜ r ≡ first-broken (zone-count n ∷ []) ⌝ }
+    ensures { λ r. ⌜ r ≡ first-broken (zone-count-rule n ∷ []) ⌝ }
 {
     if n < 2 {
         return 1;
@@ -29,7 +29,7 @@ pub fn judge_zones(n: usize) -> u8
 
 // 15: categories or places for some of n zones only.
 pub fn judge_none_or_all(n: usize, k: usize) -> u8
-    ensures { λ r. ⌜ r ≡ first-broken (none-or-all n k ∷ []) ⌝ }
+    ensures { λ r. ⌜ r ≡ first-broken (none-or-all-rule n k ∷ []) ⌝ }
 {
     if k == 0 {
         return 0;
@@ -42,7 +42,7 @@ pub fn judge_none_or_all(n: usize, k: usize) -> u8
 
 // 15: more joins than there can be.
 pub fn judge_joins(k: usize) -> u8
-    ensures { λ r. ⌜ r ≡ first-broken (join-count k ∷ []) ⌝ }
+    ensures { λ r. ⌜ r ≡ first-broken (join-count-rule k ∷ []) ⌝ }
 {
     if k > 4032 {
         return 15;
@@ -52,7 +52,7 @@ pub fn judge_joins(k: usize) -> u8
 
 // 12: more than 8 bands, or bands without places.
 pub fn judge_bands(places: usize, k: usize) -> u8
-    ensures { λ r. ⌜ r ≡ first-broken (band-count places k ∷ []) ⌝ }
+    ensures { λ r. ⌜ r ≡ first-broken (band-count-rule places k ∷ []) ⌝ }
 {
     if k > 8 {
         return 12;
@@ -68,7 +68,7 @@ pub fn judge_bands(places: usize, k: usize) -> u8
 
 // 15: more than 499 shuffles.
 pub fn judge_shuffles(k: usize) -> u8
-    ensures { λ r. ⌜ r ≡ first-broken (shuffle-count k ∷ []) ⌝ }
+    ensures { λ r. ⌜ r ≡ first-broken (shuffle-count-rule k ∷ []) ⌝ }
 {
     if k > 499 {
         return 15;

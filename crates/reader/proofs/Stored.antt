@@ -1,16 +1,13 @@
 -- What the stores of an accepted image ask for, and what they come to. Assumes nothing.
 use mathlib.Core.Path.{_≡_, ap, _∙_}
-use mathlib.Core.Bool.{false}
-use mathlib.Core.List.{List, [], _∷_}
+use mathlib.Core.List.{List}
 use Prim.Native.Nat.{ℕ, _+_, _*_, _≤_}
 use native.Mathlib.Nat as N
 use native.Mathlib.Omega.{arith}
 use lib.IntN.{ℤ}
 use lib.ListN.{length, drop}
-use Rattle.whole.specs.Rules.{misfits}
 use Rattle.whole.specs.Table.{table}
 use Rattle.whole.proofs.Lists.{few}
-use Rattle.whole.proofs.Rules.{fits}
 use Rattle.image.specs.Joins.{weights-of}
 use Rattle.image.specs.Image.{
   count,
@@ -25,34 +22,12 @@ use Rattle.image.specs.Image.{
   from-shuffles,
   job-of,
 }
-use Rattle.image.specs.Reader.{Buffers, buffers, buffer-lengths, over, filled}
+use Rattle.image.specs.Reader.{Buffers, buffers, over, filled}
 use Rattle.image.proofs.Accepted.{accepted, counted}
+use Rattle.image.proofs.Buffers.{exact}
 use Rattle.reader.specs.Steps.{Joinable, LaidOut, Storable}
 use Rattle.reader.specs.declared.judging.Layout.{Layout}
 use Rattle.reader.proofs.Found.{found-read, joinable}
-
--- ---- the buffers have their lengths
-pub record Exact (lent : Buffers) : Type 0 where
-  pub values : length (lent .values) ≡ 64
-  pub categories : length (lent .categories) ≡ 64
-  pub weights : length (lent .weights) ≡ 4096
-  pub places : length (lent .places) ≡ 128
-  pub bands : length (lent .bands) ≡ 8
-  pub shuffles : length (lent .shuffles) ≡ 31936
-
-exact : (lent : Buffers) → misfits (buffer-lengths lent) ≡ false → Exact lent
-exact lent e =
-    let shuffles : List (ℕ × ℕ) = (length (lent .shuffles), 31936) ∷ [] in
-    let bands : List (ℕ × ℕ) = (length (lent .bands), 8) ∷ shuffles in
-    let places : List (ℕ × ℕ) = (length (lent .places), 128) ∷ bands in
-    let weights : List (ℕ × ℕ) = (length (lent .weights), 4096) ∷ places in
-    let v = fits (length (lent .values)) 64 ((length (lent .categories), 64) ∷ weights) e in
-    let c = fits (length (lent .categories)) 64 weights (v .1) in
-    let w = fits (length (lent .weights)) 4096 places (c .1) in
-    let p = fits (length (lent .places)) 128 bands (w .1) in
-    let b = fits (length (lent .bands)) 8 shuffles (p .1) in
-    let s = fits (length (lent .shuffles)) 31936 [] (b .1) in
-    record { values = v .0; categories = c .0; weights = w .0; places = p .0; bands = b .0; shuffles = s .0 }
 
 -- ---- each section is there, and has room in its buffer
 pub record Room (image : List ℕ) (r : Layout) (lent : Buffers) : Type 0 where

@@ -10,7 +10,7 @@ ghost use Rattle.whole.specs.Rules.{first-broken, misfits, in-turn};
 ghost use Rattle.account.specs.Refusals.{sum-rules};
 ghost use Rattle.places.specs.Places.{places-in-turn};
 ghost use Rattle.image.specs.Joins.{weight-rules};
-ghost use Rattle.image.specs.Image.{zone-count, none-or-all, band-count, shuffle-count, value-rules, category-rules, band-rules, shuffle-rules};
+ghost use Rattle.image.specs.Image.{zone-count-rule, none-or-all-rule, band-count-rule, shuffle-count-rule, value-rules, category-rules, band-rules, shuffle-rules};
 ghost use Rattle.image.specs.Reader.{buffers, buffer-lengths};
 ghost use Rattle.image.specs.Writer.{lent-job};
 ghost use Rattle.image.specs.Steps.{then};
@@ -30,7 +30,7 @@ fn judge_values(values: &[i32]) -> u8
 fn judge_categories(before: u8, categories: &[u8], n: usize, k: usize) -> u8
     requires { ⌜ n ≤ 64 ⌝ }
     requires { ⌜ length (now categories) ≡ 64 ⌝ }
-    ensures { λ r. ⌜ r ≡ then before (none-or-all n k ∷ category-rules (take k (now (categories .entry)))) ⌝ }
+    ensures { λ r. ⌜ r ≡ then before (none-or-all-rule n k ∷ category-rules (take k (now (categories .entry)))) ⌝ }
 {
     if before != 0 {
         return before;
@@ -62,7 +62,7 @@ fn judge_weights(before: u8, weights: &[u8], n: usize) -> u8
 fn judge_places(before: u8, places: &[i32], n: usize, k: usize) -> u8
     requires { ⌜ n ≤ 64 ⌝ }
     requires { ⌜ length (now places) ≡ 128 ⌝ }
-    ensures { λ r. ⌜ r ≡ then before (none-or-all n k ∷ places-in-turn (take (2 * k) (now (places .entry)))) ⌝ }
+    ensures { λ r. ⌜ r ≡ then before (none-or-all-rule n k ∷ places-in-turn (take (2 * k) (now (places .entry)))) ⌝ }
 {
     if before != 0 {
         return before;
@@ -78,7 +78,7 @@ fn judge_places(before: u8, places: &[i32], n: usize, k: usize) -> u8
 // 12: k bands of a job with so many places.
 fn judge_bands(before: u8, bands: &[u32], places: usize, k: usize) -> u8
     requires { ⌜ length (now bands) ≡ 8 ⌝ }
-    ensures { λ r. ⌜ r ≡ then before (band-count places k ∷ band-rules (take k (now (bands .entry)))) ⌝ }
+    ensures { λ r. ⌜ r ≡ then before (band-count-rule places k ∷ band-rules (take k (now (bands .entry)))) ⌝ }
 {
     if before != 0 {
         return before;
@@ -98,7 +98,7 @@ fn judge_shuffles(before: u8, shuffles: &[u8], n: usize, k: usize) -> u8
     requires { ⌜ 2 ≤ n ⌝ }
     requires { ⌜ n ≤ 64 ⌝ }
     requires { ⌜ length (now shuffles) ≡ 31936 ⌝ }
-    ensures { λ r. ⌜ r ≡ then before (shuffle-count k ∷ shuffle-rules n (take (k * n) (now (shuffles .entry)))) ⌝ }
+    ensures { λ r. ⌜ r ≡ then before (shuffle-count-rule k ∷ shuffle-rules n (take (k * n) (now (shuffles .entry)))) ⌝ }
 {
     if before != 0 {
         return before;
@@ -162,7 +162,7 @@ pub fn judge(
     shuffles: &[u8],
     given: Given,
 ) -> u8
-    ensures { λ r. ⌜ r ≡ first-broken (zone-count (given .values)
+    ensures { λ r. ⌜ r ≡ first-broken (zone-count-rule (given .values)
         ∷ (
           misfits (buffer-lengths (buffers (now (values .entry)) (now (categories .entry)) (now (weights .entry))
               (now (places .entry)) (now (bands .entry)) (now (shuffles .entry)))),

@@ -8,7 +8,7 @@ use lib.Dec.{ltb}
 use lib.ListN.{length, drop}
 use Rattle.whole.specs.Rules.{first-broken}
 use Rattle.whole.proofs.Rules.{neither}
-use Rattle.image.specs.Image.{count, words, band-count, band-rules, in-bands}
+use Rattle.image.specs.Image.{count, words, band-count-rule, band-rules, in-bands}
 use Rattle.image.proofs.Bytes.{count-from}
 use Rattle.image.proofs.Sections.{there, unbroken, already, no-count, bad-count, no-section, by-items}
 use Rattle.reader.proofs.Parts.{items-from}
@@ -30,8 +30,8 @@ module _ (c : tie.After-judge-bands) where
   counted : k ≡ count (b start)
   counted = c .before .two-at .ensures .0 ∙ count-from (start .args .image .now) (start .args .at)
 
-  judged : c .judge-bands .result ≡ first-broken (band-count (start .args .places) (count (b start)) ∷ [])
-  judged = c .judge-bands .ensures ∙ ap (λ m. first-broken (band-count (start .args .places) m ∷ [])) counted
+  judged : c .judge-bands .result ≡ first-broken (band-count-rule (start .args .places) (count (b start)) ∷ [])
+  judged = c .judge-bands .ensures ∙ ap (λ m. first-broken (band-count-rule (start .args .places) m ∷ [])) counted
 
 -- all of it is there
 module _ (c : tie.Else4) where

@@ -5,7 +5,7 @@ use Prim.Native.Nat.{ℕ, _+_, _*_, _≤_}
 use native.Mathlib.Omega.{arith}
 use lib.ListN.{length, drop}
 use Rattle.whole.specs.Rules.{first-broken, in-turn}
-use Rattle.image.specs.Image.{count, join-in, join-count, in-joins}
+use Rattle.image.specs.Image.{count, join-in, join-count-rule, in-joins}
 use Rattle.image.specs.Joins.{join-rules}
 use Rattle.image.proofs.Bytes.{count-from}
 use Rattle.image.proofs.Sections.{there, already, no-count, bad-count, no-section, by-items}
@@ -28,8 +28,8 @@ module _ (c : tie.After-judge-joins) where
   counted : k ≡ count (b start)
   counted = c .before .two-at .ensures .0 ∙ count-from (start .args .image .now) (start .args .at)
 
-  judged : c .judge-joins .result ≡ first-broken (join-count (count (b start)) ∷ [])
-  judged = c .judge-joins .ensures ∙ ap (λ m. first-broken (join-count m ∷ [])) counted
+  judged : c .judge-joins .result ≡ first-broken (join-count-rule (count (b start)) ∷ [])
+  judged = c .judge-joins .ensures ∙ ap (λ m. first-broken (join-count-rule m ∷ [])) counted
 
 -- all of it is there
 module _ (c : tie.Else4) where

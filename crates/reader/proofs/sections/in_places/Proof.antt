@@ -6,7 +6,7 @@ use native.Mathlib.Omega.{arith}
 use lib.ListN.{length, drop}
 use Rattle.whole.specs.Rules.{first-broken}
 use Rattle.places.specs.Places.{places-in-turn}
-use Rattle.image.specs.Image.{count, signed-words, none-or-all, in-places}
+use Rattle.image.specs.Image.{count, signed-words, none-or-all-rule, in-places}
 use Rattle.image.proofs.Accepted.{at-most-all}
 use Rattle.image.proofs.Bytes.{count-from}
 use Rattle.image.proofs.Sections.{there, unbroken, already, no-count, bad-count, no-section, by-items}
@@ -29,8 +29,8 @@ module _ (c : tie.After-judge-none-or-all) where
   counted : k ≡ count (b start)
   counted = c .before .two-at .ensures .0 ∙ count-from (start .args .image .now) (start .args .at)
 
-  judged : c .judge-none-or-all .result ≡ first-broken (none-or-all (start .args .n) (count (b start)) ∷ [])
-  judged = c .judge-none-or-all .ensures ∙ ap (λ m. first-broken (none-or-all (start .args .n) m ∷ [])) counted
+  judged : c .judge-none-or-all .result ≡ first-broken (none-or-all-rule (start .args .n) (count (b start)) ∷ [])
+  judged = c .judge-none-or-all .ensures ∙ ap (λ m. first-broken (none-or-all-rule (start .args .n) m ∷ [])) counted
 
 -- all of it is there
 module _ (c : tie.Else4) where

@@ -7,7 +7,7 @@ use native.Mathlib.Omega.{arith}
 use borrow.Author.Tests.{ltb-false}
 use lib.ListN.{length, drop}
 use Rattle.whole.specs.Rules.{first-broken}
-use Rattle.image.specs.Image.{count, bytes, shuffle-count, shuffle-rules, in-shuffles}
+use Rattle.image.specs.Image.{count, bytes, shuffle-count-rule, shuffle-rules, in-shuffles}
 use Rattle.image.proofs.Bytes.{count-from}
 use Rattle.image.proofs.Sections.{there, unbroken, already, no-count, bad-count, no-section, by-items}
 use Rattle.reader.proofs.Parts.{items-from}
@@ -29,8 +29,8 @@ module _ (c : tie.After-judge-shuffles) where
   counted : k ≡ count (b start)
   counted = c .before .two-at .ensures .0 ∙ count-from (start .args .image .now) (start .args .at)
 
-  judged : c .judge-shuffles .result ≡ first-broken (shuffle-count (count (b start)) ∷ [])
-  judged = c .judge-shuffles .ensures ∙ ap (λ m. first-broken (shuffle-count m ∷ [])) counted
+  judged : c .judge-shuffles .result ≡ first-broken (shuffle-count-rule (count (b start)) ∷ [])
+  judged = c .judge-shuffles .ensures ∙ ap (λ m. first-broken (shuffle-count-rule m ∷ [])) counted
 
 -- all of it is there
 module _ (c : tie.Else4) where

@@ -6,7 +6,7 @@ use native.Mathlib.Omega.{arith}
 use lib.ListN.{length, drop}
 use Rattle.whole.specs.Rules.{first-broken}
 use Rattle.whole.proofs.Rules.{in-range}
-use Rattle.image.specs.Image.{count, signed-words, zone-count, value-rules, in-values}
+use Rattle.image.specs.Image.{count, signed-words, zone-count-rule, value-rules, in-values}
 use Rattle.image.proofs.Bytes.{count-from}
 use Rattle.image.proofs.Sections.{there, unbroken, already, no-count, bad-count, no-section, by-items}
 use Rattle.reader.proofs.Parts.{items-from}
@@ -28,8 +28,8 @@ module _ (c : tie.After-judge-zones) where
   counted : k ≡ count (b start)
   counted = c .before .two-at .ensures .0 ∙ count-from (start .args .image .now) (start .args .at)
 
-  judged : c .judge-zones .result ≡ first-broken (zone-count (count (b start)) ∷ [])
-  judged = c .judge-zones .ensures ∙ ap (λ m. first-broken (zone-count m ∷ [])) counted
+  judged : c .judge-zones .result ≡ first-broken (zone-count-rule (count (b start)) ∷ [])
+  judged = c .judge-zones .ensures ∙ ap (λ m. first-broken (zone-count-rule m ∷ [])) counted
 
 -- all of it is there
 module _ (c : tie.Else4) where

@@ -1,38 +1,73 @@
+-- `judge_shuffles` meets its contract: the number so far, then the count's; of whole rows the account judges 13 alone. Assumes nothing.
+use mathlib.Core.Path.{_≡_, sym, _∙_}
+use mathlib.Core.List.{List}
+use Prim.Native.Nat.{ℕ, _*_, _≤_}
+use native.Mathlib.Nat as N
+use native.Mathlib.Omega.{arith}
 use borrow.Author.Needs.{needs}
+use borrow.Author.Tests.{ltb-false}
+use lib.Dec.{ltb}
+use lib.ListN.{length, take}
+use lib.Seq.{length-take-le}
+use Rattle.image.specs.Image.{shuffle-rules}
+use Rattle.image.proofs.Sections.{unbroken}
+use Rattle.image.proofs.Then.{then-kept}
+use Rattle.image.proofs.Weights.{shuffles-decide}
+use Rattle.writer.proofs.Counts.{bad-count, by-items}
 use Rattle.writer.proofs.judging.judge_shuffles.Statement.{statement}
 use Rattle.writer.proofs.judging.judge_shuffles.Tie as tie
-use Rattle.writer.proofs.judging.judge_shuffles.Reads as reads
-use Rattle.writer.proofs.judging.judge_shuffles.Lts as lts
-use Rattle.account.proofs.judge_shuffles.Reads as judging-judge-shuffles-reads
-use Rattle.image.proofs.judge_shuffles.Reads as judge-shuffles-reads
 
--- src/judging.rt:104:9
+module _ (c : tie.After-judge-shuffles) where
+  abbrev s : tie.Start
+  s = c .before .before .before
+
+  abbrev entries : List ℕ
+  entries = take (s .args .k * s .args .n) (s .args .shuffles .now)
+
+module _ (c : tie.Else2) where
+  abbrev b : tie.After-judge-shuffles
+  b = c .before
+
+  few : s b .args .k ≤ 499
+  few =
+      ltb-false 499 (s b .args .k)
+      (unbroken (ltb 499 (s b .args .k)) 14 (b .judge-shuffles .result) (b .judge-shuffles .ensures) (c .if2 .left))
+
+  room : s b .args .k * s b .args .n ≤ 31936
+  room = N.mul-le-mul {n₂ = 499} {m₂ = 64} few (s b .pre .1 .0)
+
+  there : length (entries b) ≡ s b .args .k * s b .args .n
+  there = length-take-le (s b .args .k * s b .args .n) (s b .args .shuffles .now) (omega (arith, room))
+
 returns : tie.Need-returns
-returns c = ?
+returns c = sym (then-kept (c .before .before .args .before) _ (c .if1 .taken))
 
--- src/judging.rt:106:9
 judge-shuffles-requires : tie.Need-judge-shuffles-requires
 judge-shuffles-requires c κs = search needs
 
--- src/judging.rt:108:9
 returns-2 : tie.Need-returns-2
-returns-2 c = ?
+returns-2 c =
+    let b = c .before in
+    bad-count (s b .args .before) (b .before .if1 .left) (ltb 499 (s b .args .k)) 14 (shuffle-rules (s b .args .n) (entries b))
+    (b .judge-shuffles .result) (b .judge-shuffles .ensures) (c .if2 .taken)
 
--- src/judging.rt:110:19
 mul-entries : tie.Need-mul-entries
-mul-entries c = ?
+mul-entries c = omega (arith, room c)
 
--- src/judging.rt:111:32
 slice-aggregate-judge-shuffles : tie.Need-slice-aggregate-judge-shuffles
-slice-aggregate-judge-shuffles c = ?
+slice-aggregate-judge-shuffles c = sym (there (c .before))
 
--- src/judging.rt:111:5
 judge-shuffles-requires-2 : tie.Need-judge-shuffles-requires-2
 judge-shuffles-requires-2 c κs = search needs
 
--- src/judging.rt:97:1
 returns-3 : tie.Need-returns-3
-returns-3 c = ?
+returns-3 c =
+    let e = c .before .before in
+    let a = s (b e) .args in
+    let p = s (b e) .pre in
+    by-items (a .before) (b e .before .if1 .left) (ltb 499 (a .k)) 14 (shuffle-rules (a .n) (entries (b e))) (b e .judge-shuffles .result)
+    (b e .judge-shuffles .ensures) (e .if2 .left) (c .judge-shuffles2 .result)
+    (c .judge-shuffles2 .ensures ∙ shuffles-decide (a .n) (a .k) (entries (b e)) (p .0) (p .1 .0) (few e) (there e))
 
 pub judge-shuffles-spec : {M : Type 1} → statement M
 judge-shuffles-spec =

@@ -1,31 +1,25 @@
+-- `bits_of` meets its contract: a number below 0 has the bits that are left of the top less -1 - x, any other its own. Assumes nothing.
+use Rattle.writer.proofs.Bits.{turned, plain}
 use Rattle.writer.proofs.putting.bits_of.Statement.{statement}
 use Rattle.writer.proofs.putting.bits_of.Tie as tie
-use Rattle.writer.proofs.putting.bits_of.Reads as reads
-use Rattle.writer.proofs.putting.bits_of.Lts as lts
 
--- src/putting.rt:37:24
 sub-result : tie.Need-sub-result
-sub-result c = ?
+sub-result c = turned (c .before .args .x) (c .before .fits .x) (c .if1 .taken) .less
 
--- src/putting.rt:37:23
 cast-result : tie.Need-cast-result
-cast-result c = ?
+cast-result c = turned (c .before .args .x) (c .before .fits .x) (c .if1 .taken) .cast
 
--- src/putting.rt:37:9
 sub-result-2 : tie.Need-sub-result-2
-sub-result-2 c = ?
+sub-result-2 c = turned (c .before .args .x) (c .before .fits .x) (c .if1 .taken) .small
 
--- src/putting.rt:39:9
 cast-result-2 : tie.Need-cast-result-2
-cast-result-2 c = ?
+cast-result-2 c = plain (c .before .args .x) (c .before .fits .x) (c .if1 .left) .cast
 
--- src/putting.rt:33:1
 returns : tie.Need-returns
-returns c = ?
+returns c = turned (c .before .args .x) (c .before .fits .x) (c .if1 .taken) .same
 
--- src/putting.rt:33:1
 returns-2 : tie.Need-returns-2
-returns-2 c = ?
+returns-2 c = plain (c .before .args .x) (c .before .fits .x) (c .if1 .left) .same
 
 pub bits-of-spec : {M : Type 1} → statement M
 bits-of-spec =

@@ -1,49 +1,53 @@
+-- `put_bytes` meets its contract. The loop's invariant: the numbers passed are stored from `at` on. Assumes nothing.
+use mathlib.Core.Path.{refl, sym, ap}
+use mathlib.Core.List.{[], _∷_}
+use Prim.Native.Nat.{_+_, _-_, _≤_}
+use native.Mathlib.Omega.{arith}
+use lib.ListN.{length, getD, take}
+use lib.Seq.{length-take-le}
+use Rattle.writer.proofs.Stores.{Stored, stored-length, stored-none, stored-next, stored-all, front-next, front-all}
 use Rattle.writer.proofs.putting.put_bytes.Statement.{statement}
 use Rattle.writer.proofs.putting.put_bytes.Tie as tie
-use Rattle.writer.proofs.putting.put_bytes.Reads as reads
-use Rattle.writer.proofs.putting.put_bytes.Lts as lts
 
 abbrev Inv-loop : tie.InvT-loop
-Inv-loop out₀ at numbers i₀ out i = ?
+Inv-loop out₀ at numbers i₀ out i = (i ≤ length numbers) × Stored out₀ at (take i numbers) out
 
 abbrev μ-loop : tie.MeasureT-loop
-μ-loop out₀ at numbers i₀ out i = ?
+μ-loop out₀ at numbers i₀ out i = length numbers - i
 
--- src/putting.rt:73:5
 loop-holds : tie.Need-loop-holds Inv-loop μ-loop
-loop-holds c = ?
+loop-holds c = (omega arith, stored-none _ refl)
 
--- src/putting.rt:74:23
 shared-slice-read-out : tie.Need-shared-slice-read-out Inv-loop μ-loop
-shared-slice-read-out c = ?
+shared-slice-read-out c = omega arith
 
--- src/putting.rt:74:13
 add-out : tie.Need-add-out Inv-loop μ-loop
-add-out c = ?
+add-out c = omega arith
 
--- src/putting.rt:74:9
 slice-write-out : tie.Need-slice-write-out Inv-loop μ-loop
-slice-write-out c = ?
+slice-write-out c = omega (arith, stored-length (c .before .before .loop .inv .1))
 
--- src/putting.rt:75:9
 add-i : tie.Need-add-i Inv-loop μ-loop
-add-i c = ?
+add-i c = omega arith
 
--- src/putting.rt:73:5
 loop-less : tie.Need-loop-less Inv-loop μ-loop
-loop-less c = ?
+loop-less c = omega arith
 
--- src/putting.rt:73:5
 loop-again : tie.Need-loop-again Inv-loop μ-loop
-loop-again c = ?
+loop-again c =
+    let l = c .before .before .loop in
+    let a = c .before .before .before .args in
+    let numbers = a .numbers .now in
+    let place = ap (λ k. a .at + k) (sym (length-take-le (l .i) numbers (omega arith))) in
+    (omega arith, stored-next (getD numbers (l .i) 0 ∷ []) (l .inv .1) refl place (front-next numbers (l .i) 0 (omega arith)))
 
--- src/putting.rt:68:1
 same-length : tie.Need-same-length Inv-loop μ-loop
-same-length c = ?
+same-length c = stored-length (c .before .loop .inv .1)
 
--- src/putting.rt:68:1
 returns : tie.Need-returns Inv-loop μ-loop
-returns c = ?
+returns c =
+    let l = c .before .loop in
+    stored-all _ (l .inv .1) (front-all (c .before .before .args .numbers .now) (l .i) (omega arith))
 
 pub put-bytes-spec : {M : Type 1} → statement M
 put-bytes-spec =

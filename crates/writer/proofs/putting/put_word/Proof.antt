@@ -1,60 +1,55 @@
+-- `put_word` meets its contract: its four stores are those of the number's four bytes. Assumes nothing.
+use mathlib.Core.Path.{_≡_}
+use Prim.Native.Nat.{suc, _+_}
+use native.Mathlib.Omega.{arith}
 use borrow.Author.Needs.{needs}
+use lib.ListN.{length-set}
 use Rattle.writer.proofs.putting.put_word.Statement.{statement}
 use Rattle.writer.proofs.putting.put_word.Tie as tie
-use Rattle.writer.proofs.putting.put_word.Reads as reads
-use Rattle.writer.proofs.putting.put_word.Lts as lts
 
--- src/putting.rt:26:15
 cast-out : tie.Need-cast-out
 cast-out c = search needs
 
--- src/putting.rt:26:5
 slice-write-out : tie.Need-slice-write-out
 slice-write-out c = search needs
 
--- src/putting.rt:27:19
 cast-out-2 : tie.Need-cast-out-2
 cast-out-2 c = search needs
 
--- src/putting.rt:27:9
 add-out : tie.Need-add-out
 add-out c = search needs
 
--- src/putting.rt:27:5
 slice-write-out-2 : tie.Need-slice-write-out-2
-slice-write-out-2 c = ?
+slice-write-out-2 c = simp length-set (omega arith)
 
--- src/putting.rt:28:19
 cast-out-3 : tie.Need-cast-out-3
 cast-out-3 c = search needs
 
--- src/putting.rt:28:9
 add-out-2 : tie.Need-add-out-2
 add-out-2 c = search needs
 
--- src/putting.rt:28:5
 slice-write-out-3 : tie.Need-slice-write-out-3
-slice-write-out-3 c = ?
+slice-write-out-3 c = simp length-set (omega arith)
 
--- src/putting.rt:29:19
 cast-out-4 : tie.Need-cast-out-4
 cast-out-4 c = search needs
 
--- src/putting.rt:29:9
 add-out-3 : tie.Need-add-out-3
 add-out-3 c = search needs
 
--- src/putting.rt:29:5
 slice-write-out-4 : tie.Need-slice-write-out-4
-slice-write-out-4 c = ?
+slice-write-out-4 c = simp length-set (omega arith)
 
--- src/putting.rt:22:1
 same-length : tie.Need-same-length
 same-length c = search needs
 
--- src/putting.rt:22:1
 returns : tie.Need-returns
-returns c = ?
+returns c =
+    let at = c .args .at in
+    let one : at + 1 ≡ suc at = omega arith in
+    let two : at + 2 ≡ suc (suc at) = omega arith in
+    let three : at + 3 ≡ suc (suc (suc at)) = omega arith in
+    rw (one, two, three)
 
 pub put-word-spec : {M : Type 1} → statement M
 put-word-spec =

@@ -1,58 +1,59 @@
+-- `put_words` meets its contract. The loop's invariant: the bytes of the numbers passed are stored from `at` on. Assumes nothing.
+use mathlib.Core.Path.{refl, ap}
+use Prim.Native.Nat.{_-_, _≤_}
+use native.Mathlib.Omega.{arith}
+use lib.ListN.{length, take}
+use Rattle.words.specs.Words.{word-bytes}
+use Rattle.image.specs.Image.{each}
+use Rattle.writer.proofs.Stores.{Stored, stored-length, stored-none, stored-all, front-all, each-none, item-next}
 use Rattle.writer.proofs.putting.put_words.Statement.{statement}
 use Rattle.writer.proofs.putting.put_words.Tie as tie
-use Rattle.writer.proofs.putting.put_words.Reads as reads
-use Rattle.writer.proofs.putting.put_words.Lts as lts
-use Rattle.writer.proofs.putting.put_word.Reads as put-word-reads
 
 abbrev Inv-loop : tie.InvT-loop
-Inv-loop out₀ at numbers i₀ out i = ?
+Inv-loop out₀ at numbers i₀ out i = (i ≤ length numbers) × Stored out₀ at (each word-bytes (take i numbers)) out
 
 abbrev μ-loop : tie.MeasureT-loop
-μ-loop out₀ at numbers i₀ out i = ?
+μ-loop out₀ at numbers i₀ out i = length numbers - i
 
--- src/putting.rt:61:5
 loop-holds : tie.Need-loop-holds Inv-loop μ-loop
-loop-holds c = ?
+loop-holds c = (omega arith, stored-none _ (each-none word-bytes))
 
--- src/putting.rt:62:28
 mul-put-word : tie.Need-mul-put-word Inv-loop μ-loop
-mul-put-word c = ?
+mul-put-word c = omega arith
 
--- src/putting.rt:62:23
 add-put-word : tie.Need-add-put-word Inv-loop μ-loop
-add-put-word c = ?
+add-put-word c = omega arith
 
--- src/putting.rt:62:35
 mul-put-word-2 : tie.Need-mul-put-word-2 Inv-loop μ-loop
-mul-put-word-2 c = ?
+mul-put-word-2 c = omega arith
 
--- src/putting.rt:62:35
 shared-slice-read-put-word : tie.Need-shared-slice-read-put-word Inv-loop μ-loop
-shared-slice-read-put-word c = ?
+shared-slice-read-put-word c = omega arith
 
--- src/putting.rt:62:9
 put-word-requires : tie.Need-put-word-requires Inv-loop μ-loop
-put-word-requires c κs = ?
+put-word-requires c κs = omega (arith, stored-length (c .before .before .before .loop .inv .1))
 
--- src/putting.rt:63:9
 add-i : tie.Need-add-i Inv-loop μ-loop
-add-i c = ?
+add-i c = omega arith
 
--- src/putting.rt:61:5
 loop-less : tie.Need-loop-less Inv-loop μ-loop
-loop-less c = ?
+loop-less c = omega arith
 
--- src/putting.rt:61:5
 loop-again : tie.Need-loop-again Inv-loop μ-loop
-loop-again c = ?
+loop-again c =
+    let b = c .before .before in
+    let l = b .before .before .before .before .loop in
+    let numbers = b .before .before .before .before .before .before .before .args .numbers .now in
+    (omega arith, item-next word-bytes 4 (λ u. refl) numbers (l .i) 0 (omega arith) (l .inv .1) (b .put-word .ensures))
 
--- src/putting.rt:56:1
 same-length : tie.Need-same-length Inv-loop μ-loop
-same-length c = ?
+same-length c = stored-length (c .before .loop .inv .1)
 
--- src/putting.rt:56:1
 returns : tie.Need-returns Inv-loop μ-loop
-returns c = ?
+returns c =
+    let l = c .before .loop in
+    let numbers = c .before .before .before .before .args .numbers .now in
+    stored-all _ (l .inv .1) (ap (each word-bytes) (front-all numbers (l .i) (omega arith)))
 
 pub put-words-spec : {M : Type 1} → statement M
 put-words-spec =
