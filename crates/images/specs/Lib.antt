@@ -1,0 +1,2 @@
+-- What private functions ask of each other: Steps.
+pub mod Steps
