@@ -8,3 +8,4 @@ pub mod Chain
 pub mod Verdict
 pub mod Stored
 pub mod Answered
+pub mod Theorems

@@ -6,3 +6,4 @@ pub mod Parts
 pub mod Lengths
 pub mod Counts
 pub mod Answered
+pub mod Theorems
