@@ -15,7 +15,7 @@ pub struct Given {
 }
 
 // 1: a count of values outside 2 to 64.
-pub fn judge_zones(n: usize) -> u8
+pub fn judge_zone_count(n: usize) -> u8
     ensures { λ r. ⌜ r ≡ first-broken (zone-count-rule n ∷ []) ⌝ }
 {
     if n < 2 {
@@ -41,7 +41,7 @@ pub fn judge_none_or_all(n: usize, k: usize) -> u8
 }
 
 // 15: more joins than there can be.
-pub fn judge_joins(k: usize) -> u8
+pub fn judge_join_count(k: usize) -> u8
     ensures { λ r. ⌜ r ≡ first-broken (join-count-rule k ∷ []) ⌝ }
 {
     if k > 4032 {
@@ -51,7 +51,7 @@ pub fn judge_joins(k: usize) -> u8
 }
 
 // 12: more than 8 bands, or bands without places.
-pub fn judge_bands(places: usize, k: usize) -> u8
+pub fn judge_band_count(places: usize, k: usize) -> u8
     ensures { λ r. ⌜ r ≡ first-broken (band-count-rule places k ∷ []) ⌝ }
 {
     if k > 8 {
@@ -67,7 +67,7 @@ pub fn judge_bands(places: usize, k: usize) -> u8
 }
 
 // 15: more than 499 shuffles.
-pub fn judge_shuffles(k: usize) -> u8
+pub fn judge_shuffle_count(k: usize) -> u8
     ensures { λ r. ⌜ r ≡ first-broken (shuffle-count-rule k ∷ []) ⌝ }
 {
     if k > 499 {

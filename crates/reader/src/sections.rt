@@ -97,7 +97,7 @@ pub fn in_values(before: u8, image: &[u8], at: usize) -> u8
         return 14;
     }
     let k = words::two_at(image, at) as usize;
-    let count = image::judge_zones(k);
+    let count = image::judge_zone_count(k);
     if count != 0 {
         return count;
     }
@@ -142,7 +142,7 @@ pub fn in_joins(before: u8, image: &[u8], at: usize, n: usize) -> u8
         return 14;
     }
     let k = words::two_at(image, at) as usize;
-    let count = image::judge_joins(k);
+    let count = image::judge_join_count(k);
     if count != 0 {
         return count;
     }
@@ -187,7 +187,7 @@ pub fn in_bands(before: u8, image: &[u8], at: usize, places: usize) -> u8
         return 14;
     }
     let k = words::two_at(image, at) as usize;
-    let count = image::judge_bands(places, k);
+    let count = image::judge_band_count(places, k);
     if count != 0 {
         return count;
     }
@@ -211,7 +211,7 @@ pub fn in_shuffles(before: u8, image: &[u8], at: usize, n: usize) -> u8
         return 14;
     }
     let k = words::two_at(image, at) as usize;
-    let count = image::judge_shuffles(k);
+    let count = image::judge_shuffle_count(k);
     if count != 0 {
         return count;
     }

@@ -83,7 +83,7 @@ fn judge_bands(before: u8, bands: &[u32], places: usize, k: usize) -> u8
     if before != 0 {
         return before;
     }
-    let count = image::judge_bands(places, k);
+    let count = image::judge_band_count(places, k);
     if count != 0 {
         return count;
     }
@@ -103,7 +103,7 @@ fn judge_shuffles(before: u8, shuffles: &[u8], n: usize, k: usize) -> u8
     if before != 0 {
         return before;
     }
-    let count = image::judge_shuffles(k);
+    let count = image::judge_shuffle_count(k);
     if count != 0 {
         return count;
     }
@@ -172,7 +172,7 @@ pub fn judge(
         (buffers (now (values .entry)) (now (categories .entry)) (now (weights .entry))
         (now (places .entry)) (now (bands .entry)) (now (shuffles .entry))))) ⌝ }
 {
-    let zones = image::judge_zones(given.values);
+    let zones = image::judge_zone_count(given.values);
     if zones != 0 {
         return zones;
     }

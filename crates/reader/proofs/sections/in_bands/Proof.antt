@@ -20,7 +20,7 @@ abbrev b : tie.Start → List ℕ
 b a = drop (a .args .at) (a .args .image .now)
 
 -- its count, as it was judged
-module _ (c : tie.After-judge-bands) where
+module _ (c : tie.After-judge-band-count) where
   abbrev start : tie.Start
   start = c .before .before .before .before .before .before
 
@@ -30,12 +30,12 @@ module _ (c : tie.After-judge-bands) where
   counted : k ≡ count (b start)
   counted = c .before .two-at .ensures .0 ∙ count-from (start .args .image .now) (start .args .at)
 
-  judged : c .judge-bands .result ≡ first-broken (band-count-rule (start .args .places) (count (b start)) ∷ [])
-  judged = c .judge-bands .ensures ∙ ap (λ m. first-broken (band-count-rule (start .args .places) m ∷ [])) counted
+  judged : c .judge-band-count .result ≡ first-broken (band-count-rule (start .args .places) (count (b start)) ∷ [])
+  judged = c .judge-band-count .ensures ∙ ap (λ m. first-broken (band-count-rule (start .args .places) m ∷ [])) counted
 
 -- all of it is there
 module _ (c : tie.Else4) where
-  abbrev at-count : tie.After-judge-bands
+  abbrev at-count : tie.After-judge-band-count
   at-count = c .before .before .before
 
   abbrev a : tie.Start
@@ -68,8 +68,8 @@ two-at-requires c κs = tt
 cast-k : tie.Need-cast-k
 cast-k c = omega arith
 
-judge-bands-requires : tie.Need-judge-bands-requires
-judge-bands-requires c κs = tt
+judge-band-count-requires : tie.Need-judge-band-count-requires
+judge-band-count-requires c κs = tt
 
 returns-3 : tie.Need-returns-3
 unfolding in-bands
@@ -100,10 +100,10 @@ returns-4 c =
 add-judge-bands : tie.Need-add-judge-bands
 add-judge-bands c = omega (arith, whole c)
 
-judge-bands-requires-2 : tie.Need-judge-bands-requires-2
-judge-bands-requires-2 c κs =
+judge-bands-requires : tie.Need-judge-bands-requires
+judge-bands-requires c κs =
     let d = at-count c in
-    let few = neither (ltb 8 (k d)) _ (unbroken _ 11 _ (d .judge-bands .ensures) (c .before .before .if3 .left)) in
+    let few = neither (ltb 8 (k d)) _ (unbroken _ 11 _ (d .judge-band-count .ensures) (c .before .before .if3 .left)) in
     (omega (arith, whole c), ltb-false 8 (k d) (few .0))
 
 returns-5 : tie.Need-returns-5
@@ -114,7 +114,7 @@ returns-5 c =
     let a = start (d .before) in
     by-items (a .args .before) 4 _ 11 _ (b a) (e .before .before .if1 .left) _ (e .before .cut .ensures) (e .if2 .left) _
     (judged (d .before)) (d .if3 .left) _ (counted (d .before)) _ (c .before .before .cut2 .ensures) (c .before .if4 .left) _
-    (c .judge-bands2 .ensures
+    (c .judge-bands .ensures
     ∙ items-from (λ m l. first-broken (band-rules (words m l)))
     (a .args .image .now) (a .args .at) _ (counted (d .before)))
 
@@ -127,12 +127,12 @@ in-bands-spec =
     returns-2
     two-at-requires
     cast-k
-    judge-bands-requires
+    judge-band-count-requires
     returns-3
     mul-cut
     add-cut
     cut-requires-2
     returns-4
     add-judge-bands
-    judge-bands-requires-2
+    judge-bands-requires
     returns-5)

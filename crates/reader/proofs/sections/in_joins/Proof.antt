@@ -18,7 +18,7 @@ abbrev b : tie.Start → List ℕ
 b a = drop (a .args .at) (a .args .image .now)
 
 -- its count, as it was judged
-module _ (c : tie.After-judge-joins) where
+module _ (c : tie.After-judge-join-count) where
   abbrev start : tie.Start
   start = c .before .before .before .before .before .before
 
@@ -28,12 +28,12 @@ module _ (c : tie.After-judge-joins) where
   counted : k ≡ count (b start)
   counted = c .before .two-at .ensures .0 ∙ count-from (start .args .image .now) (start .args .at)
 
-  judged : c .judge-joins .result ≡ first-broken (join-count-rule (count (b start)) ∷ [])
-  judged = c .judge-joins .ensures ∙ ap (λ m. first-broken (join-count-rule m ∷ [])) counted
+  judged : c .judge-join-count .result ≡ first-broken (join-count-rule (count (b start)) ∷ [])
+  judged = c .judge-join-count .ensures ∙ ap (λ m. first-broken (join-count-rule m ∷ [])) counted
 
 -- all of it is there
 module _ (c : tie.Else4) where
-  abbrev at-count : tie.After-judge-joins
+  abbrev at-count : tie.After-judge-join-count
   at-count = c .before .before .before
 
   abbrev a : tie.Start
@@ -66,8 +66,8 @@ two-at-requires c κs = tt
 cast-k : tie.Need-cast-k
 cast-k c = omega arith
 
-judge-joins-requires : tie.Need-judge-joins-requires
-judge-joins-requires c κs = tt
+judge-join-count-requires : tie.Need-judge-join-count-requires
+judge-join-count-requires c κs = tt
 
 returns-3 : tie.Need-returns-3
 unfolding in-joins
@@ -98,8 +98,8 @@ returns-4 c =
 add-judge-joins : tie.Need-add-judge-joins
 add-judge-joins c = omega (arith, whole c)
 
-judge-joins-requires-2 : tie.Need-judge-joins-requires-2
-judge-joins-requires-2 c κs = (omega (arith, whole c), a c .pre .1 (none c))
+judge-joins-requires : tie.Need-judge-joins-requires
+judge-joins-requires c κs = (omega (arith, whole c), a c .pre .1 (none c))
 
 returns-5 : tie.Need-returns-5
 unfolding in-joins
@@ -109,7 +109,7 @@ returns-5 c =
     let a = start (d .before) in
     by-items (a .args .before) 3 _ 14 _ (b a) (e .before .before .if1 .left) _ (e .before .cut .ensures) (e .if2 .left) _
     (judged (d .before)) (d .if3 .left) _ (counted (d .before)) _ (c .before .before .cut2 .ensures) (c .before .if4 .left) _
-    (c .judge-joins2 .ensures
+    (c .judge-joins .ensures
     ∙ items-from (λ m l. first-broken (in-turn (join-rules (a .args .n) (join-in l)) m))
     (a .args .image .now) (a .args .at) _ (counted (d .before)))
 
@@ -122,12 +122,12 @@ in-joins-spec =
     returns-2
     two-at-requires
     cast-k
-    judge-joins-requires
+    judge-join-count-requires
     returns-3
     mul-cut
     add-cut
     cut-requires-2
     returns-4
     add-judge-joins
-    judge-joins-requires-2
+    judge-joins-requires
     returns-5)

@@ -19,7 +19,7 @@ abbrev b : tie.Start → List ℕ
 b a = drop (a .args .at) (a .args .image .now)
 
 -- its count, as it was judged
-module _ (c : tie.After-judge-shuffles) where
+module _ (c : tie.After-judge-shuffle-count) where
   abbrev start : tie.Start
   start = c .before .before .before .before .before .before
 
@@ -29,12 +29,12 @@ module _ (c : tie.After-judge-shuffles) where
   counted : k ≡ count (b start)
   counted = c .before .two-at .ensures .0 ∙ count-from (start .args .image .now) (start .args .at)
 
-  judged : c .judge-shuffles .result ≡ first-broken (shuffle-count-rule (count (b start)) ∷ [])
-  judged = c .judge-shuffles .ensures ∙ ap (λ m. first-broken (shuffle-count-rule m ∷ [])) counted
+  judged : c .judge-shuffle-count .result ≡ first-broken (shuffle-count-rule (count (b start)) ∷ [])
+  judged = c .judge-shuffle-count .ensures ∙ ap (λ m. first-broken (shuffle-count-rule m ∷ [])) counted
 
 -- all of it is there
 module _ (c : tie.Else4) where
-  abbrev at-count : tie.After-judge-shuffles
+  abbrev at-count : tie.After-judge-shuffle-count
   at-count = c .before .before .before
 
   abbrev a : tie.Start
@@ -73,8 +73,8 @@ two-at-requires c κs = tt
 cast-k : tie.Need-cast-k
 cast-k c = omega arith
 
-judge-shuffles-requires : tie.Need-judge-shuffles-requires
-judge-shuffles-requires c κs = tt
+judge-shuffle-count-requires : tie.Need-judge-shuffle-count-requires
+judge-shuffle-count-requires c κs = tt
 
 returns-3 : tie.Need-returns-3
 unfolding in-shuffles
@@ -105,10 +105,10 @@ returns-4 c =
 add-judge-shuffles : tie.Need-add-judge-shuffles
 add-judge-shuffles c = omega (arith, whole c)
 
-judge-shuffles-requires-2 : tie.Need-judge-shuffles-requires-2
-judge-shuffles-requires-2 c κs =
+judge-shuffles-requires : tie.Need-judge-shuffles-requires
+judge-shuffles-requires c κs =
     let d = at-count c in
-    let few = ltb-false 499 (k d) (unbroken _ 14 _ (d .judge-shuffles .ensures) (c .before .before .if3 .left)) in
+    let few = ltb-false 499 (k d) (unbroken _ 14 _ (d .judge-shuffle-count .ensures) (c .before .before .if3 .left)) in
     (a c .pre .1 .0 (none c), (a c .pre .1 .1 (none c), (few, omega (arith, whole c))))
 
 returns-5 : tie.Need-returns-5
@@ -119,7 +119,7 @@ returns-5 c =
     let a = start (d .before) in
     by-items (a .args .before) (a .args .n) _ 14 _ (b a) (e .before .before .if1 .left) _ (e .before .cut .ensures) (e .if2 .left) _
     (judged (d .before)) (d .if3 .left) _ (counted (d .before)) _ (c .before .before .cut2 .ensures) (c .before .if4 .left) _
-    (c .judge-shuffles2 .ensures
+    (c .judge-shuffles .ensures
     ∙ items-from (λ m l. first-broken (shuffle-rules (a .args .n) (bytes (m * a .args .n) l)))
     (a .args .image .now) (a .args .at) _ (counted (d .before)))
 
@@ -132,12 +132,12 @@ in-shuffles-spec =
     returns-2
     two-at-requires
     cast-k
-    judge-shuffles-requires
+    judge-shuffle-count-requires
     returns-3
     mul-cut
     add-cut
     cut-requires-2
     returns-4
     add-judge-shuffles
-    judge-shuffles-requires-2
+    judge-shuffles-requires
     returns-5)

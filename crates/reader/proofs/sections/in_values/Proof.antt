@@ -18,7 +18,7 @@ abbrev b : tie.Start → List ℕ
 b a = drop (a .args .at) (a .args .image .now)
 
 -- its count, as it was judged
-module _ (c : tie.After-judge-zones) where
+module _ (c : tie.After-judge-zone-count) where
   abbrev start : tie.Start
   start = c .before .before .before .before .before .before
 
@@ -28,12 +28,12 @@ module _ (c : tie.After-judge-zones) where
   counted : k ≡ count (b start)
   counted = c .before .two-at .ensures .0 ∙ count-from (start .args .image .now) (start .args .at)
 
-  judged : c .judge-zones .result ≡ first-broken (zone-count-rule (count (b start)) ∷ [])
-  judged = c .judge-zones .ensures ∙ ap (λ m. first-broken (zone-count-rule m ∷ [])) counted
+  judged : c .judge-zone-count .result ≡ first-broken (zone-count-rule (count (b start)) ∷ [])
+  judged = c .judge-zone-count .ensures ∙ ap (λ m. first-broken (zone-count-rule m ∷ [])) counted
 
 -- all of it is there
 module _ (c : tie.Else4) where
-  abbrev at-count : tie.After-judge-zones
+  abbrev at-count : tie.After-judge-zone-count
   at-count = c .before .before .before
 
   abbrev a : tie.Start
@@ -66,8 +66,8 @@ two-at-requires c κs = tt
 cast-k : tie.Need-cast-k
 cast-k c = omega arith
 
-judge-zones-requires : tie.Need-judge-zones-requires
-judge-zones-requires c κs = tt
+judge-zone-count-requires : tie.Need-judge-zone-count-requires
+judge-zone-count-requires c κs = tt
 
 returns-3 : tie.Need-returns-3
 unfolding in-values
@@ -101,7 +101,7 @@ add-judge-values c = omega (arith, whole c)
 judge-values-requires : tie.Need-judge-values-requires
 judge-values-requires c κs =
     let d = at-count c in
-    let few = in-range 2 64 (k d) (unbroken _ 0 _ (d .judge-zones .ensures) (c .before .before .if3 .left)) in
+    let few = in-range 2 64 (k d) (unbroken _ 0 _ (d .judge-zone-count .ensures) (c .before .before .if3 .left)) in
     (omega (arith, whole c), few .1)
 
 returns-5 : tie.Need-returns-5
@@ -125,7 +125,7 @@ in-values-spec =
     returns-2
     two-at-requires
     cast-k
-    judge-zones-requires
+    judge-zone-count-requires
     returns-3
     mul-cut
     add-cut

@@ -14,7 +14,7 @@ use Rattle.writer.specs.Steps.{job-rules}
 use Rattle.writer.proofs.judging.judge.Statement.{statement}
 use Rattle.writer.proofs.judging.judge.Tie as tie
 
-module _ (c : tie.After-judge-zones) where
+module _ (c : tie.After-judge-zone-count) where
   abbrev s : tie.Start
   s = c .before .before .before .before .before
 
@@ -38,7 +38,7 @@ module _ (c : tie.After-judge-zones) where
 
 -- 1 is judged
 past-zones : (c : tie.Else1) (rest : List Rule) → first-broken (zone-count-rule (given (c .before) .values) ∷ rest) ≡ first-broken rest
-past-zones c rest = second-decides rest (first (c .before)) (tt, tt) (sym (c .before .judge-zones .ensures) ∙ c .if1 .left)
+past-zones c rest = second-decides rest (first (c .before)) (tt, tt) (sym (c .before .judge-zone-count .ensures) ∙ c .if1 .left)
 
 -- and 2
 past-lengths : (c : tie.Else2) → let b = c .before .before .before in first-broken (second b ++ third b) ≡ first-broken (third b)
@@ -46,13 +46,13 @@ past-lengths c =
     let b = c .before .before .before in
     second-decides (third b) (second b) (tt, tt) (sym (c .before .judge-lengths .ensures) ∙ c .if2 .left)
 
-judge-zones-requires : tie.Need-judge-zones-requires
-judge-zones-requires c κs = search needs
+judge-zone-count-requires : tie.Need-judge-zone-count-requires
+judge-zone-count-requires c κs = search needs
 
 returns : tie.Need-returns
 returns c =
     let b = c .before in
-    first-here (second b ++ third b) (first b) (b .judge-zones .result) (b .judge-zones .ensures) (c .if1 .taken)
+    first-here (second b ++ third b) (first b) (b .judge-zone-count .result) (b .judge-zone-count .ensures) (c .if1 .taken)
 
 judge-lengths-requires : tie.Need-judge-lengths-requires
 judge-lengths-requires c κs = search needs
@@ -69,7 +69,7 @@ judge-job-requires c κs =
     let l = c .before in
     let b = l .before .before in
     let n = given b .values in
-    let zones = unbroken (outside 2 64 n) 0 (b .judge-zones .result) (b .judge-zones .ensures) (l .before .if1 .left) in
+    let zones = unbroken (outside 2 64 n) 0 (b .judge-zone-count .result) (b .judge-zone-count .ensures) (l .before .if1 .left) in
     let r = in-range 2 64 n zones in record {
       two = r .0;
       zones = r .1;
@@ -87,7 +87,7 @@ pub judge-spec : {M : Type 1} → statement M
 judge-spec =
     tie.close
     (tie.spec
-    judge-zones-requires
+    judge-zone-count-requires
     returns
     judge-lengths-requires
     returns-2

@@ -18,7 +18,7 @@ use Rattle.writer.proofs.Counts.{bad-count, by-items}
 use Rattle.writer.proofs.judging.judge_bands.Statement.{statement}
 use Rattle.writer.proofs.judging.judge_bands.Tie as tie
 
-module _ (c : tie.After-judge-bands) where
+module _ (c : tie.After-judge-band-count) where
   abbrev s : tie.Start
   s = c .before .before .before
 
@@ -29,30 +29,30 @@ module _ (c : tie.After-judge-bands) where
   items = band-rules (take (s .args .k) (s .args .bands .now))
 
 module _ (c : tie.Else2) where
-  abbrev b : tie.After-judge-bands
+  abbrev b : tie.After-judge-band-count
   b = c .before
 
   few : s b .args .k ≤ 8
   few =
       ltb-false 8 (s b .args .k)
-      (neither _ _ (unbroken (miscounted b) 11 (b .judge-bands .result) (b .judge-bands .ensures) (c .if2 .left)) .0)
+      (neither _ _ (unbroken (miscounted b) 11 (b .judge-band-count .result) (b .judge-band-count .ensures) (c .if2 .left)) .0)
 
   decided : (r : ℕ) → r ≡ first-broken (items b) → r ≡ then (s b .args .before) ((miscounted b, 12) ∷ items b)
   decided r e =
-      by-items (s b .args .before) (b .before .if1 .left) (miscounted b) 11 (items b) (b .judge-bands .result)
-      (b .judge-bands .ensures) (c .if2 .left) r e
+      by-items (s b .args .before) (b .before .if1 .left) (miscounted b) 11 (items b) (b .judge-band-count .result)
+      (b .judge-band-count .ensures) (c .if2 .left) r e
 
 returns : tie.Need-returns
 returns c = sym (then-kept (c .before .before .args .before) _ (c .if1 .taken))
 
-judge-bands-requires : tie.Need-judge-bands-requires
-judge-bands-requires c κs = search needs
+judge-band-count-requires : tie.Need-judge-band-count-requires
+judge-band-count-requires c κs = search needs
 
 returns-2 : tie.Need-returns-2
 returns-2 c =
     let b = c .before in
-    bad-count (s b .args .before) (b .before .if1 .left) (miscounted b) 11 (items b) (b .judge-bands .result)
-    (b .judge-bands .ensures) (c .if2 .taken)
+    bad-count (s b .args .before) (b .before .if1 .left) (miscounted b) 11 (items b) (b .judge-band-count .result)
+    (b .judge-band-count .ensures) (c .if2 .taken)
 
 slice-aggregate-any-misplaced : tie.Need-slice-aggregate-any-misplaced
 slice-aggregate-any-misplaced c =
@@ -73,7 +73,7 @@ judge-bands-spec =
     tie.close
     (tie.spec
     returns
-    judge-bands-requires
+    judge-band-count-requires
     returns-2
     slice-aggregate-any-misplaced
     any-misplaced-requires

@@ -17,7 +17,7 @@ use Rattle.writer.proofs.Counts.{bad-count, by-items}
 use Rattle.writer.proofs.judging.judge_shuffles.Statement.{statement}
 use Rattle.writer.proofs.judging.judge_shuffles.Tie as tie
 
-module _ (c : tie.After-judge-shuffles) where
+module _ (c : tie.After-judge-shuffle-count) where
   abbrev s : tie.Start
   s = c .before .before .before
 
@@ -25,13 +25,13 @@ module _ (c : tie.After-judge-shuffles) where
   entries = take (s .args .k * s .args .n) (s .args .shuffles .now)
 
 module _ (c : tie.Else2) where
-  abbrev b : tie.After-judge-shuffles
+  abbrev b : tie.After-judge-shuffle-count
   b = c .before
 
   few : s b .args .k ≤ 499
   few =
       ltb-false 499 (s b .args .k)
-      (unbroken (ltb 499 (s b .args .k)) 14 (b .judge-shuffles .result) (b .judge-shuffles .ensures) (c .if2 .left))
+      (unbroken (ltb 499 (s b .args .k)) 14 (b .judge-shuffle-count .result) (b .judge-shuffle-count .ensures) (c .if2 .left))
 
   room : s b .args .k * s b .args .n ≤ 31936
   room = N.mul-le-mul {n₂ = 499} {m₂ = 64} few (s b .pre .1 .0)
@@ -42,14 +42,14 @@ module _ (c : tie.Else2) where
 returns : tie.Need-returns
 returns c = sym (then-kept (c .before .before .args .before) _ (c .if1 .taken))
 
-judge-shuffles-requires : tie.Need-judge-shuffles-requires
-judge-shuffles-requires c κs = search needs
+judge-shuffle-count-requires : tie.Need-judge-shuffle-count-requires
+judge-shuffle-count-requires c κs = search needs
 
 returns-2 : tie.Need-returns-2
 returns-2 c =
     let b = c .before in
     bad-count (s b .args .before) (b .before .if1 .left) (ltb 499 (s b .args .k)) 14 (shuffle-rules (s b .args .n) (entries b))
-    (b .judge-shuffles .result) (b .judge-shuffles .ensures) (c .if2 .taken)
+    (b .judge-shuffle-count .result) (b .judge-shuffle-count .ensures) (c .if2 .taken)
 
 mul-entries : tie.Need-mul-entries
 mul-entries c = omega (arith, room c)
@@ -57,26 +57,26 @@ mul-entries c = omega (arith, room c)
 slice-aggregate-judge-shuffles : tie.Need-slice-aggregate-judge-shuffles
 slice-aggregate-judge-shuffles c = sym (there (c .before))
 
-judge-shuffles-requires-2 : tie.Need-judge-shuffles-requires-2
-judge-shuffles-requires-2 c κs = search needs
+judge-shuffles-requires : tie.Need-judge-shuffles-requires
+judge-shuffles-requires c κs = search needs
 
 returns-3 : tie.Need-returns-3
 returns-3 c =
     let e = c .before .before in
     let a = s (b e) .args in
     let p = s (b e) .pre in
-    by-items (a .before) (b e .before .if1 .left) (ltb 499 (a .k)) 14 (shuffle-rules (a .n) (entries (b e))) (b e .judge-shuffles .result)
-    (b e .judge-shuffles .ensures) (e .if2 .left) (c .judge-shuffles2 .result)
-    (c .judge-shuffles2 .ensures ∙ shuffles-decide (a .n) (a .k) (entries (b e)) (p .0) (p .1 .0) (few e) (there e))
+    by-items (a .before) (b e .before .if1 .left) (ltb 499 (a .k)) 14 (shuffle-rules (a .n) (entries (b e))) (b e .judge-shuffle-count .result)
+    (b e .judge-shuffle-count .ensures) (e .if2 .left) (c .judge-shuffles .result)
+    (c .judge-shuffles .ensures ∙ shuffles-decide (a .n) (a .k) (entries (b e)) (p .0) (p .1 .0) (few e) (there e))
 
 pub judge-shuffles-spec : {M : Type 1} → statement M
 judge-shuffles-spec =
     tie.close
     (tie.spec
     returns
-    judge-shuffles-requires
+    judge-shuffle-count-requires
     returns-2
     mul-entries
     slice-aggregate-judge-shuffles
-    judge-shuffles-requires-2
+    judge-shuffles-requires
     returns-3)
