@@ -1,8 +1,8 @@
 -- What an image is like that breaks no rule, section by section. Assumes nothing.
-use mathlib.Core.Path.{_≡_, refl, sym, ap, _∙_}
+use mathlib.Core.Path.{_≡_, refl, sym, _∙_}
 use mathlib.Core.Bool.{Bool, true, false, not, _&&_, _||_, false≢true}
-use mathlib.Core.List.{List, [], _∷_, _++_}
-use Prim.Native.Nat.{ℕ, suc, _+_, _*_, _≤_, _<_}
+use mathlib.Core.List.{List, _++_}
+use Prim.Native.Nat.{ℕ, _≤_}
 use native.Mathlib.Nat as N
 use native.Mathlib.Omega.{arith}
 use borrow.Author.Tests.{le-ltb, ltb-false, eqb-true}
@@ -16,7 +16,6 @@ use Rattle.account.specs.Refusals.{sum-rules}
 use Rattle.places.specs.Places.{place-rules-of, places-in-turn}
 use Rattle.image.specs.Joins.{join-rules}
 use Rattle.image.specs.Image.{
-  Job,
   count,
   items,
   values-in,
@@ -142,7 +141,9 @@ unfolding image-refusal image-rules in-values in-categories in-joins in-places i
 accepted image e =
     let n = count image in
     let v = none-of-both (after-values image) (in-values image) (values-numbered image) e in
-    let c = none-of-both (after-categories image) (in-categories n (from-categories image)) (categories-numbered n (from-categories image)) (v .1) in
+    let c =
+    none-of-both (after-categories image) (in-categories n (from-categories image)) (categories-numbered n (from-categories image)) (v .1)
+    in
     let j = none-of-both (after-joins image) (in-joins n (from-joins image)) (joins-numbered n (from-joins image)) (c .1) in
     let p = none-of-both (after-places image) (in-places n (from-places image)) (in-places-numbered n (from-places image)) (j .1) in
     let places = count (from-places image) in

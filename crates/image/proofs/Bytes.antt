@@ -1,9 +1,9 @@
 -- The same bytes from another place on. Assumes nothing.
-use mathlib.Core.Path.{_≡_, refl, sym, ap, _∙_}
+use mathlib.Core.Path.{_≡_, sym, ap, _∙_}
 use mathlib.Core.List.{List}
 use Prim.Native.Nat.{ℕ, _+_, _*_}
 use native.Mathlib.Omega.{arith}
-use lib.ListN.{length, getD, drop}
+use lib.ListN.{drop}
 use lib.Seq.{getD-drop}
 use Rattle.words.specs.Words.{byte-at, two-at, word-at}
 
@@ -14,7 +14,8 @@ byte-from b at k = getD-drop at b k 0
 pub two-from : (b : List ℕ) (at k : ℕ) → two-at (drop at b) k ≡ two-at b (at + k)
 unfolding two-at
 two-from b at k =
-    rw (byte-from b at k, byte-from b at (k + 1)) (ap (λ p. byte-at b (at + k) + 256 * byte-at b p) {x = at + (k + 1)} {y = at + k + 1} (omega arith))
+    rw (byte-from b at k, byte-from b at (k + 1))
+    (ap (λ p. byte-at b (at + k) + 256 * byte-at b p) {x = at + (k + 1)} {y = at + k + 1} (omega arith))
 
 pub word-from : (b : List ℕ) (at k : ℕ) → word-at (drop at b) k ≡ word-at b (at + k)
 unfolding word-at

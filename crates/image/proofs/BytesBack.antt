@@ -1,33 +1,29 @@
 -- An accepted image is the bytes of the job that it is, and that job can be written. Assumes nothing.
-use mathlib.Core.Path.{_≡_, refl, sym, ap, _∙_, subst}
-use mathlib.Core.Bool.{Bool, true, false, _&&_, _||_}
+use mathlib.Core.Path.{_≡_, refl, sym, ap, _∙_}
+use mathlib.Core.Bool.{Bool, true, false, _&&_}
 use mathlib.Core.List.{List, [], _∷_, _++_, append-nil}
-use Prim.Native.Nat.{ℕ, zero, suc, _+_, _*_, _/_, _%_, _≤_, _<_}
+use Prim.Native.Nat.{ℕ, _+_, _*_, _/_, _%_, _≤_, _<_}
 use native.Mathlib.Nat as N
 use native.Mathlib.Omega.{arith}
-use borrow.Author.Tests.{le-ltb, ltb-false, eqb-true}
+use borrow.Author.Tests.{le-ltb, eqb-true}
 use lib.Dec.{eqb, ltb}
-use lib.IntN.{ℤ}
-use lib.ListN.{length, getD, drop, take, length-drop}
+use lib.ListN.{length, getD, take, length-drop}
 use mir.Syntax.{w32}
 use mir.Val.{SFits}
 use Rattle.whole.specs.Rules.{first-broken, in-turn}
 use Rattle.whole.specs.Search.{any-above, any-on-diagonal}
-use Rattle.whole.specs.Table.{table, pair-at}
+use Rattle.whole.specs.Table.{pair-at}
 use Rattle.whole.proofs.InTurn.{each-turn}
-use Rattle.whole.proofs.Rules.{in-range, second-fails}
+use Rattle.whole.proofs.Rules.{second-fails}
 use Rattle.whole.proofs.Search.{some-none, none-above}
-use Rattle.whole.proofs.Table.{table-length, table-at}
+use Rattle.whole.proofs.Table.{table-length}
 use Rattle.whole.proofs.TableRows.{split}
-use Rattle.words.specs.Words.{byte-at, word-at, word-bytes}
+use Rattle.words.specs.Words.{word-at, word-bytes}
 use Rattle.image.specs.Joins.{Join, weights-of, joins-of, weight-rules}
 use Rattle.image.specs.Image.{
   Job,
   count,
   items,
-  after,
-  bytes,
-  words,
   join-in,
   values-in,
   from-categories,
@@ -49,15 +45,12 @@ use Rattle.image.specs.Image.{
   job-bytes,
 }
 use Rattle.image.specs.RoundTrip.{given-in}
-use Rattle.image.specs.declared.Given.{Given}
 use Rattle.image.proofs.Accepted.{Accepted, counted}
 use Rattle.image.proofs.Called.{Within}
-use Rattle.image.proofs.ItemKinds.{All, Bytes, drop-bytes, listed-same}
+use Rattle.image.proofs.ItemKinds.{Bytes, drop-bytes, listed-same}
 use Rattle.image.proofs.Items.{word-kind, signed-at, signed-kind, join-at, join-kind, bytes-front, section-same}
 use Rattle.image.proofs.JoinOrder.{fair-rises}
 use Rattle.image.proofs.JoinTable.{joins-back}
-use Rattle.image.proofs.Laid.{Writable}
-use Rattle.image.proofs.Limits.{all-from}
 use Rattle.image.proofs.Parts.{Parted}
 use Rattle.image.proofs.Weights.{weights-length, joins-light, joins-clear, weight-numbered}
 

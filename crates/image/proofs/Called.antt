@@ -1,27 +1,25 @@
 -- The reader and the writer as calls: what their refusal of 0 tells of buffers and counts, and what lets a job or an image in.
 -- Assumes nothing.
-use mathlib.Core.Path.{_≡_, refl, sym, ap, _∙_}
-use mathlib.Core.Bool.{Bool, true, false, cond}
+use mathlib.Core.Path.{_≡_, ap, _∙_}
+use mathlib.Core.Bool.{Bool, false, cond}
 use mathlib.Core.List.{List, [], _∷_, _++_}
-use Prim.Native.Nat.{ℕ, zero, suc, _+_, _*_, _≤_, _<_}
+use Prim.Native.Nat.{ℕ, _*_, _≤_, _<_}
 use native.Mathlib.Nat as N
 use native.Mathlib.Omega.{arith}
 use borrow.Author.Tests.{le-ltb, ltb-false}
-use lib.Dec.{eqb, ltb}
-use lib.IntN.{ℤ}
+use lib.Dec.{ltb}
 use lib.ListN.{length, getD, take, drop, length-append, length-drop}
 use lib.Seq.{length-take-le, take-at, getD-take}
 use Rattle.whole.specs.Rules.{Rule, first-broken, misfits, outside}
 use Rattle.whole.proofs.InTurn.{none-of-both, second-decides}
 use Rattle.whole.proofs.Rules.{holds, in-range, neither}
 use Rattle.account.specs.Refusals.{sum-rules}
-use Rattle.image.specs.Image.{Job, job-of, image-rules, image-refusal, job-bytes}
+use Rattle.image.specs.Image.{Job, image-refusal, job-bytes}
 use Rattle.image.specs.Reader.{Buffers, buffer-lengths, read-rules, read-refusal, over, filled}
 use Rattle.image.specs.Writer.{lent-job, part-rules, write-rules, write-refusal}
 use Rattle.image.specs.declared.Given.{Given}
 use Rattle.image.proofs.Accepted.{at-most-all}
 use Rattle.image.proofs.Buffers.{Exact, exact, exactly}
-use Rattle.image.proofs.ItemKinds.{All}
 use Rattle.image.proofs.JoinCount.{joins-few}
 use Rattle.image.proofs.Laid.{Writable}
 use Rattle.image.proofs.Limits.{all-from}
@@ -142,7 +140,8 @@ module _ (given : Given) (lent : Buffers) (room : ℕ) where
       second-decides (sums ++ last) (part-rules given job) (parts-numbered given job) (parts-let-in given job (t .parts))
       ∙ second-decides last sums (tt, (tt, tt)) (t .sums)
       ∙ rw (le-ltb room (length (job-bytes given job)) (t .room-enough)) in
-      ap (λ (b : Bool). cond {A = ℕ} b 1 (cond (misfits (buffer-lengths lent)) 2 (first-broken (part-rules given job ++ (sums ++ last))))) (t .zones)
+      ap (λ (b : Bool). cond {A = ℕ} b 1 (cond (misfits (buffer-lengths lent)) 2 (first-broken (part-rules given job ++ (sums ++ last)))))
+      (t .zones)
       ∙ ap (λ (b : Bool). cond {A = ℕ} b 2 (first-broken (part-rules given job ++ (sums ++ last)))) (exactly lent (t .buffers))
       ∙ after-parts
 

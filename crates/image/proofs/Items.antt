@@ -1,21 +1,20 @@
 -- The kinds of item that an image has, and the frame of a section. Assumes nothing.
 use mathlib.Core.Path.{_≡_, refl, sym, ap, _∙_}
 use mathlib.Core.List.{List, [], _∷_, _++_}
-use Prim.Native.Nat.{ℕ, zero, suc, _+_, _*_, _-_, _/_, _%_, _≤_, _<_, _^_}
+use Prim.Native.Nat.{ℕ, _+_, _*_, _/_, _%_, _≤_, _<_}
 use native.Mathlib.Omega.{arith}
-use lib.IntN.{ℤ, natAbs, pos, negsuc}
-use lib.ListN.{length, getD, take, drop, length-append, length-drop, take-append-drop, List·getD-append}
-use lib.Seq.{take-at, drop-at, getD-take, drop-drop, length-take-le, ext-getD}
+use lib.IntN.{ℤ}
+use lib.ListN.{length, take, drop, take-append-drop, List·getD-append}
+use lib.Seq.{drop-at, getD-take, drop-drop, length-take-le}
 use mir.Syntax.{w32}
-use mir.Val.{Fits, SFits, toZ, ofZ}
+use mir.Val.{SFits, toZ, ofZ}
 use mir.ValLaws.{toZ-ofZ, ofZ-toZ, ofZ-fits}
-use Rattle.whole.specs.Table.{table}
 use Rattle.whole.proofs.Table.{is-table}
 use Rattle.words.specs.Words.{byte-at, two-at, word-at, two-bytes, word-bytes}
 use Rattle.image.specs.Joins.{Join}
 use Rattle.image.specs.Image.{count, items, after, bytes, signed-bytes, join-bytes, section-bytes}
 use Rattle.image.proofs.Bytes.{byte-from, word-from}
-use Rattle.image.proofs.ItemKinds.{Bytes, drop-bytes, Kind}
+use Rattle.image.proofs.ItemKinds.{Bytes, Kind}
 
 -- ---- a 4-byte unsigned number
 

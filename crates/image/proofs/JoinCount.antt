@@ -1,8 +1,8 @@
 -- A table of at most 64 zones whose weights break no rule has at most 4,032 joins: no weight stands on the diagonal. Assumes nothing.
 use mathlib.Core.Path.{_≡_, refl, sym, ap, _∙_}
-use mathlib.Core.Bool.{Bool, true, false, not, cond, _&&_, false≢true}
+use mathlib.Core.Bool.{Bool, true, false, cond, _&&_, false≢true}
 use mathlib.Core.List.{List, [], _∷_}
-use Prim.Native.Nat.{ℕ, zero, suc, _+_, _*_, _-_, _/_, _%_, _≤_, _<_}
+use Prim.Native.Nat.{ℕ, zero, suc, _+_, _*_, _/_, _%_, _≤_, _<_}
 use native.Mathlib.Nat as N
 use native.Mathlib.Omega.{arith}
 use borrow.Author.Tests.{lt-ltb, eq-eqb}
@@ -94,7 +94,8 @@ rows n zero h = omega arith
 rows n (suc r) h =
     let before = rows n r (omega arith) in
     let on : on-diagonal n (r * n + r) ≡ true =
-    eq-eqb ((r * n + r) / n) ((r * n + r) % n) (digits-div r {m = n} {r = r} (omega arith) ∙ sym (digits-mod r {m = n} {r = r} (omega arith))) in
+    eq-eqb ((r * n + r) / n) ((r * n + r) % n)
+    (digits-div r {m = n} {r = r} (omega arith) ∙ sym (digits-mod r {m = n} {r = r} (omega arith))) in
     let row = one-there n (r * n) n r (omega arith) on in
     let whole : diagonals n 0 (suc r * n) ≡ diagonals n 0 (r * n) + diagonals n (0 + r * n) n =
     ap (diagonals n 0) {x = suc r * n} {y = r * n + n} (omega arith) ∙ split-at n 0 (r * n) n in

@@ -1,14 +1,14 @@
 -- The order of joins, by from and then to, is that of their places; joins that break no rule are the joins of a table. Assumes nothing.
 use mathlib.Core.Path.{_≡_, refl, sym, ap, _∙_, subst}
-use mathlib.Core.Bool.{Bool, true, false, not, _&&_, _||_, false≢true}
+use mathlib.Core.Bool.{Bool, true, false, not, _&&_, false≢true}
 use mathlib.Core.List.{List, [], _∷_}
 use Prim.Native.Nat.{ℕ, zero, suc, _+_, _*_, _/_, _%_, _≤_, _<_}
 use native.Mathlib.Nat as N
 use native.Mathlib.Omega.{arith}
-use borrow.Author.Tests.{lt-ltb, le-ltb, eq-eqb, ne-eqb, ltb-true, ltb-false, eqb-true, eqb-false}
+use borrow.Author.Tests.{lt-ltb, le-ltb, ne-eqb, ltb-true, ltb-false, eqb-true, eqb-false}
 use lib.Dec.{eqb, ltb}
 use lib.ListN.{length, getD}
-use Rattle.whole.specs.Rules.{first-broken, in-turn, outside}
+use Rattle.whole.specs.Rules.{first-broken, in-turn}
 use Rattle.whole.specs.Table.{table}
 use Rattle.whole.proofs.InTurn.{turn-each, each-turn}
 use Rattle.whole.proofs.Lists.{within}
@@ -16,7 +16,7 @@ use Rattle.whole.proofs.Rules.{holds}
 use Rattle.whole.proofs.TableRows.{split}
 use Rattle.image.specs.Joins.{Join, place, joins-from, joins-of, comes-after, not-rising, join-rules, weight-rules}
 use Rattle.image.proofs.ItemKinds.{All, none, more}
-use Rattle.image.proofs.JoinTable.{Sits, Rises, joins-rise}
+use Rattle.image.proofs.JoinTable.{Rises, joins-rise}
 use Rattle.image.proofs.Weights.{Fair, fair-each, join-numbered, weight-numbered}
 
 -- ---- two joins whose ends are zones
@@ -126,7 +126,8 @@ module _ (n : ℕ) (some : 0 < n) where
   other true b e f = e
   other false b e f = absurd (false≢true f)
 
-  first : (p w : ℕ) (weights : List ℕ) → p < n * n → Sound p (suc w ∷ weights) → Good n (record { from = p / n; to = p % n; weight = suc w })
+  first :
+      (p w : ℕ) (weights : List ℕ) → p < n * n → Sound p (suc w ∷ weights) → Good n (record { from = p / n; to = p % n; weight = suc w })
   unfolding Sound
   first p w weights h s =
       let rules = s 0 (omega arith) in
@@ -162,7 +163,8 @@ rises-at n end p join (suc zero) r i h = let z : ⊥ = omega arith in absurd z
 rises-at n end p join (suc (suc k)) (Rises.more s (Rises.more t r)) zero h = let l = t .low in omega arith
 rises-at n end p join (suc (suc k)) (Rises.more s r) (suc i) h = rises-at n end _ (λ k. join (suc k)) (suc k) r i (omega arith)
 
-module _ (n : ℕ) (weights : List ℕ) (some : 0 < n) (there : length weights ≡ n * n) (sound : first-broken (in-turn (weight-rules n weights) (n * n)) ≡ 0)
+module _ (n : ℕ) (weights : List ℕ) (some : 0 < n) (there : length weights ≡ n * n)
+    (sound : first-broken (in-turn (weight-rules n weights) (n * n)) ≡ 0)
     (join : ℕ → Join) (k : ℕ) (same : table join k ≡ joins-of n weights) where
   good : (i : ℕ) → i < k → Good n (join i)
   unfolding weight-rules Sound

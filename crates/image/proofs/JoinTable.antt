@@ -7,7 +7,6 @@ use native.Mathlib.Decide.{ℕ-discrete}
 use native.Mathlib.Omega.{arith}
 use lib.Arith.{digits-div, digits-mod}
 use lib.ListN.{length, set, replicate}
-use Rattle.whole.proofs.TableRows.{some-columns}
 use Rattle.image.specs.Joins.{Join, place, put, weights-of, joins-from, joins-of}
 
 -- ---- joins that rise
@@ -117,7 +116,8 @@ forth n end p (zero ∷ weights) some q =
 forth n end p (suc w ∷ weights) some q =
     let z : p / n * n + p % n - p ≡ 0 = omega (arith, N.div-add-mod' p n) in
     ap (λ k. put-from n p (joins-from n (p + 1) weights) (set (0 ∷ replicate (length weights) 0) k (suc w))) z
-    ∙ put-past n end p (joins-from n (p + 1) weights) (suc w) (replicate (length weights) 0) (rises n end (p + 1) weights some (omega arith))
+    ∙ put-past n end p (joins-from n (p + 1) weights) (suc w) (replicate (length weights) 0)
+    (rises n end (p + 1) weights some (omega arith))
     ∙ ap (λ l. suc w ∷ l) (forth n end (p + 1) weights some (omega arith))
 
 module _ (n : ℕ) (weights : List ℕ) (some : 0 < n) (there : length weights ≡ n * n) where

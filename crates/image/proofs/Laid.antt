@@ -1,21 +1,19 @@
 -- The bytes of a job, section by section: reading them gives the job back, and they break no rule. Assumes nothing.
-use mathlib.Core.Path.{_≡_, refl, sym, ap, _∙_, subst}
-use mathlib.Core.Bool.{Bool, true, false, _&&_, _||_}
+use mathlib.Core.Path.{_≡_, refl, sym, ap, _∙_}
+use mathlib.Core.Bool.{false, _&&_, _||_}
 use mathlib.Core.List.{List, [], _∷_, _++_, append-nil}
 use Prim.Native.Nat.{ℕ, _+_, _*_, _≤_, _<_}
 use native.Mathlib.Nat as N
 use native.Mathlib.Omega.{arith}
 use borrow.Author.Tests.{le-ltb}
 use lib.Dec.{eqb, ltb}
-use lib.IntN.{ℤ}
 use lib.ListN.{length, length-append}
 use mir.Syntax.{w32}
 use mir.Val.{SFits}
 use Rattle.whole.specs.Rules.{first-broken, in-turn, outside}
 use Rattle.whole.specs.Search.{any-beyond}
-use Rattle.whole.specs.Table.{table}
 use Rattle.whole.proofs.Rules.{holds}
-use Rattle.words.specs.Words.{word-at, two-bytes, word-bytes}
+use Rattle.words.specs.Words.{word-at, word-bytes}
 use Rattle.account.specs.Refusals.{sum-rules}
 use Rattle.places.specs.Places.{places-in-turn}
 use Rattle.image.specs.Joins.{Join, weights-of, joins-of, join-rules}
@@ -58,7 +56,6 @@ use Rattle.image.proofs.JoinOrder.{joins-sound}
 use Rattle.image.proofs.JoinTable.{table-back}
 use Rattle.image.proofs.Limits.{near-fits, places-near}
 use Rattle.image.proofs.Parts.{Parted}
-use Rattle.image.proofs.Sections.{Sound}
 
 -- ---- a section at the front of some bytes
 module _ (size k : ℕ) (body following b : List ℕ) (laid : b ≡ section-bytes k body ++ following) (sized : size * k ≡ length body) where
@@ -200,7 +197,8 @@ module _ (given : Given) (job : Job) (w : Writable given job) where
   values-count = count-is 4 n of-values after-values image values-laid values-size
 
   pub categories-count : count (from-categories image) ≡ given .categories
-  categories-count = count-is 1 (given .categories) (job .categories) after-categories (from-categories image) categories-laid categories-size
+  categories-count =
+      count-is 1 (given .categories) (job .categories) after-categories (from-categories image) categories-laid categories-size
 
   pub joins-count : count (from-joins image) ≡ length joins
   joins-count = count-is 3 (length joins) of-joins after-joins (from-joins image) joins-laid joins-size
@@ -249,7 +247,8 @@ module _ (given : Given) (job : Job) (w : Writable given job) where
 
   places-are : places-in (from-places image) ≡ job .places
   places-are =
-      listed-is signed-at 4 signed-bytes (λ x. SFits w32 x) signed-kind (2 * count (from-places image)) (items (from-places image)) (job .places)
+      listed-is signed-at 4 signed-bytes (λ x. SFits w32 x) signed-kind (2 * count (from-places image)) (items (from-places image))
+      (job .places)
       after-places
       (ap (λ m. 2 * m) places-count ∙ sym (w .places-fit))
       (items-is 8 (given .places) of-places after-places (from-places image) places-laid places-size)
@@ -292,7 +291,8 @@ module _ (given : Given) (job : Job) (w : Writable given job) where
     };
     categories = record {
       whole = whole-is 1 (given .categories) (job .categories) after-categories (from-categories image) categories-laid categories-size;
-      counted = ap (λ m. part-only m (count (from-categories image))) values-count ∙ ap (part-only n) categories-count ∙ w .parts .categories-count;
+      counted = ap (λ m. part-only m (count (from-categories image))) values-count ∙ ap (part-only n) categories-count ∙
+          w .parts .categories-count;
       listed = ap (λ l. first-broken (category-rules l)) categories-are ∙ w .parts .categories;
     };
     joins = record {

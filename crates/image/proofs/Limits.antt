@@ -1,15 +1,12 @@
 -- What the rules on values and places tell of every number of a list. Assumes nothing.
-use mathlib.Core.Path.{_≡_, refl, sym, ap, _∙_, subst}
-use mathlib.Core.Bool.{Bool, true, false, _||_}
+use mathlib.Core.Path.{_≡_, refl, sym, ap, _∙_}
+use mathlib.Core.Bool.{false}
 use mathlib.Core.List.{List, [], _∷_}
-use Prim.Native.Nat.{ℕ, zero, suc, _+_, _*_, _/_, _%_, _≤_, _<_, _^_}
+use Prim.Native.Nat.{ℕ, zero, suc, _+_, _*_, _/_, _%_, _≤_, _<_}
 use native.Mathlib.Nat as N
 use native.Mathlib.Omega.{arith}
-use borrow.Author.Tests.{le-ltb, ltb-false}
-use lib.Dec.{ltb}
 use lib.IntN.{ℤ, pos, negsuc, natAbs}
 use lib.ListN.{length, getD}
-use lib.Signed.{mag}
 use mir.Syntax.{w32}
 use mir.Val.{SFits}
 use Rattle.whole.specs.Integer.{beyond}
@@ -19,7 +16,7 @@ use Rattle.whole.specs.Table.{at}
 use Rattle.whole.proofs.InTurn.{Numbered, turn-each}
 use Rattle.whole.proofs.Rules.{holds, neither}
 use Rattle.whole.proofs.Search.{none-some, none-beyond}
-use Rattle.places.specs.Places.{across, up, at-one-place, any-at-one-place, place-rules, place-rules-of, places-in-turn}
+use Rattle.places.specs.Places.{across, up, at-one-place, any-at-one-place, place-rules-of, places-in-turn}
 use Rattle.image.proofs.ItemKinds.{All, none, more}
 
 -- ---- a law of every place of a list is one of all its items

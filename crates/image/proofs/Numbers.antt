@@ -1,13 +1,11 @@
 -- Every number that the reader and the writer can give is one of their lists. Assumes nothing.
-use mathlib.Core.Path.{_≡_, refl, sym, ap, _∙_}
-use mathlib.Core.Bool.{Bool, true, false, cond, _||_}
+use mathlib.Core.Path.{_≡_, refl}
+use mathlib.Core.Bool.{Bool, true, false}
 use mathlib.Core.List.{List, [], _∷_, _++_}
 use Prim.Native.Nat.{ℕ, zero, suc, _*_}
 use lib.Dec.{T}
 use lib.IntN.{ℤ}
-use lib.ListN.{length}
 use Rattle.whole.specs.Rules.{Rule, first-broken, in-turn}
-use Rattle.account.specs.Refusals.{sum-rules}
 use Rattle.places.specs.Places.{place-rules-of, places-in-turn}
 use Rattle.image.specs.Joins.{join-rules, weight-rules}
 use Rattle.image.specs.Image.{
@@ -29,14 +27,7 @@ use Rattle.image.specs.Image.{
   at-the-end,
   image-rules,
   Job,
-  none-or-all-rule,
-  band-count-rule,
-  shuffle-count-rule,
   value-rules,
-  category-rules,
-  band-rules,
-  shuffle-rules,
-  job-bytes,
 }
 use Rattle.image.specs.Numbers.{listed, reader-numbers, writer-numbers}
 use Rattle.image.specs.Reader.{Buffers, read-rules, read-refusal}
@@ -113,11 +104,18 @@ parts-within given job =
     both numbers (value-rules (job .values)) (parts.after-values given job) (tt, tt)
     (both numbers (parts.of-categories given job) (parts.after-categories given job) (tt, (tt, tt))
     (both numbers (parts.of-weights given job) (parts.after-weights given job) (weights-written n (job .weights) (n * n))
-    (both numbers (parts.of-places given job) (parts.after-places given job) (tt, places-written (job .places)) (tt, (tt, (tt, (tt, tt)))))))
+    (both numbers (parts.of-places given job) (parts.after-places given job) (tt, places-written (job .places))
+    (tt, (tt, (tt, (tt, tt)))))))
 
 -- every job is written or has one of the writer's numbers
 pub writing-total : (given : Given) (lent : Buffers) (room : ℕ) → listed (write-refusal given lent room) (0 ∷ writer-numbers) ≡ true
 unfolding write-refusal write-rules
 writing-total given lent room =
-    first-listed writer-numbers (write-rules given lent room)
-    (tt, (tt, both writer-numbers (part-rules given (lent-job given lent)) _ (parts-within given (lent-job given lent)) (tt, (tt, (tt, tt)))))
+    first-listed writer-numbers (write-rules given lent room) (
+      tt,
+      (
+        tt,
+        both writer-numbers (part-rules given (lent-job given lent)) _ (parts-within given (lent-job given lent))
+            (tt, (tt, (tt, tt))),
+      ),
+    )

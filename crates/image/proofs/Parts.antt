@@ -1,12 +1,10 @@
 -- The parts of a job that the writer takes, one by one. Assumes nothing.
-use mathlib.Core.Path.{_≡_, refl, sym, ap, _∙_}
-use mathlib.Core.Bool.{Bool, true, false, _&&_, _||_}
-use mathlib.Core.List.{List, [], _∷_, _++_}
-use Prim.Native.Nat.{ℕ, _+_, _*_, _≤_, _<_}
-use native.Mathlib.Omega.{arith}
+use mathlib.Core.Path.{_≡_, _∙_}
+use mathlib.Core.Bool.{Bool, false, _&&_, _||_}
+use mathlib.Core.List.{List, _∷_, _++_}
+use Prim.Native.Nat.{ℕ, _*_}
 use lib.Dec.{eqb, ltb}
-use lib.ListN.{length}
-use Rattle.whole.specs.Rules.{Rule, first-broken, in-turn, misfits}
+use Rattle.whole.specs.Rules.{Rule, first-broken, in-turn}
 use Rattle.whole.proofs.InTurn.{Numbered, none-of-both, second-decides, numbered-both, in-turn-numbered}
 use Rattle.whole.proofs.Rules.{holds}
 use Rattle.places.specs.Places.{places-in-turn}
@@ -103,7 +101,9 @@ module _ (given : Given) (job : Job) where
       }
 
   -- a count that is allowed, and then items without fault
-  counted-none : (broken : Bool) (number : ℕ) (rules : List Rule) → broken ≡ false → first-broken rules ≡ 0 → first-broken ((broken, number) ∷ rules) ≡ 0
+  counted-none :
+      (broken : Bool) (number : ℕ) (rules : List Rule) → broken ≡ false → first-broken rules ≡ 0 →
+      first-broken ((broken, number) ∷ rules) ≡ 0
   counted-none broken number rules e f = rw e f
 
   pub parts-let-in : Parted given job → first-broken (part-rules given job) ≡ 0

@@ -1,7 +1,7 @@
 -- The image of document 01's worked report, computed: these bytes are accepted, they are that job, and that job is these bytes.
 -- Assumes nothing.
 use mathlib.Core.Path.{_≡_, refl}
-use mathlib.Core.List.{List, [], _∷_, _++_}
+use mathlib.Core.List.{List, [], _∷_}
 use Prim.Native.Nat.{ℕ}
 use lib.IntN.{pos}
 use Rattle.whole.specs.Order.{lacks}

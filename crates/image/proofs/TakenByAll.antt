@@ -1,16 +1,14 @@
 -- The job of an accepted image is one that the other calls take. Assumes nothing.
-use mathlib.Core.Path.{_≡_, refl, sym, ap, _∙_, subst}
-use mathlib.Core.Bool.{Bool, true, false, not, _||_, _&&_, false≢true}
-use mathlib.Core.List.{List, [], _∷_, _++_}
-use Prim.Native.Nat.{ℕ, zero, suc, _+_, _*_, _≤_, _<_}
+use mathlib.Core.Path.{_≡_, refl, sym, ap, _∙_}
+use mathlib.Core.Bool.{true, false, _&&_, false≢true}
+use mathlib.Core.List.{List, [], _∷_}
+use Prim.Native.Nat.{ℕ, zero, suc, _*_, _≤_, _<_}
 use native.Mathlib.Omega.{arith}
-use borrow.Author.Tests.{le-ltb, lt-ltb, eq-eqb, ne-eqb, eqb-false}
+use borrow.Author.Tests.{le-ltb, lt-ltb, eq-eqb}
 use lib.Dec.{eqb, ltb}
-use lib.IntN.{ℤ}
 use lib.ListN.{length}
-use Rattle.whole.specs.Rules.{Rule, first-broken, misfits, outside}
+use Rattle.whole.specs.Rules.{Rule, first-broken, misfits}
 use Rattle.whole.specs.Search.{any-beyond, any-above, any-on-diagonal}
-use Rattle.whole.specs.Table.{table}
 use Rattle.whole.proofs.Rules.{holds, neither}
 use Rattle.account.specs.Refusals.{call-rules, job-refusal, account-rules, account-refusal}
 use Rattle.account.specs.Classes.{class-rules}
@@ -19,27 +17,11 @@ use Rattle.account.specs.Rank.{rank-refusal, rank-rules}
 use Rattle.account.proofs.Accepted.{Called, called, let-in}
 use Rattle.account.proofs.ShuffleList.{rows-counted}
 use Rattle.joins.specs.Joins.{join-refusal, join-rules}
-use Rattle.places.specs.Places.{any-at-one-place, place-rules}
+use Rattle.places.specs.Places.{place-rules}
 use Rattle.places.specs.Places as places
 use Rattle.places.specs.Gabriel.{gabriel-refusal}
 use Rattle.places.specs.Bands.{any-misplaced, bands-broken, band-refusal}
-use Rattle.image.specs.Joins.{weights-of}
-use Rattle.image.specs.Image.{
-  Job,
-  count,
-  items,
-  join-in,
-  from-categories,
-  categories-in,
-  from-joins,
-  joins-in,
-  from-places,
-  places-in,
-  from-bands,
-  bands-in,
-  from-shuffles,
-  job-of,
-}
+use Rattle.image.specs.Image.{Job, count, items, join-in, from-categories, from-joins, from-places, from-bands, from-shuffles, job-of}
 use Rattle.image.specs.RoundTrip.{given-in, TakenByAll}
 use Rattle.image.proofs.Accepted.{Accepted, Counted, counted, all-of-them}
 use Rattle.image.proofs.BytesBack.{within-counts}

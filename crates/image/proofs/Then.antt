@@ -1,13 +1,9 @@
 -- Laws of `then`: a judge that is told the number so far. Assumes nothing.
-use mathlib.Core.Path.{_≡_, refl, sym, ap, _∙_}
-use mathlib.Core.Bool.{Bool, true, false, cond}
-use mathlib.Core.List.{List, [], _∷_, _++_}
-use mathlib.Core.Logic.{inl, inr}
-use Prim.Native.Nat.{ℕ, zero, suc}
+use mathlib.Core.Path.{_≡_, sym, _∙_}
+use mathlib.Core.List.{List, _++_}
+use Prim.Native.Nat.{ℕ}
 use native.Mathlib.Decide.{ℕ-discrete}
-use native.Mathlib.Omega.{arith}
-use borrow.Author.Tests.{eq-eqb, ne-eqb}
-use lib.Dec.{eqb}
+use borrow.Author.Tests.{ne-eqb}
 use Rattle.whole.specs.Rules.{Rule, first-broken}
 use Rattle.whole.proofs.InTurn.{Numbered, second-decides, first-decides}
 use Rattle.image.specs.Steps.{then}
@@ -31,7 +27,8 @@ then-none so-far rules e = pick (ℕ-discrete so-far 0)
 
 -- rules that decide alike where they are asked
 pub then-alike :
-    (so-far : ℕ) (rules others : List Rule) → (so-far ≡ 0 → first-broken rules ≡ first-broken others) → then so-far rules ≡ then so-far others
+    (so-far : ℕ) (rules others : List Rule) → (so-far ≡ 0 → first-broken rules ≡ first-broken others) → then so-far rules ≡ then so-far
+    others
 then-alike so-far rules others h = pick (ℕ-discrete so-far 0)
   where
     pick : Dec (so-far ≡ 0) → then so-far rules ≡ then so-far others

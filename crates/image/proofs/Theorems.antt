@@ -1,7 +1,7 @@
 -- What the buyer asks for of the job image. Assumes nothing.
 use mathlib.Core.Path.{_≡_, refl, sym, ap, _∙_, subst}
 use mathlib.Core.Bool.{false}
-use mathlib.Core.List.{List, [], _∷_, _++_}
+use mathlib.Core.List.{List, [], _∷_}
 use Prim.Native.Nat.{ℕ, _+_, _*_, _≤_, _<_}
 use native.Mathlib.Nat as N
 use native.Mathlib.Omega.{arith}
@@ -12,31 +12,27 @@ use Rattle.whole.specs.Search.{any-above}
 use Rattle.whole.proofs.Rules.{in-range, first-applies, worked-when-taken, kept-when-refused}
 use Rattle.account.specs.Classes.{class-rules}
 use Rattle.account.specs.Refusals.{sum-rules}
-use Rattle.image.specs.Image.{
-  Job,
-  count,
-  after,
-  from-categories,
-  from-joins,
-  from-places,
-  from-bands,
-  from-shuffles,
-  rest,
-  job-of,
-  image-refusal,
-  job-bytes,
-}
+use Rattle.image.specs.Image.{Job, count, from-categories, from-joins, from-places, from-bands, from-shuffles, job-of, job-bytes}
 use Rattle.image.specs.Reader.{Buffers, buffer-lengths, over, filled, counts-in, read-rules, read-refusal, read-counts, read-left}
 use Rattle.image.specs.Writer.{lent-job, write-rules, write-refusal, write-length, write-left}
-use Rattle.image.specs.RoundTrip.{image-of, ReadBack, given-in, left, WrittenBack, TakenByAll}
+use Rattle.image.specs.RoundTrip.{ReadBack, given-in, left, WrittenBack, TakenByAll}
 use Rattle.image.specs.declared.Given.{Given}
 use Rattle.image.proofs.Accepted.{accepted, counted}
 use Rattle.image.proofs.BytesBack.{within-counts, image-parts, bytes-same}
 use Rattle.image.proofs.Buffers.{Exact, exact}
-use Rattle.image.proofs.Called.{read-taken, read-let-in, limited, Within, lent-filled, filled-exact, Taken, write-taken, write-let-in, job-within, job-writable}
+use Rattle.image.proofs.Called.{
+  read-taken,
+  read-let-in,
+  limited,
+  lent-filled,
+  filled-exact,
+  write-taken,
+  write-let-in,
+  job-within,
+  job-writable,
+}
 use Rattle.image.proofs.ItemKinds.{Bytes}
 use Rattle.image.proofs.Laid as laid
-use Rattle.image.proofs.Laid.{Writable}
 use Rattle.image.proofs.Parts.{Parted}
 use Rattle.image.proofs.TakenByAll.{all-take, classes-taken}
 -- stated where they are proved: every number that the two calls can give
@@ -48,7 +44,7 @@ six :
     _≡_ {A = List ℕ} (v ∷ c ∷ j ∷ p ∷ b ∷ s ∷ []) (v′ ∷ c′ ∷ j′ ∷ p′ ∷ b′ ∷ s′ ∷ [])
 six e1 e2 e3 e4 e5 e6 = cc
 
--- ---- a job that the writer takes, written and read, is the same job with the same counts. The bands are 4-byte numbers, as their type says
+-- ---- a job that the writer takes, written and read, is the same job with the same counts; the bands are 4-byte numbers, as their type is
 pub written-then-read :
     (given : Given) (lent : Buffers) (out : List ℕ) (others : Buffers) → ((k : ℕ) → getD (lent .bands) k 0 < 4294967296) →
     write-refusal given lent (length out) ≡ 0 → misfits (buffer-lengths others) ≡ false → ReadBack given lent out others
@@ -58,7 +54,8 @@ written-then-read given lent out others words e x =
     let job = lent-job given lent in
     let image = job-bytes given job in
     let w = job-writable given lent (length out) words t in
-    let fit = job-within given lent (length out) (limited given job (in-range 2 64 (given .values) (t .zones) .1) (t .parts)) (t .buffers) in
+    let fit =
+    job-within given lent (length out) (limited given job (in-range 2 64 (given .values) (t .zones) .1) (t .parts)) (t .buffers) in
     let taken = read-let-in image others (exact others x) (laid.image-taken given job w) in
     let filling = worked-when-taken (write-refusal given lent (length out)) (over image out) out e in record {
       written = ap (take (length image)) filling ∙ take-at image (drop (length image) out) (length image) refl;
@@ -132,7 +129,8 @@ pub taken-with-classes :
 taken-with-classes image lent e = classes-taken image (accepted image (read-taken image lent e .1))
 
 -- ---- a refusal's number is that of a broken rule, no earlier rule being broken, and a refusal leaves everything as it was
-pub read-refusal-applies : (image : List ℕ) (lent : Buffers) → (read-refusal image lent ≡ 0 → ⊥) → Applies (read-refusal image lent) (read-rules image lent)
+pub read-refusal-applies :
+    (image : List ℕ) (lent : Buffers) → (read-refusal image lent ≡ 0 → ⊥) → Applies (read-refusal image lent) (read-rules image lent)
 unfolding read-refusal
 read-refusal-applies image lent f = first-applies (read-rules image lent) f
 
@@ -146,9 +144,11 @@ pub read-leaves : (image : List ℕ) (lent : Buffers) → (read-refusal image le
 unfolding read-left
 read-leaves image lent f = kept-when-refused (read-refusal image lent) (filled (job-of image) lent) lent f
 
-pub write-leaves : (given : Given) (lent : Buffers) (out : List ℕ) → (write-refusal given lent (length out) ≡ 0 → ⊥) → write-left given lent out ≡ out
+pub write-leaves :
+    (given : Given) (lent : Buffers) (out : List ℕ) → (write-refusal given lent (length out) ≡ 0 → ⊥) → write-left given lent out ≡ out
 unfolding write-left
-write-leaves given lent out f = kept-when-refused (write-refusal given lent (length out)) (over (job-bytes given (lent-job given lent)) out) out f
+write-leaves given lent out f =
+    kept-when-refused (write-refusal given lent (length out)) (over (job-bytes given (lent-job given lent)) out) out f
 
 -- ---- what a read leaves in each buffer
 pub read-stores : (image : List ℕ) (lent : Buffers) → read-refusal image lent ≡ 0 → read-left image lent ≡ filled (job-of image) lent

@@ -1,25 +1,25 @@
 -- What is known of joins and of weights that break no rule, and what decides where 1 to 5 hold. Assumes nothing.
 use mathlib.Core.Path.{_≡_, refl, sym, ap, _∙_, subst}
-use mathlib.Core.Bool.{Bool, true, false, not, _&&_, _||_, false≢true}
-use mathlib.Core.List.{List, [], _∷_, _++_}
+use mathlib.Core.Bool.{Bool, true, false, not, _&&_, false≢true}
+use mathlib.Core.List.{List, [], _∷_}
 use Prim.Native.Nat.{ℕ, zero, suc, _+_, _*_, _/_, _%_, _≤_, _<_}
 use native.Mathlib.Decide.{ℕ-discrete}
 use native.Mathlib.Omega.{arith}
-use borrow.Author.Tests.{lt-ltb, le-ltb, eq-eqb, ne-eqb, ltb-true, ltb-false, eqb-false, not-false}
+use borrow.Author.Tests.{le-ltb, eq-eqb, ltb-true, ltb-false, eqb-false}
 use lib.Dec.{eqb, ltb}
 use lib.Arith.{digits-div, digits-mod}
 use lib.IntN.{ℤ}
-use lib.ListN.{length, getD, set, replicate, length-set, length-replicate, List·getD-eq-default, getD-replicate}
+use lib.ListN.{length, getD, set, replicate, length-set, length-replicate}
 use lib.Seq.{getD-set-same, getD-set-other, set-out}
-use Rattle.whole.specs.Rules.{first-broken, in-turn, outside, size-rules}
+use Rattle.whole.specs.Rules.{first-broken, in-turn, outside}
 use Rattle.whole.specs.Search.{any-beyond, any-above, any-on-diagonal}
 use Rattle.whole.specs.Table.{table, pair-at}
 use Rattle.whole.proofs.InTurn.{Numbered, turn-each}
 use Rattle.whole.proofs.Lists.{within}
-use Rattle.whole.proofs.Rules.{holds, in-range, both-hold, first-next, sizes-let-in}
+use Rattle.whole.proofs.Rules.{holds, in-range}
 use Rattle.whole.proofs.Search.{none-some, all-within}
-use Rattle.account.specs.Refusals.{job-rules, sum-rules, job-lengths, call-rules, job-refusal}
-use Rattle.account.specs.Rank.{any-lacking, shuffle-refusal}
+use Rattle.account.specs.Refusals.{job-rules, sum-rules, call-rules, job-refusal}
+use Rattle.account.specs.Rank.{shuffle-refusal}
 use Rattle.account.specs.Rank as rank
 use Rattle.account.proofs.ShuffleList.{rows-counted}
 use Rattle.image.specs.Joins.{Join, place, put, weights-of, not-rising, join-rules, weight-rules}
@@ -82,7 +82,8 @@ pub weights-length : (n : ℕ) (joins : List Join) → length (weights-of n join
 weights-length n joins = put-length n joins (replicate (n * n) 0) ∙ length-replicate (n * n) 0
 
 -- what holds of every entry after a store
-stored-each : (P : ℕ → Type 0) (weights : List ℕ) (q w : ℕ) → P w → ((p : ℕ) → P (getD weights p 0)) → (p : ℕ) → P (getD (set weights q w) p 0)
+stored-each :
+    (P : ℕ → Type 0) (weights : List ℕ) (q w : ℕ) → P w → ((p : ℕ) → P (getD weights p 0)) → (p : ℕ) → P (getD (set weights q w) p 0)
 stored-each P weights q w e h p = pick (ℕ-discrete p q) (ltb q (length weights)) refl
   where
     pick : Dec (p ≡ q) → (b : Bool) → ltb q (length weights) ≡ b → P (getD (set weights q w) p 0)
@@ -118,7 +119,8 @@ module _ (n : ℕ) (join : ℕ → Join) (k : ℕ) (sound : first-broken (in-tur
   pub joins-light : any-above 9 (weights-of n (table join k)) ≡ false
   joins-light =
       all-within 9 (weights-of n (table join k))
-      (λ p q. put-light n join k (replicate (n * n) 0) (λ i h. fair-each n join k sound i h .light) (λ t. omega (arith, none-yet (n * n) t)) p)
+      (λ p q. put-light n join k (replicate (n * n) 0) (λ i h. fair-each n join k sound i h .light)
+      (λ t. omega (arith, none-yet (n * n) t)) p)
 
   -- a place on the diagonal has no join
   off-diagonal : (i j : ℕ) → i < k → j < n → place n (join i) ≡ j * n + j → ⊥
@@ -142,7 +144,8 @@ pub weight-numbered : (n : ℕ) (weights : List ℕ) (p : ℕ) → Numbered (wei
 unfolding weight-rules
 weight-numbered n weights p = (tt, (tt, tt))
 
-module _ (n : ℕ) (weights : List ℕ) (there : length weights ≡ n * n) (sound : first-broken (in-turn (weight-rules n weights) (n * n)) ≡ 0) where
+module _ (n : ℕ) (weights : List ℕ) (there : length weights ≡ n * n)
+    (sound : first-broken (in-turn (weight-rules n weights) (n * n)) ≡ 0) where
   each : (p : ℕ) → p < n * n → first-broken (weight-rules n weights p) ≡ 0
   each p h = turn-each (weight-rules n weights) (weight-numbered n weights) (n * n) p h sound
 
@@ -160,7 +163,8 @@ module _ (n : ℕ) (weights : List ℕ) (there : length weights ≡ n * n) (soun
   weights-clear =
       none-some (λ j. ltb 0 (getD weights (j * n + j) 0)) n
       (λ j l.
-      let first = holds (ltb 0 (getD weights (j * n + j) 0) && eqb ((j * n + j) / n) ((j * n + j) % n)) 4 _ (each (j * n + j) (within n j j l l)) in
+      let first =
+      holds (ltb 0 (getD weights (j * n + j) 0) && eqb ((j * n + j) / n) ((j * n + j) % n)) 4 _ (each (j * n + j) (within n j j l l)) in
       first-fails _ _ (first .0) (eq-eqb _ _ (digits-div j l ∙ sym (digits-mod j l))))
     where
       first-fails : (a b : Bool) → (a && b) ≡ false → b ≡ true → a ≡ false

@@ -12,7 +12,7 @@ use Rattle.joins.specs.Joins.{join-refusal}
 use Rattle.places.specs.Gabriel.{gabriel-refusal}
 use Rattle.places.specs.Bands.{band-refusal}
 use Rattle.image.specs.Joins.{joins-of}
-use Rattle.image.specs.Image.{Job, count, from-categories, from-joins, from-places, from-bands, from-shuffles, job-of, job-bytes}
+use Rattle.image.specs.Image.{count, from-categories, from-places, from-bands, from-shuffles, job-of, job-bytes}
 use Rattle.image.specs.Reader.{Buffers, over, read-refusal, read-counts, read-left}
 use Rattle.image.specs.Writer.{lent-job, write-refusal, write-length, write-left}
 use Rattle.image.specs.declared.Given.{Given}
@@ -69,11 +69,15 @@ module _ (image : List ℕ) (lent : Buffers) (out : List ℕ) where
 -- ---- the job of an accepted image, in the other calls
 
 pub record TakenByAll (image : List ℕ) : Type 0 where
-  pub account : (locals : List ℤ) → length locals ≡ count image → account-refusal (count image) (job-of image .values) (job-of image .weights) locals ≡ 0
-  pub hot-list : (zones : List ℕ) → length zones ≡ count image → account-refusal (count image) (job-of image .values) (job-of image .weights) zones ≡ 0
+  pub account :
+      (locals : List ℤ) → length locals ≡ count image →
+      account-refusal (count image) (job-of image .values) (job-of image .weights) locals ≡ 0
+  pub hot-list :
+      (zones : List ℕ) → length zones ≡ count image → account-refusal (count image) (job-of image .values) (job-of image .weights) zones ≡ 0
   pub rank : rank-refusal (count image) (job-of image .values) (job-of image .weights) (job-of image .shuffles) ≡ 0
   -- where it has categories
-  pub join-table : (count (from-categories image) ≡ 0 → ⊥) → join-refusal (count image) (job-of image .categories) (job-of image .weights) 64 ≡ 0
+  pub join-table :
+      (count (from-categories image) ≡ 0 → ⊥) → join-refusal (count image) (job-of image .categories) (job-of image .weights) 64 ≡ 0
   -- where it has places
   pub gabriel : (count (from-places image) ≡ 0 → ⊥) → gabriel-refusal (count image) (job-of image .places) (count image * count image) ≡ 0
   -- where it has bands

@@ -7,7 +7,18 @@ use Rattle.whole.specs.Rules.{Rule, first-broken, in-turn, misfits, unless-refu
 use Rattle.account.specs.Refusals.{sum-rules}
 use Rattle.places.specs.Places.{places-in-turn}
 use Rattle.image.specs.Joins.{weight-rules}
-use Rattle.image.specs.Image.{Job, zone-count-rule, none-or-all-rule, band-count-rule, shuffle-count-rule, value-rules, category-rules, band-rules, shuffle-rules, job-bytes}
+use Rattle.image.specs.Image.{
+  Job,
+  zone-count-rule,
+  none-or-all-rule,
+  band-count-rule,
+  shuffle-count-rule,
+  value-rules,
+  category-rules,
+  band-rules,
+  shuffle-rules,
+  job-bytes,
+}
 use Rattle.image.specs.Reader.{Buffers, buffer-lengths, over}
 use Rattle.image.specs.declared.Given.{Given}
 

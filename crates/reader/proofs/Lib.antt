@@ -1,5 +1,6 @@
 -- Laws that the reader's proofs share, each file named by its subject.
 pub mod Parts
+pub mod Frame
 pub mod JoinOrder
 pub mod JoinsPut
 pub mod Over

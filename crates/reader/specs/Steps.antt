@@ -1,19 +1,35 @@
 -- What the private functions of the reader promise each other. Assumes nothing.
 use mathlib.Core.Path.{_≡_}
-use mathlib.Core.Bool.{false, not, _&&_}
+use mathlib.Core.Bool.{false, not, cond, _&&_}
 use mathlib.Core.List.{List, [], _∷_}
 use Prim.Native.Nat.{ℕ, _+_, _*_, _≤_}
 use lib.Dec.{eqb, ltb}
 use lib.ListN.{length, drop}
-use Rattle.whole.specs.Rules.{Rule, first-broken, in-turn, outside, misfits}
+use Rattle.whole.specs.Rules.{Rule, first-broken, in-turn, outside, misfits, unless-refused}
 use Rattle.whole.specs.Search.{any-beyond}
 use Rattle.whole.specs.Table.{table}
 use Rattle.account.specs.Refusals.{sum-rules}
 use Rattle.image.specs.Joins.{weights-of, join-rules}
-use Rattle.image.specs.Image.{count, signed-words, join-in, from-categories, from-joins, from-places, from-bands, from-shuffles, image-refusal}
+use Rattle.image.specs.Image.{
+  count,
+  signed-words,
+  join-in,
+  from-categories,
+  from-joins,
+  from-places,
+  from-bands,
+  from-shuffles,
+  image-refusal,
+}
 use Rattle.image.specs.Reader.{Buffers, buffer-lengths}
 use Rattle.reader.specs.declared.judging.Section.{Section}
 use Rattle.reader.specs.declared.judging.Layout.{Layout}
+
+-- ---- a section
+
+-- what is judged of one before its k items, which have a size: 14 if its count is cut, the count's own number, 14 if the section is cut
+abbrev pub frame : List ℕ → ℕ → ℕ → ℕ → ℕ
+frame b counted size k = cond (ltb (length b) 2) 14 (unless-refused counted (cond (ltb (length b) (2 + size * k)) 14 0) counted)
 
 -- ---- joins
 

@@ -121,7 +121,8 @@ pub fn judge(image: &[u8]) -> Layout
 
 // The six counts.
 pub fn counts(layout: Layout) -> Counts
-    ensures { λ r. ⌜ six r ≡ layout .values ∷ layout .categories ∷ layout .joins ∷ layout .places ∷ layout .bands ∷ layout .shuffles ∷ [] ⌝ }
+    ensures { λ r. ⌜ six r
+        ≡ layout .values ∷ layout .categories ∷ layout .joins ∷ layout .places ∷ layout .bands ∷ layout .shuffles ∷ [] ⌝ }
 {
     Counts {
         values: layout.values,

@@ -1,14 +1,16 @@
 // The judges of the six sections. Each is told the number so far and answers it, or where it is 0 the first number of the section that
-// begins at a place: 14 if its count is cut, its count's own, 14 if the section is cut, then that of its items.
+// begins at a place: that of its frame, which all sections have in common, then that of its items.
 use crate::joining;
 ghost use mathlib.Core.Path.{_≡_};
-ghost use Prim.Native.Nat.{_+_, _*_, _≤_};
+ghost use Prim.Native.Nat.{_+_, _*_, _≤_, _<_};
 ghost use lib.Dec.{ltb};
 ghost use lib.ListN.{length, drop};
-ghost use Rattle.whole.specs.Rules.{first-broken};
+ghost use Rattle.whole.specs.Rules.{first-broken, unless-refused};
 ghost use Rattle.places.specs.Places.{places-in-turn};
-ghost use Rattle.image.specs.Image.{signed-words, words, bytes, value-rules, category-rules, band-rules, shuffle-rules, in-values, in-categories, in-joins, in-places, in-bands, in-shuffles};
+ghost use Rattle.image.specs.Image.{signed-words, words, bytes, value-rules, category-rules, band-rules, shuffle-rules};
+ghost use Rattle.image.specs.Image.{in-values, in-categories, in-joins, in-places, in-bands, in-shuffles};
 ghost use Rattle.image.specs.Steps.{then};
+ghost use Rattle.reader.specs.Steps.{frame};
 
 // Whether fewer than so many bytes are left.
 fn cut(image: &[u8], at: usize, size: usize) -> bool
@@ -85,10 +87,13 @@ fn judge_shuffles(image: &[u8], at: usize, k: usize, n: usize) -> u8
     account::judge_shuffles(n, &image[at..end])
 }
 
-// The values, whose section is the first.
-pub fn in_values(before: u8, image: &[u8], at: usize) -> u8
+// What is judged of a section before its k items, which have a size: the number so far, or 14 if the count is cut, the count's own number,
+// 14 if the section is cut.
+fn judge_frame(before: u8, image: &[u8], at: usize, counted: u8, size: usize, k: usize) -> u8
     requires { ⌜ (before ≡ 0 → at ≤ length (now image)) ⌝ }
-    ensures { λ r. ⌜ r ≡ then before (in-values (drop at (now (image .entry)))) ⌝ }
+    requires { ⌜ (before ≡ 0 → size ≤ 64) ⌝ }
+    requires { ⌜ k < 65536 ⌝ }
+    ensures { λ r. ⌜ r ≡ unless-refused before (frame (drop at (now (image .entry))) counted size k) before ⌝ }
 {
     if before != 0 {
         return before;
@@ -96,13 +101,25 @@ pub fn in_values(before: u8, image: &[u8], at: usize) -> u8
     if cut(image, at, 2) {
         return 14;
     }
-    let k = words::two_at(image, at) as usize;
-    let count = image::judge_zone_count(k);
-    if count != 0 {
-        return count;
+    if counted != 0 {
+        return counted;
     }
-    if cut(image, at, 2 + 4 * k) {
+    if cut(image, at, 2 + size * k) {
         return 14;
+    }
+    0
+}
+
+// The values, whose section is the first.
+pub fn in_values(before: u8, image: &[u8], at: usize) -> u8
+    requires { ⌜ (before ≡ 0 → at ≤ length (now image)) ⌝ }
+    ensures { λ r. ⌜ r ≡ then before (in-values (drop at (now (image .entry)))) ⌝ }
+{
+    let k = words::two_at(image, at) as usize;
+    let counted = image::judge_zone_count(k);
+    let number = judge_frame(before, image, at, counted, 4, k);
+    if number != 0 {
+        return number;
     }
     judge_values(image, at + 2, k)
 }
@@ -112,19 +129,11 @@ pub fn in_categories(before: u8, image: &[u8], at: usize, n: usize) -> u8
     requires { ⌜ (before ≡ 0 → at ≤ length (now image)) ⌝ }
     ensures { λ r. ⌜ r ≡ then before (in-categories n (drop at (now (image .entry)))) ⌝ }
 {
-    if before != 0 {
-        return before;
-    }
-    if cut(image, at, 2) {
-        return 14;
-    }
     let k = words::two_at(image, at) as usize;
-    let count = image::judge_none_or_all(n, k);
-    if count != 0 {
-        return count;
-    }
-    if cut(image, at, 2 + 1 * k) {
-        return 14;
+    let counted = image::judge_none_or_all(n, k);
+    let number = judge_frame(before, image, at, counted, 1, k);
+    if number != 0 {
+        return number;
     }
     judge_categories(image, at + 2, k)
 }
@@ -135,19 +144,11 @@ pub fn in_joins(before: u8, image: &[u8], at: usize, n: usize) -> u8
     requires { ⌜ (before ≡ 0 → n ≤ 64) ⌝ }
     ensures { λ r. ⌜ r ≡ then before (in-joins n (drop at (now (image .entry)))) ⌝ }
 {
-    if before != 0 {
-        return before;
-    }
-    if cut(image, at, 2) {
-        return 14;
-    }
     let k = words::two_at(image, at) as usize;
-    let count = image::judge_join_count(k);
-    if count != 0 {
-        return count;
-    }
-    if cut(image, at, 2 + 3 * k) {
-        return 14;
+    let counted = image::judge_join_count(k);
+    let number = judge_frame(before, image, at, counted, 3, k);
+    if number != 0 {
+        return number;
     }
     joining::judge_joins(image, at + 2, k, n)
 }
@@ -158,19 +159,11 @@ pub fn in_places(before: u8, image: &[u8], at: usize, n: usize) -> u8
     requires { ⌜ (before ≡ 0 → n ≤ 64) ⌝ }
     ensures { λ r. ⌜ r ≡ then before (in-places n (drop at (now (image .entry)))) ⌝ }
 {
-    if before != 0 {
-        return before;
-    }
-    if cut(image, at, 2) {
-        return 14;
-    }
     let k = words::two_at(image, at) as usize;
-    let count = image::judge_none_or_all(n, k);
-    if count != 0 {
-        return count;
-    }
-    if cut(image, at, 2 + 8 * k) {
-        return 14;
+    let counted = image::judge_none_or_all(n, k);
+    let number = judge_frame(before, image, at, counted, 8, k);
+    if number != 0 {
+        return number;
     }
     judge_places(image, at + 2, k)
 }
@@ -180,19 +173,11 @@ pub fn in_bands(before: u8, image: &[u8], at: usize, places: usize) -> u8
     requires { ⌜ (before ≡ 0 → at ≤ length (now image)) ⌝ }
     ensures { λ r. ⌜ r ≡ then before (in-bands places (drop at (now (image .entry)))) ⌝ }
 {
-    if before != 0 {
-        return before;
-    }
-    if cut(image, at, 2) {
-        return 14;
-    }
     let k = words::two_at(image, at) as usize;
-    let count = image::judge_band_count(places, k);
-    if count != 0 {
-        return count;
-    }
-    if cut(image, at, 2 + 4 * k) {
-        return 14;
+    let counted = image::judge_band_count(places, k);
+    let number = judge_frame(before, image, at, counted, 4, k);
+    if number != 0 {
+        return number;
     }
     judge_bands(image, at + 2, k)
 }
@@ -204,19 +189,11 @@ pub fn in_shuffles(before: u8, image: &[u8], at: usize, n: usize) -> u8
     requires { ⌜ (before ≡ 0 → n ≤ 64) ⌝ }
     ensures { λ r. ⌜ r ≡ then before (in-shuffles n (drop at (now (image .entry)))) ⌝ }
 {
-    if before != 0 {
-        return before;
-    }
-    if cut(image, at, 2) {
-        return 14;
-    }
     let k = words::two_at(image, at) as usize;
-    let count = image::judge_shuffle_count(k);
-    if count != 0 {
-        return count;
-    }
-    if cut(image, at, 2 + n * k) {
-        return 14;
+    let counted = image::judge_shuffle_count(k);
+    let number = judge_frame(before, image, at, counted, n, k);
+    if number != 0 {
+        return number;
     }
     judge_shuffles(image, at + 2, k, n)
 }

@@ -1,13 +1,13 @@
 -- Laws of rules whose numbers are above 0, one list after another, and of the rules of items in turn, as a judging loop uses them.
 -- Assumes nothing.
-use mathlib.Core.Path.{_≡_, refl, sym, ap, _∙_, subst}
-use mathlib.Core.Bool.{Bool, true, false, cond}
+use mathlib.Core.Path.{_≡_, refl, sym, ap, _∙_}
+use mathlib.Core.Bool.{true, false}
 use mathlib.Core.List.{List, [], _∷_, _++_}
-use Prim.Native.Nat.{ℕ, zero, suc, _+_, _≤_, _<_}
+use Prim.Native.Nat.{ℕ, zero, suc, _+_, _<_}
 use native.Mathlib.Decide.{ℕ-discrete}
 use native.Mathlib.Numerals.{add-one}
 use native.Mathlib.Omega.{arith}
-use lib.Dec.{T, ltb, ltb→lt, eqb}
+use lib.Dec.{T, ltb, ltb→lt}
 use Rattle.whole.specs.Rules.{Rule, first-broken, in-turn}
 
 -- ---- every number is above 0, so that 0 is the number of no broken rule
@@ -29,7 +29,8 @@ module _ (rest : List Rule) where
   first-decides ((false, m) ∷ rules) f = first-decides rules f
 
   -- where none of both is broken, none of either is
-  pub none-of-both : (rules : List Rule) → Numbered rules → first-broken (rules ++ rest) ≡ 0 → (first-broken rules ≡ 0) × (first-broken rest ≡ 0)
+  pub none-of-both :
+      (rules : List Rule) → Numbered rules → first-broken (rules ++ rest) ≡ 0 → (first-broken rules ≡ 0) × (first-broken rest ≡ 0)
   none-of-both [] g e = (refl, e)
   none-of-both ((true, m) ∷ rules) g e = let h = ltb→lt 0 m (g .0) in let z : ⊥ = omega arith in absurd z
   none-of-both ((false, m) ∷ rules) g e = none-of-both rules (g .1) e
@@ -66,7 +67,8 @@ module _ (rules : ℕ → List Rule) (numbered : (k : ℕ) → Numbered (rules k
 
   -- a loop that has found an item that breaks one
   pub turn-found :
-      (n k r : ℕ) → k < n → first-broken (in-turn rules k) ≡ 0 → r ≡ first-broken (rules k) → (r ≡ 0 → ⊥) → r ≡ first-broken (in-turn rules n)
+      (n k r : ℕ) → k < n → first-broken (in-turn rules k) ≡ 0 → r ≡ first-broken (rules k) → (r ≡ 0 → ⊥) →
+      r ≡ first-broken (in-turn rules n)
   turn-found zero k r h e f g = let z : ⊥ = omega arith in absurd z
   turn-found (suc n) k r h e f g = pick (ℕ-discrete k n) (λ (q : k < n). turn-found n k r q e f g)
     where

@@ -2,7 +2,7 @@
 -- lengths that they say. Assumes nothing.
 use mathlib.Core.Path.{_≡_, sym, ap, _∙_}
 use mathlib.Core.List.{List, _++_, append-assoc}
-use Prim.Native.Nat.{ℕ, _*_, _≤_}
+use Prim.Native.Nat.{ℕ, _*_}
 use native.Mathlib.Omega.{arith}
 use borrow.Author.Tests.{ltb-false}
 use lib.ListN.{length, take}
@@ -45,7 +45,8 @@ module _ (given : Given) (job : Job) where
   next rules rest r s numbered e f = f ∙ ap (λ k. then k rest) e ∙ then-after rules rest numbered
 
   pub parts-judged :
-      (v c w p b s : ℕ) → v ≡ first-broken of-values → c ≡ then v (parts.of-categories given job) → w ≡ then c (parts.of-weights given job) → p ≡ then w (parts.of-places given job) →
+      (v c w p b s : ℕ) → v ≡ first-broken of-values → c ≡ then v (parts.of-categories given job) → w ≡ then c (parts.of-weights given job)
+      → p ≡ then w (parts.of-places given job) →
       b ≡ then p (parts.of-bands given job) → s ≡ then b (parts.of-shuffles given job) → s ≡ first-broken (part-rules given job)
   unfolding part-rules
   parts-judged v c w p b s v-is c-is w-is p-is b-is s-is =

@@ -3,13 +3,13 @@ use mathlib.Core.Path.{_≡_}
 use mathlib.Core.Bool.{false}
 use mathlib.Core.List.{List, [], _∷_, _++_}
 use Prim.Native.Nat.{ℕ, zero, suc, _+_, _*_, _≤_}
-use lib.ListN.{length, take}
+use lib.ListN.{length}
 use lib.IntN.{ℤ}
 use Rattle.whole.specs.Rules.{Rule, first-broken, misfits}
 use Rattle.whole.specs.Search.{any-beyond, any-above, any-on-diagonal}
 use Rattle.account.specs.Refusals.{sum-rules}
 use Rattle.image.specs.Joins.{joins-of}
-use Rattle.image.specs.Image.{Job, each, join-bytes, job-bytes}
+use Rattle.image.specs.Image.{Job, job-bytes}
 use Rattle.image.specs.Reader.{Buffers, buffer-lengths}
 use Rattle.image.specs.Writer.{lent-job, part-rules}
 use Rattle.image.specs.declared.Given.{Given}

@@ -48,7 +48,8 @@ fn put_joins_section(out: &mut [u8], at: usize, k: usize, weights: &[u8], n: usi
     requires { ⌜ Tabled (now weights) n ⌝ }
     requires { ⌜ k ≡ length (joins-of n (now weights)) ⌝ }
     requires { ⌜ at + (2 + 3 * k) ≤ length (now out) ⌝ }
-    ensures { λ _. ⌜ now (out .exit) ≡ sets (now (out .entry)) at (section-bytes k (each join-bytes (joins-of n (now (weights .entry))))) ⌝ }
+    ensures { λ _. ⌜ now (out .exit)
+        ≡ sets (now (out .entry)) at (section-bytes k (each join-bytes (joins-of n (now (weights .entry))))) ⌝ }
 {
     putting::put_count(out, at, k);
     joining::put_joins(out, at + 2, weights, n);

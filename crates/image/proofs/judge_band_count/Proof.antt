@@ -11,10 +11,17 @@ returns-2 : tie.Need-returns-2
 returns-2 c = simp (le-ltb _ _ (c .before .if1 .left), le-ltb 0 (c .before .before .args .k) (omega arith))
 
 returns-3 : tie.Need-returns-3
-returns-3 c = simp (le-ltb _ _ (c .before .before .if1 .left), lt-ltb 0 (c .before .before .before .args .k) (omega arith), eq-eqb _ _ (c .if3 .taken))
+returns-3 c =
+    simp (
+      le-ltb _ _ (c .before .before .if1 .left),
+      lt-ltb 0 (c .before .before .before .args .k) (omega arith),
+      eq-eqb _ _
+          (c .if3 .taken),
+    )
 
 returns-4 : tie.Need-returns-4
-returns-4 c = simp (le-ltb _ _ (c .before .before .if1 .left), lt-ltb 0 (c .before .before .before .args .k) (omega arith), ne-eqb _ _ (c .if3 .left))
+returns-4 c =
+    simp (le-ltb _ _ (c .before .before .if1 .left), lt-ltb 0 (c .before .before .before .args .k) (omega arith), ne-eqb _ _ (c .if3 .left))
 
 pub judge-band-count-spec : {M : Type 1} → statement M
 judge-band-count-spec = tie.close (tie.spec returns returns-2 returns-3 returns-4)

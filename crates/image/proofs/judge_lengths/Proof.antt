@@ -13,16 +13,48 @@ returns-3 : tie.Need-returns-3
 returns-3 c = simp (eq-eqb _ _ (c .before .before .if1 .left), eq-eqb _ _ (c .before .if2 .left), ne-eqb _ _ (c .if3 .taken))
 
 returns-4 : tie.Need-returns-4
-returns-4 c = simp (eq-eqb _ _ (c .before .before .before .if1 .left), eq-eqb _ _ (c .before .before .if2 .left), eq-eqb _ _ (c .before .if3 .left), ne-eqb _ _ (c .if4 .taken))
+returns-4 c =
+    simp (
+      eq-eqb _ _ (c .before .before .before .if1 .left),
+      eq-eqb _ _ (c .before .before .if2 .left),
+      eq-eqb _ _ (c .before .if3 .left),
+      ne-eqb _ _ (c .if4 .taken),
+    )
 
 returns-5 : tie.Need-returns-5
-returns-5 c = simp (eq-eqb _ _ (c .before .before .before .before .if1 .left), eq-eqb _ _ (c .before .before .before .if2 .left), eq-eqb _ _ (c .before .before .if3 .left), eq-eqb _ _ (c .before .if4 .left), ne-eqb _ _ (c .if5 .taken))
+returns-5 c =
+    simp (
+      eq-eqb _ _ (c .before .before .before .before .if1 .left),
+      eq-eqb _ _ (c .before .before .before .if2 .left),
+      eq-eqb _ _
+          (c .before .before .if3 .left),
+      eq-eqb _ _ (c .before .if4 .left),
+      ne-eqb _ _ (c .if5 .taken),
+    )
 
 returns-6 : tie.Need-returns-6
-returns-6 c = simp (eq-eqb _ _ (c .before .before .before .before .before .if1 .left), eq-eqb _ _ (c .before .before .before .before .if2 .left), eq-eqb _ _ (c .before .before .before .if3 .left), eq-eqb _ _ (c .before .before .if4 .left), eq-eqb _ _ (c .before .if5 .left), ne-eqb _ _ (c .if6 .taken))
+returns-6 c =
+    simp (
+      eq-eqb _ _ (c .before .before .before .before .before .if1 .left),
+      eq-eqb _ _ (c .before .before .before .before .if2 .left),
+      eq-eqb _ _ (c .before .before .before .if3 .left),
+      eq-eqb _ _ (c .before .before .if4 .left),
+      eq-eqb _ _ (c .before .if5 .left),
+      ne-eqb
+          _ _ (c .if6 .taken),
+    )
 
 returns-7 : tie.Need-returns-7
-returns-7 c = simp (eq-eqb _ _ (c .before .before .before .before .before .if1 .left), eq-eqb _ _ (c .before .before .before .before .if2 .left), eq-eqb _ _ (c .before .before .before .if3 .left), eq-eqb _ _ (c .before .before .if4 .left), eq-eqb _ _ (c .before .if5 .left), eq-eqb _ _ (c .if6 .left))
+returns-7 c =
+    simp (
+      eq-eqb _ _ (c .before .before .before .before .before .if1 .left),
+      eq-eqb _ _ (c .before .before .before .before .if2 .left),
+      eq-eqb _ _ (c .before .before .before .if3 .left),
+      eq-eqb _ _ (c .before .before .if4 .left),
+      eq-eqb _ _ (c .before .if5 .left),
+      eq-eqb
+          _ _ (c .if6 .left),
+    )
 
 pub judge-lengths-spec : {M : Type 1} → statement M
 judge-lengths-spec =

@@ -1,6 +1,4 @@
 -- `judge_none_or_all` meets its contract: the tests on the way to a return fix the rule. Assumes nothing.
-use mathlib.Core.Bool.{Bool, true, not, _||_}
-use mathlib.Core.Path.{_≡_, refl}
 use borrow.Author.Tests.{eq-eqb, ne-eqb}
 use Rattle.image.proofs.judge_none_or_all.Statement.{statement}
 use Rattle.image.proofs.judge_none_or_all.Tie as tie

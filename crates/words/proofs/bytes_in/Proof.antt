@@ -1,8 +1,7 @@
 -- `bytes_in` meets its contract. The loop's invariant: each number passed is its byte. Assumes nothing.
-use mathlib.Core.Path.{_≡_, refl, sym, ap, _∙_}
+use mathlib.Core.Path.{_≡_, refl, sym, _∙_}
 use mathlib.Core.Logic.{⊎-elim}
-use mathlib.Core.List.{List}
-use Prim.Native.Nat.{ℕ, _*_, _-_, _≤_, _<_}
+use Prim.Native.Nat.{ℕ, _-_, _≤_, _<_}
 use native.Mathlib.Omega.{arith}
 use lib.ListN.{length, getD, length-set}
 use Rattle.whole.proofs.Table.{is-table, stored}
@@ -12,7 +11,8 @@ use Rattle.words.proofs.bytes_in.Statement.{statement}
 use Rattle.words.proofs.bytes_in.Tie as tie
 
 abbrev Inv-loop : tie.InvT-loop
-Inv-loop bytes numbers₀ k₀ numbers k = (k ≤ length numbers₀) × (length numbers ≡ length numbers₀) × ((t : ℕ) → t < k → getD numbers t 0 ≡ byte-at bytes t)
+Inv-loop bytes numbers₀ k₀ numbers k =
+    (k ≤ length numbers₀) × (length numbers ≡ length numbers₀) × ((t : ℕ) → t < k → getD numbers t 0 ≡ byte-at bytes t)
 
 abbrev μ-loop : tie.MeasureT-loop
 μ-loop bytes numbers₀ k₀ numbers k = length numbers₀ - k

@@ -1,12 +1,10 @@
 -- `any_misplaced` meets its contract: no band is neither 0 nor out of order. Assumes nothing.
-use mathlib.Core.Path.{_≡_, refl, sym, ap, _∙_}
-use mathlib.Core.Bool.{true, false}
+use mathlib.Core.Path.{_≡_, refl, sym, _∙_}
+use mathlib.Core.Bool.{false}
 use mathlib.Core.List.{List}
-use Prim.Native.Nat.{ℕ, _-_}
-use native.Mathlib.Omega.{arith}
+use Prim.Native.Nat.{ℕ}
 use borrow.Author.Needs.{needs}
 use lib.ListN.{length}
-use Rattle.whole.proofs.Search.{some-zero}
 use Rattle.whole.specs.Search.{some}
 use Rattle.places.specs.Bands.{any-empty-band, any-not-rising, any-misplaced}
 use Rattle.places.proofs.judging.any_misplaced.Statement.{statement}

@@ -1,15 +1,14 @@
 -- `judge_in_turn` meets its contract. The loop's invariant: no zone passed breaks 10 or 11. Assumes nothing.
-use mathlib.Core.Path.{_≡_, refl, sym, ap, _∙_}
+use mathlib.Core.Path.{_≡_, sym, ap, _∙_}
 use mathlib.Core.Bool.{true, false}
 use mathlib.Core.List.{List, [], _∷_}
 use Prim.Native.Nat.{ℕ, suc, _+_, _*_, _-_, _/_, _≤_, _<_}
-use native.Mathlib.Numerals.{add-one}
 use native.Mathlib.Omega.{arith}
 use borrow.Author.Needs.{needs}
 use lib.IntN.{ℤ, pos}
 use lib.ListN.{length, take, drop}
 use lib.Seq.{drop-cons}
-use Rattle.whole.specs.Rules.{Rule, first-broken, in-turn}
+use Rattle.whole.specs.Rules.{first-broken, in-turn}
 use Rattle.whole.specs.Search.{some, any-beyond}
 use Rattle.whole.specs.Table.{at}
 use Rattle.whole.proofs.InTurn.{Numbered, turn-none, turn-next, turn-found, turn-done}
@@ -84,7 +83,8 @@ returns c =
     let b = c .before .before .before .before in
     let places = b .before .args .places .now in
     turn-found (place-rules-of places) (numbered places) (length places / 2) (b .loop .a) 10 (omega arith) (b .loop .inv .1)
-    (far places (b .loop .a) (omega arith) (2 * b .loop .a + 2 - 2 * b .loop .a) (omega arith) (sym (c .before .any-beyond .ensures) ∙ c .if1 .taken)) (λ z. omega arith)
+    (far places (b .loop .a) (omega arith) (2 * b .loop .a + 2 - 2 * b .loop .a) (omega arith)
+    (sym (c .before .any-beyond .ensures) ∙ c .if1 .taken)) (λ z. omega arith)
 
 earlier-at-place-requires : tie.Need-earlier-at-place-requires Inv-loop μ-loop
 earlier-at-place-requires c κs = omega arith
@@ -96,7 +96,8 @@ returns-2 c =
     let b = e .before .before .before .before in
     let places = b .before .args .places .now in
     turn-found (place-rules-of places) (numbered places) (length places / 2) (b .loop .a) 11 (omega arith) (b .loop .inv .1)
-    (met places (b .loop .a) (omega arith) (2 * b .loop .a + 2 - 2 * b .loop .a) (omega arith) (sym (e .before .any-beyond .ensures) ∙ e .if1 .left)
+    (met places (b .loop .a) (omega arith) (2 * b .loop .a + 2 - 2 * b .loop .a) (omega arith)
+    (sym (e .before .any-beyond .ensures) ∙ e .if1 .left)
     (sym (c .before .earlier-at-place .ensures) ∙ c .if2 .taken)) (λ z. omega arith)
 
 add-a : tie.Need-add-a Inv-loop μ-loop
@@ -112,7 +113,8 @@ loop-again c =
     let places = b .before .args .places .now in (
       omega arith,
       turn-next (place-rules-of places) (numbered places) (b .loop .a) (b .loop .inv .1)
-          (alone places (b .loop .a) (omega arith) (2 * b .loop .a + 2 - 2 * b .loop .a) (omega arith) (sym (e .before .any-beyond .ensures) ∙ e .if1 .left)
+          (alone places (b .loop .a) (omega arith) (2 * b .loop .a + 2 - 2 * b .loop .a) (omega arith)
+          (sym (e .before .any-beyond .ensures) ∙ e .if1 .left)
           (sym (c .before .earlier-at-place .ensures) ∙ c .if2 .left)),
     )
 

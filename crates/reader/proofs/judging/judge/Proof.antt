@@ -1,10 +1,9 @@
 -- `judge` meets its contract: each section is judged by the number so far and then passed, and its count and place are known where the
 -- number is 0. Assumes nothing.
-use mathlib.Core.Path.{_≡_, refl}
+use mathlib.Core.Path.{refl}
 use mathlib.Core.List.{List, []}
 use Prim.Native.Nat.{ℕ}
 use native.Mathlib.Omega.{arith}
-use lib.ListN.{length}
 use Rattle.image.specs.Image.{
   count,
   from-categories,
@@ -20,7 +19,7 @@ use Rattle.image.specs.Image.{
   in-bands,
   in-shuffles,
 }
-use Rattle.reader.proofs.Chain.{Stage, Met, Walked, start, walked}
+use Rattle.reader.proofs.Chain.{Met, Walked, start, walked}
 use Rattle.reader.proofs.Verdict.{
   Zones,
   later,
@@ -79,7 +78,8 @@ module _ (c : tie.After-pass2) where
       Walked image-3 (from-categories image-3) (from-joins image-3) (rules-2 image-3) (c .before .before .before .in-values .result)
       (c .before .in-categories .result) (c .before .before .pass .result .next) 1 (c .pass2 .result)
   walked-2 =
-      walked (walked-1 (c .before .before) .stage) 1 (in-categories (count image-3) (from-categories image-3)) 1 (λ z. refl) (met-2 (c .before))
+      walked (walked-1 (c .before .before) .stage) 1 (in-categories (count image-3) (from-categories image-3)) 1 (λ z. refl)
+      (met-2 (c .before))
       (c .pass2 .ensures)
 
   zones-2 : Zones image-3 (c .before .in-categories .result) (c .before .before .pass .result .count)
@@ -243,7 +243,8 @@ returns c =
     let p = s .before .before in
     let j = p .before .before in
     let d = j .before .before in
-    judged (image-11 e) (c .judge-end .result) (walked-1 (d .before .before)) (walked-2 d) (walked-3 j) (walked-4 p) (walked-5 s) (walked-6 e)
+    judged (image-11 e) (c .judge-end .result) (walked-1 (d .before .before)) (walked-2 d) (walked-3 j) (walked-4 p) (walked-5 s)
+    (walked-6 e)
     (c .judge-end .ensures)
 
 pub judge-spec : {M : Type 1} → statement M

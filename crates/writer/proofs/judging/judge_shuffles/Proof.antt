@@ -65,7 +65,8 @@ returns-3 c =
     let e = c .before .before in
     let a = s (b e) .args in
     let p = s (b e) .pre in
-    by-items (a .before) (b e .before .if1 .left) (ltb 499 (a .k)) 14 (shuffle-rules (a .n) (entries (b e))) (b e .judge-shuffle-count .result)
+    by-items (a .before) (b e .before .if1 .left) (ltb 499 (a .k)) 14 (shuffle-rules (a .n) (entries (b e)))
+    (b e .judge-shuffle-count .result)
     (b e .judge-shuffle-count .ensures) (e .if2 .left) (c .judge-shuffles .result)
     (c .judge-shuffles .ensures ∙ shuffles-decide (a .n) (a .k) (entries (b e)) (p .0) (p .1 .0) (few e) (there e))
 
