@@ -11,6 +11,7 @@ mod rows;
 mod shuffling;
 mod working;
 
+// What the reader and the writer of the job image judge by too.
 pub use judging::judge;
 pub use judging::judge_shuffles;
 ghost use mathlib.Core.Path.{_≡_};

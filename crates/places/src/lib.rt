@@ -4,6 +4,7 @@ mod distances;
 mod joining;
 mod judging;
 
+// What the reader and the writer of the job image judge by too.
 pub use judging::any_misplaced;
 pub use judging::judge_in_turn;
 ghost use mathlib.Core.Path.{_≡_};
