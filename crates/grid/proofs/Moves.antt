@@ -12,12 +12,12 @@ use Rattle.whole.specs.Integer.{is-zero, equal}
 use Rattle.whole.specs.Search.{some}
 use Rattle.whole.proofs.Compare.{equal-true}
 use Rattle.whole.proofs.Integer.{diff-of, diff-+, diff-neg, diff-eq}
+use Rattle.whole.proofs.Rules.{both-passed}
 use Rattle.whole.proofs.Search.{some-none, some-witness}
 use Rattle.whole.proofs.Size.{size-neg}
 use Rattle.grid.specs.Moves.{Step, rook-steps, bishop-steps, steps-of, grid-row, grid-column, leads, any-leads}
 use Rattle.grid.specs.declared.Move.{Move}
 use Rattle.grid.specs.declared.Move.the-variants.{Rook, Bishop, Queen}
-use Rattle.grid.proofs.Zones.{both-passed}
 
 -- ---- sums and differences
 -- the negative of a + s - b is b - s - a

@@ -1,6 +1,6 @@
 -- The zones of a grid by row and column, and the one zone that a step leads to. Assumes nothing.
 use mathlib.Core.Path.{_≡_, refl, sym, ap, _∙_}
-use mathlib.Core.Bool.{Bool, true, false, true≢false, cond, _&&_}
+use mathlib.Core.Bool.{Bool, true, false, cond, _&&_}
 use Prim.Native.Nat.{ℕ, _+_, _*_, _<_}
 use native.Mathlib.Nat as N
 use native.Mathlib.Omega.{arith}
@@ -10,6 +10,7 @@ use lib.Dec.{ltb}
 use lib.IntN.{ℤ, pos, negsuc, _+ℤ_}
 use Rattle.whole.specs.Integer.{equal}
 use Rattle.whole.proofs.Compare.{equal-same, equal-true}
+use Rattle.whole.proofs.Rules.{both-passed}
 use Rattle.whole.proofs.TableRows.{split}
 use Rattle.grid.specs.Moves.{Step, grid-row, grid-column, leads}
 use Rattle.grid.specs.Steps.{landing}
@@ -63,10 +64,6 @@ lands-at cells t z e h = rw (e, lt-ltb t cells h) refl
 -- ---- a test of two
 both-pass : (a b : Bool) → a ≡ true → b ≡ true → (a && b) ≡ true
 both-pass a b e f = rw (e, f) refl
-
-pub both-passed : (a b : Bool) → (a && b) ≡ true → (a ≡ true) × (b ≡ true)
-both-passed true b e = (refl, e)
-both-passed false b e = absurd (true≢false (sym e))
 
 -- the test whether z is b
 equal-at : (z : ℤ) (a b : ℕ) → z ≡ pos a → b ≡ a → equal z (pos b) ≡ true

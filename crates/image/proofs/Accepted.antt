@@ -2,6 +2,7 @@
 use mathlib.Core.Path.{_≡_, refl, sym, _∙_}
 use mathlib.Core.Bool.{Bool, true, false, not, _&&_, _||_, false≢true}
 use mathlib.Core.List.{List, _++_}
+use mathlib.Core.Logic.{_⊎_, inl, inr, ⊎-elim}
 use Prim.Native.Nat.{ℕ, _≤_}
 use native.Mathlib.Nat as N
 use native.Mathlib.Omega.{arith}
@@ -84,22 +85,20 @@ shuffles-numbered n b = (tt, (tt, (tt, (tt, tt))))
 abbrev pub part-only : ℕ → ℕ → Bool
 part-only n k = not (eqb k 0 || eqb k n)
 
-pub at-most-all : (n k : ℕ) → part-only n k ≡ false → k ≤ n
-at-most-all n k e = go (eqb k 0) (eqb k n) refl refl e
+none-or-all : (n k : ℕ) → part-only n k ≡ false → (k ≡ 0) ⊎ (k ≡ n)
+none-or-all n k e = go (eqb k 0) (eqb k n) refl refl e
   where
-    go : (a b : Bool) → eqb k 0 ≡ a → eqb k n ≡ b → not (a || b) ≡ false → k ≤ n
-    go true b p q z = let h = eqb-true k 0 p in omega arith
-    go false true p q z = let h = eqb-true k n q in omega arith
+    go : (a b : Bool) → eqb k 0 ≡ a → eqb k n ≡ b → not (a || b) ≡ false → (k ≡ 0) ⊎ (k ≡ n)
+    go true b p q z = inl (eqb-true k 0 p)
+    go false true p q z = inr (eqb-true k n q)
     go false false p q z = absurd (false≢true (sym z))
+
+pub at-most-all : (n k : ℕ) → part-only n k ≡ false → k ≤ n
+at-most-all n k e = ⊎-elim (λ z. omega arith) (λ z. omega arith) (none-or-all n k e)
 
 -- where there are some, there are n
 pub all-of-them : (n k : ℕ) → part-only n k ≡ false → (k ≡ 0 → ⊥) → k ≡ n
-all-of-them n k e f = go (eqb k 0) (eqb k n) refl refl e
-  where
-    go : (a b : Bool) → eqb k 0 ≡ a → eqb k n ≡ b → not (a || b) ≡ false → k ≡ n
-    go true b p q z = absurd (f (eqb-true k 0 p))
-    go false true p q z = eqb-true k n q
-    go false false p q z = absurd (false≢true (sym z))
+all-of-them n k e f = ⊎-elim (λ z. absurd (f z)) (λ z. z) (none-or-all n k e)
 
 -- ---- the six sections, and the end
 pub record Accepted (image : List ℕ) : Type 0 where

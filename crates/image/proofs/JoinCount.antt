@@ -1,19 +1,17 @@
 -- A table of at most 64 zones whose weights break no rule has at most 4,032 joins: no weight stands on the diagonal. Assumes nothing.
 use mathlib.Core.Path.{_≡_, refl, sym, ap, _∙_}
-use mathlib.Core.Bool.{Bool, true, false, cond, _&&_, false≢true}
+use mathlib.Core.Bool.{Bool, true, false, cond, false≢true}
 use mathlib.Core.List.{List, [], _∷_}
 use Prim.Native.Nat.{ℕ, zero, suc, _+_, _*_, _/_, _%_, _≤_, _<_}
 use native.Mathlib.Nat as N
 use native.Mathlib.Omega.{arith}
-use borrow.Author.Tests.{lt-ltb, eq-eqb}
+use borrow.Author.Tests.{eq-eqb}
 use lib.Arith.{digits-div, digits-mod}
-use lib.Dec.{eqb, ltb}
-use lib.ListN.{length, getD}
+use lib.Dec.{eqb}
+use lib.ListN.{length}
 use Rattle.whole.specs.Rules.{first-broken, in-turn}
-use Rattle.whole.proofs.InTurn.{turn-each}
-use Rattle.whole.proofs.Rules.{holds}
 use Rattle.image.specs.Joins.{joins-from, joins-of, weight-rules}
-use Rattle.image.proofs.Weights.{weight-numbered}
+use Rattle.image.proofs.Weights.{Keeps, keeps-next, first-off, keeps-all}
 
 -- a place on the diagonal
 abbrev on-diagonal : ℕ → ℕ → Bool
@@ -24,42 +22,23 @@ diagonals : ℕ → ℕ → ℕ → ℕ
 diagonals n p zero = 0
 diagonals n p (suc m) = cond (on-diagonal n p) 1 0 + diagonals n (p + 1) m
 
--- the weights from place p on have no weight on the diagonal
-Clear : ℕ → ℕ → List ℕ → Type 0
-Clear n p weights = (i : ℕ) → i < length weights → (ltb 0 (getD weights i 0) && on-diagonal n (p + i)) ≡ false
-
-next : (n p w : ℕ) (weights : List ℕ) → Clear n p (w ∷ weights) → Clear n (p + 1) weights
-unfolding Clear
-next n p w weights h i l =
-    let same : p + suc i ≡ p + 1 + i = omega arith in
-    ap (λ q. ltb 0 (getD weights i 0) && on-diagonal n q) (sym same) ∙ h (suc i) (omega arith)
-
 -- so each of these places has a join or is on the diagonal, or neither
-few : (n p : ℕ) (weights : List ℕ) → Clear n p weights → length (joins-from n p weights) + diagonals n p (length weights) ≤ length weights
-unfolding joins-from diagonals Clear
+few : (n p : ℕ) (weights : List ℕ) → Keeps n p weights → length (joins-from n p weights) + diagonals n p (length weights) ≤ length weights
+unfolding joins-from diagonals
 few n p [] h = omega arith
-few n p (zero ∷ weights) h = go (on-diagonal n p) (few n (p + 1) weights (next n p zero weights h))
+few n p (zero ∷ weights) h = go (on-diagonal n p) (few n (p + 1) weights (keeps-next n p zero weights h))
   where
     go :
         (b : Bool) → length (joins-from n (p + 1) weights) + diagonals n (p + 1) (length weights) ≤ length weights →
         length (joins-from n (p + 1) weights) + (cond b 1 0 + diagonals n (p + 1) (length weights)) ≤ suc (length weights)
     go true l = omega arith
     go false l = omega arith
-few n p (suc w ∷ weights) h = go (on-diagonal n p) refl (few n (p + 1) weights (next n p (suc w) weights h))
+few n p (suc w ∷ weights) h = go (on-diagonal n p) refl (few n (p + 1) weights (keeps-next n p (suc w) weights h))
   where
-    off : on-diagonal n p ≡ false
-    off =
-        let here : p + 0 ≡ p = omega arith in
-        ap (on-diagonal n) (sym here) ∙ second (ltb 0 (suc w)) _ (h 0 (omega arith)) (lt-ltb 0 (suc w) (omega arith))
-      where
-        second : (a b : Bool) → (a && b) ≡ false → a ≡ true → b ≡ false
-        second true b e f = e
-        second false b e f = absurd (false≢true f)
-
     go :
         (b : Bool) → on-diagonal n p ≡ b → length (joins-from n (p + 1) weights) + diagonals n (p + 1) (length weights) ≤ length weights →
         suc (length (joins-from n (p + 1) weights)) + (cond b 1 0 + diagonals n (p + 1) (length weights)) ≤ suc (length weights)
-    go true e l = absurd (false≢true (sym off ∙ e))
+    go true e l = absurd (false≢true (sym (first-off n p w weights h) ∙ e))
     go false e l = omega arith
 
 -- ---- every row has a place on the diagonal
@@ -106,14 +85,8 @@ rows n (suc r) h =
 pub joins-few :
     (n : ℕ) (weights : List ℕ) → n ≤ 64 → length weights ≡ n * n → first-broken (in-turn (weight-rules n weights) (n * n)) ≡ 0 →
     length (joins-of n weights) ≤ 4032
-unfolding weight-rules Clear
 joins-few n weights zones there sound =
-    let clear : Clear n 0 weights = λ i h.
-    let here : 0 + i ≡ i = omega arith in
-    ap (λ q. ltb 0 (getD weights i 0) && on-diagonal n q) here
-    ∙ holds (ltb 0 (getD weights i 0) && on-diagonal n i) 4 _
-    (turn-each (weight-rules n weights) (weight-numbered n weights) (n * n) i (omega arith) sound) .0 in
-    let all = few n 0 weights clear in
+    let all = few n 0 weights (keeps-all n weights there sound) in
     let diagonal = rows n n (omega arith) in
     let same = ap (diagonals n 0) there in
     at-most n (omega arith) zones (omega arith)

@@ -1,23 +1,22 @@
 -- The order of joins, by from and then to, is that of their places; joins that break no rule are the joins of a table. Assumes nothing.
 use mathlib.Core.Path.{_≡_, refl, sym, ap, _∙_, subst}
-use mathlib.Core.Bool.{Bool, true, false, not, _&&_, false≢true}
+use mathlib.Core.Bool.{Bool, true, false, not, false≢true}
 use mathlib.Core.List.{List, [], _∷_}
 use Prim.Native.Nat.{ℕ, zero, suc, _+_, _*_, _/_, _%_, _≤_, _<_}
 use native.Mathlib.Nat as N
 use native.Mathlib.Omega.{arith}
 use borrow.Author.Tests.{lt-ltb, le-ltb, ne-eqb, ltb-true, ltb-false, eqb-true, eqb-false}
 use lib.Dec.{eqb, ltb}
-use lib.ListN.{length, getD}
+use lib.ListN.{length}
 use Rattle.whole.specs.Rules.{first-broken, in-turn}
 use Rattle.whole.specs.Table.{table}
-use Rattle.whole.proofs.InTurn.{turn-each, each-turn}
+use Rattle.whole.proofs.InTurn.{each-turn}
 use Rattle.whole.proofs.Lists.{within}
-use Rattle.whole.proofs.Rules.{holds}
 use Rattle.whole.proofs.TableRows.{split}
 use Rattle.image.specs.Joins.{Join, place, joins-from, joins-of, comes-after, not-rising, join-rules, weight-rules}
 use Rattle.image.proofs.ItemKinds.{All, none, more}
 use Rattle.image.proofs.JoinTable.{Rises, joins-rise}
-use Rattle.image.proofs.Weights.{Fair, fair-each, join-numbered, weight-numbered}
+use Rattle.image.proofs.Weights.{Fair, fair-each, join-numbered, Keeps, keeps-next, first-off, keeps-all}
 
 -- ---- two joins whose ends are zones
 
@@ -109,44 +108,24 @@ record Good (n : ℕ) (join : Join) : Type 0 where
   pub light : join .weight ≤ 9
 
 module _ (n : ℕ) (some : 0 < n) where
-  -- the rules on the weights from place p on, of a list that has them at its front
-  Sound : ℕ → List ℕ → Type 0
-  Sound p weights =
-      (i : ℕ) → i < length weights →
-      ((ltb 0 (getD weights i 0) && eqb ((p + i) / n) ((p + i) % n)) ≡ false) × (getD weights i 0 ≤ 9)
-
-  next : (p w : ℕ) (weights : List ℕ) → Sound p (w ∷ weights) → Sound (p + 1) weights
-  unfolding Sound
-  next p w weights h i l =
-      let same : p + suc i ≡ p + 1 + i = omega arith in
-      let s = h (suc i) (omega arith) in
-      (ap (λ q. ltb 0 (getD weights i 0) && eqb (q / n) (q % n)) (sym same) ∙ s .0, s .1)
-
-  other : (a b : Bool) → (a && b) ≡ false → a ≡ true → b ≡ false
-  other true b e f = e
-  other false b e f = absurd (false≢true f)
-
   first :
-      (p w : ℕ) (weights : List ℕ) → p < n * n → Sound p (suc w ∷ weights) → Good n (record { from = p / n; to = p % n; weight = suc w })
-  unfolding Sound
+      (p w : ℕ) (weights : List ℕ) → p < n * n → Keeps n p (suc w ∷ weights) → Good n (record { from = p / n; to = p % n; weight = suc w })
+  unfolding Keeps
   first p w weights h s =
-      let rules = s 0 (omega arith) in
-      let off : eqb ((p + 0) / n) ((p + 0) % n) ≡ false = other (ltb 0 (suc w)) _ (rules .0) (lt-ltb 0 (suc w) (omega arith)) in
-      let here : eqb (p / n) (p % n) ≡ false = ap (λ q. eqb (q / n) (q % n)) {x = p} {y = p + 0} (omega arith) ∙ off in
       let place = split n n p h in record {
         from-in = place .row;
         to-in = place .column;
-        apart = eqb-false (p / n) (p % n) here;
+        apart = eqb-false (p / n) (p % n) (first-off n p w weights s);
         heavy = omega arith;
-        light = rules .1;
+        light = s 0 (omega arith) .1;
       }
 
-  all-good : (p : ℕ) (weights : List ℕ) → p + length weights ≤ n * n → Sound p weights → All (Good n) (joins-from n p weights)
+  all-good : (p : ℕ) (weights : List ℕ) → p + length weights ≤ n * n → Keeps n p weights → All (Good n) (joins-from n p weights)
   unfolding joins-from
   all-good p [] l s = none
-  all-good p (zero ∷ weights) l s = all-good (p + 1) weights (omega arith) (next p zero weights s)
+  all-good p (zero ∷ weights) l s = all-good (p + 1) weights (omega arith) (keeps-next n p zero weights s)
   all-good p (suc w ∷ weights) l s =
-      more (first p w weights (omega arith) s) (all-good (p + 1) weights (omega arith) (next p (suc w) weights s))
+      more (first p w weights (omega arith) s) (all-good (p + 1) weights (omega arith) (keeps-next n p (suc w) weights s))
 
 -- a law of every item of a list, and of the joins' order, at the places of a list that is a table
 all-at : {A : Type 0} (P : A → Type 0) (f : ℕ → A) (k : ℕ) → All P (table f k) → (i : ℕ) → i < k → P (f i)
@@ -167,18 +146,9 @@ module _ (n : ℕ) (weights : List ℕ) (some : 0 < n) (there : length weights �
     (sound : first-broken (in-turn (weight-rules n weights) (n * n)) ≡ 0)
     (join : ℕ → Join) (k : ℕ) (same : table join k ≡ joins-of n weights) where
   good : (i : ℕ) → i < k → Good n (join i)
-  unfolding weight-rules Sound
   good i h =
       all-at (Good n) join k
-      (subst (All (Good n)) (sym same)
-      (all-good n some 0 weights (omega arith)
-      (λ p l.
-      let first = holds (ltb 0 (getD weights p 0) && eqb (p / n) (p % n)) 4 _
-      (turn-each (weight-rules n weights) (weight-numbered n weights) (n * n) p (omega arith) sound) in
-      let second = holds (ltb 9 (getD weights p 0)) 3 0 (first .1) in
-      let here : 0 + p ≡ p = omega arith in
-      (ap (λ q. ltb 0 (getD weights p 0) && eqb (q / n) (q % n)) here ∙ first .0, ltb-false 9 (getD weights p 0) (second .0)))))
-      i h
+      (subst (All (Good n)) (sym same) (all-good n some 0 weights (omega arith) (keeps-all n weights there sound))) i h
 
   in-order : (i : ℕ) → suc i < k → place n (join i) < place n (join (suc i))
   in-order i h = rises-at n (n * n) 0 join k (subst (Rises n (n * n) 0) (sym same) (joins-rise n weights some there)) i h

@@ -29,7 +29,7 @@ use Rattle.image.specs.Image.{
   Job,
   value-rules,
 }
-use Rattle.image.specs.Numbers.{listed, reader-numbers, writer-numbers}
+use Rattle.image.specs.Numbers.{among, reader-numbers, writer-numbers}
 use Rattle.image.specs.Reader.{Buffers, read-rules, read-refusal}
 use Rattle.image.specs.Writer.{lent-job, part-rules, write-rules, write-refusal}
 use Rattle.image.specs.declared.Given.{Given}
@@ -40,7 +40,7 @@ use Rattle.image.proofs.Parts as parts
 module _ (numbers : List ℕ) where
   abbrev Within : List Rule → Type 0
   Within [] = Unit
-  Within (rule ∷ rules) = T (listed (rule .1) (0 ∷ numbers)) × Within rules
+  Within (rule ∷ rules) = T (among (rule .1) (0 ∷ numbers)) × Within rules
 
   both : (rules rest : List Rule) → Within rules → Within rest → Within (rules ++ rest)
   both [] rest g h = h
@@ -55,9 +55,9 @@ module _ (numbers : List ℕ) where
   is-true true t = refl
   is-true false t = absurd t
 
-  first-listed : (rules : List Rule) → Within rules → listed (first-broken rules) (0 ∷ numbers) ≡ true
+  first-listed : (rules : List Rule) → Within rules → among (first-broken rules) (0 ∷ numbers) ≡ true
   first-listed [] g = refl
-  first-listed ((true, number) ∷ rules) g = is-true (listed number (0 ∷ numbers)) (g .0)
+  first-listed ((true, number) ∷ rules) g = is-true (among number (0 ∷ numbers)) (g .0)
   first-listed ((false, number) ∷ rules) g = first-listed rules (g .1)
 
 -- ---- the reader
@@ -83,7 +83,7 @@ image-within image =
     (both numbers (in-shuffles n (from-shuffles image)) (at-the-end image) (tt, (tt, (tt, (tt, tt)))) (tt, (tt, (tt, tt))))))))
 
 -- every string of bytes is a job or has one of the reader's numbers
-pub reading-total : (image : List ℕ) (lent : Buffers) → listed (read-refusal image lent) (0 ∷ reader-numbers) ≡ true
+pub reading-total : (image : List ℕ) (lent : Buffers) → among (read-refusal image lent) (0 ∷ reader-numbers) ≡ true
 unfolding read-refusal read-rules
 reading-total image lent = first-listed reader-numbers (read-rules image lent) (tt, image-within image)
 
@@ -108,7 +108,7 @@ parts-within given job =
     (tt, (tt, (tt, (tt, tt)))))))
 
 -- every job is written or has one of the writer's numbers
-pub writing-total : (given : Given) (lent : Buffers) (room : ℕ) → listed (write-refusal given lent room) (0 ∷ writer-numbers) ≡ true
+pub writing-total : (given : Given) (lent : Buffers) (room : ℕ) → among (write-refusal given lent room) (0 ∷ writer-numbers) ≡ true
 unfolding write-refusal write-rules
 writing-total given lent room =
     first-listed writer-numbers (write-rules given lent room) (

@@ -1,11 +1,11 @@
 -- What is known of joins and of weights that break no rule, and what decides where 1 to 5 hold. Assumes nothing.
 use mathlib.Core.Path.{_≡_, refl, sym, ap, _∙_, subst}
-use mathlib.Core.Bool.{Bool, true, false, not, _&&_, false≢true}
+use mathlib.Core.Bool.{Bool, true, false, not, _&&_}
 use mathlib.Core.List.{List, [], _∷_}
 use Prim.Native.Nat.{ℕ, zero, suc, _+_, _*_, _/_, _%_, _≤_, _<_}
 use native.Mathlib.Decide.{ℕ-discrete}
 use native.Mathlib.Omega.{arith}
-use borrow.Author.Tests.{le-ltb, eq-eqb, ltb-true, ltb-false, eqb-false}
+use borrow.Author.Tests.{le-ltb, eq-eqb, ltb-true, ltb-false, eqb-false, lt-ltb, not-false}
 use lib.Dec.{eqb, ltb}
 use lib.Arith.{digits-div, digits-mod}
 use lib.IntN.{ℤ}
@@ -16,7 +16,7 @@ use Rattle.whole.specs.Search.{any-beyond, any-above, any-on-diagonal}
 use Rattle.whole.specs.Table.{table, pair-at}
 use Rattle.whole.proofs.InTurn.{Numbered, turn-each}
 use Rattle.whole.proofs.Lists.{within}
-use Rattle.whole.proofs.Rules.{holds, in-range}
+use Rattle.whole.proofs.Rules.{holds, in-range, both-passed, other-fails, first-fails}
 use Rattle.whole.proofs.Search.{none-some, all-within}
 use Rattle.account.specs.Refusals.{job-rules, sum-rules, call-rules, job-refusal}
 use Rattle.account.specs.Rank.{shuffle-refusal}
@@ -39,11 +39,6 @@ pub record Fair (n : ℕ) (join : ℕ → Join) (k : ℕ) : Type 0 where
   pub heavy : 1 ≤ join k .weight
   pub light : join k .weight ≤ 9
 
-both : (a b : Bool) → not (a && b) ≡ false → (a ≡ true) × (b ≡ true)
-both true true e = (refl, refl)
-both true false e = absurd (false≢true (sym e))
-both false b e = absurd (false≢true (sym e))
-
 pub fair : (n : ℕ) (join : ℕ → Join) (k : ℕ) → first-broken (join-rules n join k) ≡ 0 → Fair n join k
 unfolding join-rules
 fair n join k e =
@@ -51,7 +46,7 @@ fair n join k e =
     let loop = holds (eqb (join k .from) (join k .to)) 4 _ (ends .1) in
     let order = holds (not-rising join k) 15 _ (loop .1) in
     let weight = holds (outside 1 9 (join k .weight)) 3 0 (order .1) in
-    let inside = both (ltb (join k .from) n) (ltb (join k .to) n) (ends .0) in
+    let inside = both-passed (ltb (join k .from) n) (ltb (join k .to) n) (not-false _ (ends .0)) in
     let r = in-range 1 9 (join k .weight) (weight .0) in record {
       from-in = ltb-true (join k .from) n (inside .0);
       to-in = ltb-true (join k .to) n (inside .1);
@@ -144,32 +139,61 @@ pub weight-numbered : (n : ℕ) (weights : List ℕ) (p : ℕ) → Numbered (wei
 unfolding weight-rules
 weight-numbered n weights p = (tt, (tt, tt))
 
+-- the weights from place p on: none on the diagonal, none above 9
+unfoldable pub Keeps : ℕ → ℕ → List ℕ → Type 0
+Keeps n p weights =
+    (i : ℕ) → i < length weights →
+    ((ltb 0 (getD weights i 0) && eqb ((p + i) / n) ((p + i) % n)) ≡ false) × (getD weights i 0 ≤ 9)
+
+pub keeps-next : (n p w : ℕ) (weights : List ℕ) → Keeps n p (w ∷ weights) → Keeps n (p + 1) weights
+unfolding Keeps
+keeps-next n p w weights h i l =
+    let same : p + suc i ≡ p + 1 + i = omega arith in
+    let s = h (suc i) (omega arith) in
+    (ap (λ q. ltb 0 (getD weights i 0) && eqb (q / n) (q % n)) (sym same) ∙ s .0, s .1)
+
+-- the first of them, where it is a weight
+pub first-off : (n p w : ℕ) (weights : List ℕ) → Keeps n p (suc w ∷ weights) → eqb (p / n) (p % n) ≡ false
+unfolding Keeps
+first-off n p w weights h =
+    let here : p ≡ p + 0 = omega arith in
+    ap (λ q. eqb (q / n) (q % n)) here ∙ other-fails (ltb 0 (suc w)) _ (h 0 (omega arith) .0) (lt-ltb 0 (suc w) (omega arith))
+
 module _ (n : ℕ) (weights : List ℕ) (there : length weights ≡ n * n)
     (sound : first-broken (in-turn (weight-rules n weights) (n * n)) ≡ 0) where
   each : (p : ℕ) → p < n * n → first-broken (weight-rules n weights p) ≡ 0
   each p h = turn-each (weight-rules n weights) (weight-numbered n weights) (n * n) p h sound
 
-  pub weights-light : any-above 9 weights ≡ false
+  -- what they say of a weight
+  off-or-none : (p : ℕ) → p < n * n → (ltb 0 (getD weights p 0) && eqb (p / n) (p % n)) ≡ false
   unfolding weight-rules
-  weights-light =
-      all-within 9 weights
-      (λ p h.
-      let first = holds (ltb 0 (getD weights p 0) && eqb (p / n) (p % n)) 4 _ (each p (omega arith)) in
-      ltb-false 9 (getD weights p 0) (holds (ltb 9 (getD weights p 0)) 3 0 (first .1) .0))
+  off-or-none p h = holds (ltb 0 (getD weights p 0) && eqb (p / n) (p % n)) 4 _ (each p h) .0
+
+  light-enough : (p : ℕ) → p < n * n → getD weights p 0 ≤ 9
+  unfolding weight-rules
+  light-enough p h =
+      let first = holds (ltb 0 (getD weights p 0) && eqb (p / n) (p % n)) 4 _ (each p h) in
+      ltb-false 9 (getD weights p 0) (holds (ltb 9 (getD weights p 0)) 3 0 (first .1) .0)
+
+  pub weights-light : any-above 9 weights ≡ false
+  weights-light = all-within 9 weights (λ p h. light-enough p (omega arith))
 
   -- on the diagonal row and column are one
   pub weights-clear : any-on-diagonal n weights ≡ false
-  unfolding any-on-diagonal pair-at weight-rules
+  unfolding any-on-diagonal pair-at
   weights-clear =
       none-some (λ j. ltb 0 (getD weights (j * n + j) 0)) n
       (λ j l.
-      let first =
-      holds (ltb 0 (getD weights (j * n + j) 0) && eqb ((j * n + j) / n) ((j * n + j) % n)) 4 _ (each (j * n + j) (within n j j l l)) in
-      first-fails _ _ (first .0) (eq-eqb _ _ (digits-div j l ∙ sym (digits-mod j l))))
-    where
-      first-fails : (a b : Bool) → (a && b) ≡ false → b ≡ true → a ≡ false
-      first-fails false b e f = refl
-      first-fails true b e f = absurd (false≢true (sym e ∙ f))
+      first-fails _ _ (off-or-none (j * n + j) (within n j j l l)) (eq-eqb _ _ (digits-div j l ∙ sym (digits-mod j l))))
+
+  -- and of all of them, from the first on
+  pub keeps-all : Keeps n 0 weights
+  unfolding Keeps
+  keeps-all i h =
+      let here : 0 + i ≡ i = omega arith in (
+        ap (λ q. ltb 0 (getD weights i 0) && eqb (q / n) (q % n)) here ∙ off-or-none i (omega arith),
+        light-enough i (omega arith),
+      )
 
 -- ---- where 1 to 5 hold, 6 and 7 decide
 pub sums-decide :

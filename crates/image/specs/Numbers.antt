@@ -5,9 +5,9 @@ use Prim.Native.Nat.{ℕ}
 use lib.Dec.{eqb}
 
 -- a number is one of a list
-abbrev pub listed : ℕ → List ℕ → Bool
-listed number [] = false
-listed number (one ∷ others) = eqb number one || listed number others
+abbrev pub among : ℕ → List ℕ → Bool
+among number [] = false
+among number (one ∷ others) = eqb number one || among number others
 
 abbrev pub reader-numbers : List ℕ
 reader-numbers = 1 ∷ 2 ∷ 3 ∷ 4 ∷ 5 ∷ 6 ∷ 7 ∷ 8 ∷ 10 ∷ 11 ∷ 12 ∷ 13 ∷ 14 ∷ 15 ∷ 16 ∷ 17 ∷ []

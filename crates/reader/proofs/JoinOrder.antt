@@ -1,6 +1,6 @@
 -- A join's order is judged by its place: it comes after the joins before it where its place does. Assumes nothing.
 use mathlib.Core.Path.{_≡_, refl, sym, ap, _∙_}
-use mathlib.Core.Bool.{Bool, true, false, not, _&&_, false≢true}
+use mathlib.Core.Bool.{Bool, true, false, not, _&&_}
 use mathlib.Core.List.{List, [], _∷_}
 use Prim.Native.Nat.{ℕ, zero, suc, _+_, _<_}
 use native.Mathlib.Numerals.{add-one}
@@ -8,6 +8,7 @@ use native.Mathlib.Omega.{arith}
 use borrow.Author.Tests.{lt-ltb, le-ltb, ltb-true, ltb-false}
 use lib.Dec.{eqb, ltb}
 use Rattle.whole.specs.Rules.{Rule, first-broken, in-turn, outside}
+use Rattle.whole.proofs.Rules.{both-passed}
 use Rattle.image.specs.Joins.{Join, place, not-rising, join-rules}
 use Rattle.image.proofs.JoinOrder.{place-decides}
 use Rattle.image.proofs.Weights.{fair-each}
@@ -19,10 +20,6 @@ alike :
     first-broken ((not inside, 16) ∷ (same, 5) ∷ (one, 16) ∷ rest) ≡ first-broken ((not inside, 16) ∷ (same, 5) ∷ (other, 16) ∷ rest)
 alike false same one other rest h = refl
 alike true same one other rest h = ap (λ test. first-broken ((same, 5) ∷ (test, 16) ∷ rest)) (h refl)
-
-second : (a b : Bool) → (a && b) ≡ true → b ≡ true
-second true b e = e
-second false b e = absurd (false≢true e)
 
 -- a place is not after another where it is before the next
 before-next : (a b : ℕ) → ltb b (a + 1) ≡ not (ltb a b)
@@ -65,4 +62,4 @@ module _ (n : ℕ) (join : ℕ → Join) where
       (rw (p, f, t, w) at e)
       ∙ alike (ltb (join k .from) n && ltb (join k .to) n) (eqb (join k .from) (join k .to)) (ltb (place n (join k)) (next-place k))
       (not-rising join k) ((outside 1 9 (join k .weight), 4) ∷ [])
-      (λ both. in-order k sound (ltb-true (join k .to) n (second (ltb (join k .from) n) (ltb (join k .to) n) both)))
+      (λ both. in-order k sound (ltb-true (join k .to) n (both-passed (ltb (join k .from) n) (ltb (join k .to) n) both .1)))

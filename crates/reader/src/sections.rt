@@ -37,7 +37,7 @@ fn judge_values(image: &[u8], at: usize, k: usize) -> u8
 
 // The first number of k categories.
 fn judge_categories(image: &[u8], at: usize, k: usize) -> u8
-    requires { ⌜ at + 1 * k ≤ length (now image) ⌝ }
+    requires { ⌜ at + k ≤ length (now image) ⌝ }
     ensures { λ r. ⌜ r ≡ first-broken (category-rules (bytes k (drop at (now (image .entry))))) ⌝ }
 {
     let end = at + k;

@@ -84,6 +84,19 @@ pub second-fails : (a b : Bool) → b ≡ false → (a && b) ≡ false
 second-fails true b e = e
 second-fails false b e = refl
 
+-- where they both pass each does, and where they do not and one passes, the other fails
+pub both-passed : (a b : Bool) → (a && b) ≡ true → (a ≡ true) × (b ≡ true)
+both-passed true b e = (refl, e)
+both-passed false b e = absurd (subst T (sym e) tt)
+
+pub other-fails : (a b : Bool) → (a && b) ≡ false → a ≡ true → b ≡ false
+other-fails true b e f = e
+other-fails false b e f = absurd (subst T (sym f) tt)
+
+pub first-fails : (a b : Bool) → (a && b) ≡ false → b ≡ true → a ≡ false
+first-fails false b e f = refl
+first-fails true b e f = absurd (subst T (sym (sym e ∙ f)) tt)
+
 -- ---- what the first two rules tell where they hold
 pub in-range : (lowest highest n : ℕ) → outside lowest highest n ≡ false → (lowest ≤ n) × (n ≤ highest)
 in-range lowest highest n e = let f = neither (ltb n lowest) (ltb highest n) e in (ltb-false n lowest (f .0), ltb-false highest n (f .1))
