@@ -14,7 +14,7 @@ use Rattle.account.specs.Rank.{shuffle-count, values-cross, shuffle-cross, comp
 use Rattle.joins.specs.Joins.{weight-between, joins-of, join-table}
 use Rattle.places.specs.Places.{across, up, squared-distance}
 use Rattle.places.specs.Bands.{within-band, band-class, pair-class, band-classes}
-use Rattle.report.specs.Coefficients.{coefficient, pair-of, job-pair, class-pair}
+use Rattle.coefficients.specs.Coefficients.{coefficient, pair-of, job-pair, class-pair}
 use Rattle.figures.specs.Figures.{right, all-right, published}
 
 pub figures-right : T (all-right published)

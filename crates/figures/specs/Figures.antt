@@ -16,9 +16,9 @@ use Rattle.account.specs.HotList.{hot-list}
 use Rattle.account.specs.Rank.{job-rank}
 use Rattle.joins.specs.Joins.{join-table}
 use Rattle.places.specs.Bands.{band-classes}
-use Rattle.report.specs.Coefficients.{job-pair, class-pair}
-use Rattle.report.specs.declared.Coefficient.{Coefficient}
-use Rattle.report.specs.declared.Coefficient.the-variants.{Figure, Weightless}
+use Rattle.coefficients.specs.Coefficients.{job-pair, class-pair}
+use Rattle.coefficients.specs.declared.Coefficient.{Coefficient}
+use Rattle.coefficients.specs.declared.Coefficient.the-variants.{Figure, Weightless}
 
 -- a figure as document 01 prints it: a whole number, its 64 bits, or none
 pub data Printed : Type 0 where

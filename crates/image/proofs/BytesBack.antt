@@ -12,7 +12,7 @@ use mir.Syntax.{w32}
 use mir.Val.{SFits}
 use Rattle.whole.specs.Rules.{first-broken, in-turn}
 use Rattle.whole.specs.Search.{any-above, any-on-diagonal}
-use Rattle.whole.specs.Table.{pair-at}
+use Rattle.whole.specs.Table.{pair-at, each}
 use Rattle.whole.proofs.InTurn.{each-turn}
 use Rattle.whole.proofs.Rules.{second-fails}
 use Rattle.whole.proofs.Search.{some-none, none-above}
@@ -20,30 +20,7 @@ use Rattle.whole.proofs.Table.{table-length}
 use Rattle.whole.proofs.TableRows.{split}
 use Rattle.words.specs.Words.{word-at, word-bytes}
 use Rattle.image.specs.Joins.{Join, weights-of, joins-of, weight-rules}
-use Rattle.image.specs.Image.{
-  Job,
-  count,
-  items,
-  join-in,
-  values-in,
-  from-categories,
-  categories-in,
-  from-joins,
-  joins-in,
-  from-places,
-  places-in,
-  from-bands,
-  bands-in,
-  from-shuffles,
-  shuffles-in,
-  rest,
-  job-of,
-  each,
-  signed-bytes,
-  join-bytes,
-  section-bytes,
-  job-bytes,
-}
+use Rattle.image.specs.Image.{Job, count, items, join-in, values-in, from-categories, categories-in, from-joins, joins-in, from-places, places-in, from-bands, bands-in, from-shuffles, shuffles-in, rest, job-of, signed-bytes, join-bytes, section-bytes, job-bytes}
 use Rattle.image.specs.RoundTrip.{given-in}
 use Rattle.image.proofs.Accepted.{Accepted, counted}
 use Rattle.image.proofs.Called.{Within}

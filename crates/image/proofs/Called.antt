@@ -13,9 +13,10 @@ use lib.Seq.{length-take-le, take-at, getD-take}
 use Rattle.whole.specs.Rules.{Rule, first-broken, misfits, outside}
 use Rattle.whole.proofs.InTurn.{none-of-both, second-decides}
 use Rattle.whole.proofs.Rules.{holds, in-range, neither}
+use Rattle.whole.specs.Table.{over}
 use Rattle.account.specs.Refusals.{sum-rules}
 use Rattle.image.specs.Image.{Job, image-refusal, job-bytes}
-use Rattle.image.specs.Reader.{Buffers, buffer-lengths, read-rules, read-refusal, over, filled}
+use Rattle.image.specs.Reader.{Buffers, buffer-lengths, read-rules, read-refusal, filled}
 use Rattle.image.specs.Writer.{lent-job, part-rules, write-rules, write-refusal}
 use Rattle.image.specs.declared.Given.{Given}
 use Rattle.image.proofs.Accepted.{at-most-all}

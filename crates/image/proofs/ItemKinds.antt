@@ -7,9 +7,8 @@ use native.Mathlib.Nat.{mul-suc, mul-zero, add-comm}
 use native.Mathlib.Omega.{arith}
 use lib.ListN.{length, getD, take, drop, length-append, length-drop}
 use lib.Seq.{drop-at, take-add, getD-drop}
-use Rattle.whole.specs.Table.{table}
+use Rattle.whole.specs.Table.{table, each}
 use Rattle.whole.proofs.Table.{table-cong}
-use Rattle.image.specs.Image.{each}
 
 -- every element is a byte
 abbrev pub Bytes : List ℕ → Type 0
@@ -22,14 +21,6 @@ drop-bytes n b h k = rw (getD-drop n b k 0) (h (n + k))
 pub data All {A : Type 0} (P : A → Type 0) : List A → Type 0 where
   none : All P []
   more : {x : A} {xs : List A} → P x → All P xs → All P (x ∷ xs)
-
--- the length of the bytes of items that have so many each
-module _ {A : Type 0} (bytes : A → List ℕ) (size : ℕ) (long : (x : A) → length (bytes x) ≡ size) where
-  pub each-length : (xs : List A) → length (each bytes xs) ≡ size * length xs
-  unfolding each
-  each-length [] = sym (mul-zero size)
-  each-length (x ∷ xs) =
-      length-append (bytes x) (each bytes xs) ∙ omega (arith, long x, each-length xs, mul-suc size (length xs))
 
 -- the laws of a kind of item: how it is read at a place, its size, its bytes, and which items have bytes
 pub record Kind {A : Type 0} (item : List ℕ → ℕ → A) (size : ℕ) (bytes : A → List ℕ) (Fit : A → Type 0) : Type 0 where

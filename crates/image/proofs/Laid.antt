@@ -13,44 +13,16 @@ use mir.Val.{SFits}
 use Rattle.whole.specs.Rules.{first-broken, in-turn, outside}
 use Rattle.whole.specs.Search.{any-beyond}
 use Rattle.whole.proofs.Rules.{holds}
+use Rattle.whole.specs.Table.{each}
 use Rattle.words.specs.Words.{word-at, word-bytes}
 use Rattle.account.specs.Refusals.{sum-rules}
 use Rattle.places.specs.Places.{places-in-turn}
 use Rattle.image.specs.Joins.{Join, weights-of, joins-of, join-rules}
-use Rattle.image.specs.Image.{
-  Job,
-  count,
-  items,
-  after,
-  bytes,
-  join-in,
-  values-in,
-  from-categories,
-  categories-in,
-  from-joins,
-  joins-in,
-  from-places,
-  places-in,
-  from-bands,
-  bands-in,
-  from-shuffles,
-  shuffles-in,
-  rest,
-  job-of,
-  value-rules,
-  category-rules,
-  band-rules,
-  shuffle-rules,
-  image-refusal,
-  each,
-  signed-bytes,
-  join-bytes,
-  section-bytes,
-  job-bytes,
-}
+use Rattle.image.specs.Image.{Job, count, items, after, bytes, join-in, values-in, from-categories, categories-in, from-joins, joins-in, from-places, places-in, from-bands, bands-in, from-shuffles, shuffles-in, rest, job-of, value-rules, category-rules, band-rules, shuffle-rules, image-refusal, signed-bytes, join-bytes, section-bytes, job-bytes}
 use Rattle.image.specs.declared.Given.{Given}
 use Rattle.image.proofs.Accepted.{part-only, Accepted, let-in}
-use Rattle.image.proofs.ItemKinds.{All, none, more, Kind, listed, each-length, listed-back}
+use Rattle.image.proofs.ItemKinds.{All, none, more, Kind, listed, listed-back}
+use Rattle.whole.proofs.Stores.{each-length}
 use Rattle.image.proofs.Items.{word-kind, signed-at, signed-kind, join-at, join-kind, bytes-back, count-back, after-back}
 use Rattle.image.proofs.JoinOrder.{joins-sound}
 use Rattle.image.proofs.JoinTable.{table-back}

@@ -10,10 +10,11 @@ use lib.Seq.{take-at}
 use Rattle.whole.specs.Rules.{first-broken, Applies, misfits}
 use Rattle.whole.specs.Search.{any-above}
 use Rattle.whole.proofs.Rules.{in-range, first-applies, worked-when-taken, kept-when-refused}
+use Rattle.whole.specs.Table.{over}
 use Rattle.account.specs.Classes.{class-rules}
 use Rattle.account.specs.Refusals.{sum-rules}
 use Rattle.image.specs.Image.{Job, count, from-categories, from-joins, from-places, from-bands, from-shuffles, job-of, job-bytes}
-use Rattle.image.specs.Reader.{Buffers, buffer-lengths, over, filled, counts-in, read-rules, read-refusal, read-counts, read-left}
+use Rattle.image.specs.Reader.{Buffers, buffer-lengths, filled, counts-in, read-rules, read-refusal, read-counts, read-left}
 use Rattle.image.specs.Writer.{lent-job, write-rules, write-refusal, write-length, write-left}
 use Rattle.image.specs.RoundTrip.{ReadBack, given-in, left, WrittenBack, TakenByAll}
 use Rattle.image.specs.declared.Given.{Given}

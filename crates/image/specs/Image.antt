@@ -10,7 +10,7 @@ use mir.Syntax.{w32}
 use mir.Val.{toZ, ofZ}
 use Rattle.whole.specs.Rules.{Rule, first-broken, in-turn, outside}
 use Rattle.whole.specs.Search.{any-beyond, any-above}
-use Rattle.whole.specs.Table.{table}
+use Rattle.whole.specs.Table.{table, each}
 use Rattle.words.specs.Words.{byte-at, two-at, word-at, two-bytes, word-bytes}
 use Rattle.account.specs.Rank.{any-lacking}
 use Rattle.account.specs.Refusals.{sum-rules}
@@ -187,11 +187,6 @@ unfoldable pub image-refusal : List ℕ → ℕ
 image-refusal image = first-broken (image-rules image)
 
 -- ---- the bytes of a job, whose counts are given: it counts the joins itself
-
--- the bytes of each item, one after the other
-unfoldable pub each : {A : Type 0} → (A → List ℕ) → List A → List ℕ
-each bytes [] = []
-each bytes (item ∷ more) = bytes item ++ each bytes more
 
 abbrev pub signed-bytes : ℤ → List ℕ
 signed-bytes x = word-bytes (ofZ w32 x)

@@ -4,6 +4,7 @@ use Prim.Native.Nat.{ℕ}
 use lib.IntN.{ℤ}
 use lib.ListN.{length, drop}
 use Rattle.whole.specs.Rules.{Rule, first-broken, misfits, unless-refused}
+use Rattle.whole.specs.Table.{over}
 use Rattle.image.specs.Image.{Job, count, from-categories, from-joins, from-places, from-bands, from-shuffles, job-of, image-rules}
 
 -- the six lent buffers, which the writer is lent too
@@ -58,10 +59,6 @@ counts-in image =
 -- the counts that the call answers, none where it is refused
 unfoldable pub read-counts : List ℕ → Buffers → List ℕ
 read-counts image lent = unless-refused (read-refusal image lent) (counts-in image) []
-
--- a list written over the front of another, whose further entries keep what they held
-abbrev pub over : {A : Type 0} → List A → List A → List A
-over new old = new ++ drop (length new) old
 
 -- the buffers with a job in them
 unfoldable pub filled : Job → Buffers → Buffers

@@ -6,6 +6,7 @@ use mathlib.Core.List.{List, [], _∷_}
 use Prim.Native.Nat.{ℕ, _*_}
 use lib.IntN.{ℤ}
 use lib.ListN.{length, take}
+use Rattle.whole.specs.Table.{over}
 use Rattle.account.specs.Refusals.{account-refusal}
 use Rattle.account.specs.Rank.{rank-refusal}
 use Rattle.joins.specs.Joins.{join-refusal}
@@ -13,7 +14,7 @@ use Rattle.places.specs.Gabriel.{gabriel-refusal}
 use Rattle.places.specs.Bands.{band-refusal}
 use Rattle.image.specs.Joins.{joins-of}
 use Rattle.image.specs.Image.{count, from-categories, from-places, from-bands, from-shuffles, job-of, job-bytes}
-use Rattle.image.specs.Reader.{Buffers, over, read-refusal, read-counts, read-left}
+use Rattle.image.specs.Reader.{Buffers, read-refusal, read-counts, read-left}
 use Rattle.image.specs.Writer.{lent-job, write-refusal, write-length, write-left}
 use Rattle.image.specs.declared.Given.{Given}
 

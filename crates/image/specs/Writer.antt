@@ -4,6 +4,7 @@ use Prim.Native.Nat.{ℕ, _*_}
 use lib.Dec.{ltb}
 use lib.ListN.{length, take}
 use Rattle.whole.specs.Rules.{Rule, first-broken, in-turn, misfits, unless-refused}
+use Rattle.whole.specs.Table.{over}
 use Rattle.account.specs.Refusals.{sum-rules}
 use Rattle.places.specs.Places.{places-in-turn}
 use Rattle.image.specs.Joins.{weight-rules}
@@ -19,7 +20,7 @@ use Rattle.image.specs.Image.{
   shuffle-rules,
   job-bytes,
 }
-use Rattle.image.specs.Reader.{Buffers, buffer-lengths, over}
+use Rattle.image.specs.Reader.{Buffers, buffer-lengths}
 use Rattle.image.specs.declared.Given.{Given}
 
 -- the job in the buffers: unused entries are no part of it

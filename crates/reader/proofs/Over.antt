@@ -4,9 +4,8 @@ use mathlib.Core.List.{List, _++_}
 use Prim.Native.Nat.{ℕ, _-_, _≤_}
 use lib.ListN.{length, take, drop}
 use lib.Seq.{length-take-le}
-use Rattle.whole.specs.Table.{table}
+use Rattle.whole.specs.Table.{table, over}
 use Rattle.whole.proofs.Table.{table-length}
-use Rattle.image.specs.Reader.{over}
 use Rattle.reader.proofs.Parts.{read-from}
 
 module _ {A : Type 0} where

@@ -6,7 +6,7 @@ use native.Mathlib.Nat as N
 use native.Mathlib.Omega.{arith}
 use lib.IntN.{ℤ}
 use lib.ListN.{length, drop}
-use Rattle.whole.specs.Table.{table}
+use Rattle.whole.specs.Table.{table, over}
 use Rattle.whole.proofs.Lists.{few}
 use Rattle.image.specs.Joins.{weights-of}
 use Rattle.image.specs.Image.{
@@ -22,7 +22,7 @@ use Rattle.image.specs.Image.{
   from-shuffles,
   job-of,
 }
-use Rattle.image.specs.Reader.{Buffers, buffers, over, filled}
+use Rattle.image.specs.Reader.{Buffers, buffers, filled}
 use Rattle.image.proofs.Accepted.{accepted, counted}
 use Rattle.image.proofs.Buffers.{exact}
 use Rattle.reader.specs.Steps.{Joinable, LaidOut, Storable}

@@ -4,10 +4,10 @@ use crate::judging::Layout;
 ghost use mathlib.Core.Path.{_≡_};
 ghost use Prim.Native.Nat.{_+_, _*_, _≤_};
 ghost use lib.ListN.{length, drop};
-ghost use Rattle.whole.specs.Table.{table};
+ghost use Rattle.whole.specs.Table.{table, over};
 ghost use Rattle.image.specs.Joins.{weights-of};
 ghost use Rattle.image.specs.Image.{job-of, signed-words, words, bytes, join-in};
-ghost use Rattle.image.specs.Reader.{buffers, over, filled};
+ghost use Rattle.image.specs.Reader.{buffers, filled};
 ghost use Rattle.reader.specs.Steps.{Joinable, Storable};
 
 // The first k 4-byte signed numbers from a place on.

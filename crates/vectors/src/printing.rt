@@ -2,8 +2,8 @@
 use account::Counts;
 use account::RankAnswer;
 use account::Sums;
-use report::Coefficient;
-use report::Pair;
+use coefficients::Coefficient;
+use coefficients::Pair;
 
 // ---- whole numbers
 
@@ -122,12 +122,12 @@ fn print_pair(pair: Pair) {
     print_coefficient(geary);
 }
 
-pub fn print_whole(answer: report::Answer) {
+pub fn print_whole(answer: coefficients::Answer) {
     match answer {
-        report::Answer::Refused(number) => {
+        coefficients::Answer::Refused(number) => {
             print_refusal(number);
         }
-        report::Answer::Reported(pair) => {
+        coefficients::Answer::Reported(pair) => {
             print_pair(pair);
         }
     }

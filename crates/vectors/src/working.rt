@@ -59,7 +59,7 @@ pub fn work_report(
 {
     let mut lent_locals: [f64; 66] = [0.5; 66];
     let mut lent_parts: [f64; 600] = [0.5; 600];
-    let report = report::float_report(
+    let report = coefficients::float_report(
         n,
         values,
         weights,

@@ -18,3 +18,4 @@ pub mod Sign
 pub mod Accumulate
 pub mod Lists
 pub mod Network
+pub mod Stores

@@ -2,7 +2,7 @@
 use mathlib.Core.List.{List, [], _∷_, _++_}
 use Prim.Native.Nat.{ℕ, zero, suc, _+_, _*_}
 use lib.IntN.{ℤ, pos}
-use lib.ListN.{getD}
+use lib.ListN.{length, getD, drop}
 
 -- the list f 0, f 1, .., f (n − 1)
 unfoldable pub table : {A : Type 0} → (ℕ → A) → ℕ → List A
@@ -21,3 +21,12 @@ at numbers k = getD numbers k (pos 0)
 -- what a list that has a row of n for each i holds of the ordered pair (i,j)
 unfoldable pub pair-at : List ℕ → ℕ → ℕ → ℕ → ℕ
 pair-at numbers n i j = getD numbers (i * n + j) 0
+
+-- the bytes of each item, one after the other
+unfoldable pub each : {A : Type 0} → (A → List ℕ) → List A → List ℕ
+each bytes [] = []
+each bytes (item ∷ more) = bytes item ++ each bytes more
+
+-- a list written over the front of another, whose further entries keep what they held
+abbrev pub over : {A : Type 0} → List A → List A → List A
+over new old = new ++ drop (length new) old

@@ -8,9 +8,10 @@ use lib.ListN.{length}
 use Rattle.whole.specs.Rules.{Rule, first-broken, misfits, outside}
 use Rattle.whole.proofs.InTurn.{Numbered, second-decides, none-of-both, numbered-both}
 use Rattle.whole.proofs.Rules.{holds, in-range, first-here, kept-when-refused, worked-when-taken}
+use Rattle.whole.specs.Table.{over}
 use Rattle.account.specs.Refusals.{sum-rules}
 use Rattle.image.specs.Image.{Job, zone-count-rule, job-bytes}
-use Rattle.image.specs.Reader.{Buffers, buffer-lengths, over}
+use Rattle.image.specs.Reader.{Buffers, buffer-lengths}
 use Rattle.image.specs.Writer.{lent-job, part-rules, write-rules, write-refusal, write-length, write-left}
 use Rattle.image.specs.declared.Given.{Given}
 use Rattle.writer.specs.Steps.{Sized, job-rules}

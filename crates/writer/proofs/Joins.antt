@@ -6,10 +6,11 @@ use native.Mathlib.Nat as N
 use native.Mathlib.Omega.{arith}
 use lib.ListN.{length, getD, take, drop, length-append, take-append-drop}
 use lib.Seq.{length-take-le}
+use Rattle.whole.specs.Table.{each}
 use Rattle.image.specs.Joins.{Join, joins-from, joins-of}
-use Rattle.image.specs.Image.{each, join-bytes}
+use Rattle.image.specs.Image.{join-bytes}
 use Rattle.writer.specs.Steps.{one-of, bytes-of}
-use Rattle.writer.proofs.Stores.{front-next, front-all, each-both}
+use Rattle.whole.proofs.Stores.{front-next, front-all, each-both}
 
 -- the row and the column of a place in a table of up to 64 zones are bytes
 pub place-small : (n p : ℕ) → 2 ≤ n → n ≤ 64 → p < n * n → (p / n < 256) × (p % n < 256)

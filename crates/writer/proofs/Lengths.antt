@@ -5,14 +5,15 @@ use Prim.Native.Nat.{ℕ, _+_, _*_, _≤_}
 use native.Mathlib.Nat as N
 use native.Mathlib.Omega.{arith}
 use lib.ListN.{length, take, length-append}
+use Rattle.whole.specs.Table.{each}
 use Rattle.words.specs.Words.{word-bytes}
 use Rattle.image.specs.Joins.{Join, joins-of}
-use Rattle.image.specs.Image.{each, signed-bytes, join-bytes, section-bytes, job-bytes}
+use Rattle.image.specs.Image.{signed-bytes, join-bytes, section-bytes, job-bytes}
 use Rattle.image.specs.Reader.{Buffers}
 use Rattle.image.specs.Writer.{lent-job}
 use Rattle.image.specs.declared.Given.{Given}
 use Rattle.writer.specs.Steps.{Counted, length-with}
-use Rattle.image.proofs.ItemKinds.{each-length}
+use Rattle.whole.proofs.Stores.{each-length}
 use Rattle.writer.proofs.Parts.{Whole, regroup}
 
 -- a length with counts that are within their limits

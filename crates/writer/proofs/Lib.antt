@@ -1,5 +1,5 @@
 -- Laws of the writer, each file named by its subject.
-pub mod Stores
+pub mod SectionPut
 pub mod Bits
 pub mod Joins
 pub mod Parts

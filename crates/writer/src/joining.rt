@@ -5,8 +5,9 @@ ghost use Prim.Native.Nat.{ℕ, _+_, _*_, _/_, _%_, _≤_, _<_};
 ghost use lib.ListN.{length};
 ghost use lib.Seq.{sets};
 ghost use Rattle.whole.specs.Rules.{first-broken, in-turn};
+ghost use Rattle.whole.specs.Table.{each};
 ghost use Rattle.image.specs.Joins.{joins-of, weight-rules};
-ghost use Rattle.image.specs.Image.{each, join-bytes};
+ghost use Rattle.image.specs.Image.{join-bytes};
 ghost use Rattle.writer.specs.Steps.{Tabled, one-of, bytes-of};
 
 // The first number of a table of weights, row by row: 5 before 4 at each weight.

@@ -5,8 +5,9 @@ ghost use lib.ListN.{length};
 ghost use lib.Seq.{sets};
 ghost use mir.Syntax.{w32};
 ghost use mir.Val.{ofZ};
+ghost use Rattle.whole.specs.Table.{each};
 ghost use Rattle.words.specs.Words.{two-bytes, word-bytes};
-ghost use Rattle.image.specs.Image.{each, signed-bytes};
+ghost use Rattle.image.specs.Image.{signed-bytes};
 
 // The two bytes of a count.
 pub fn put_count(out: &mut [u8], at: usize, k: usize)

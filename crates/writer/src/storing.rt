@@ -6,10 +6,11 @@ ghost use mathlib.Core.Path.{_≡_};
 ghost use Prim.Native.Nat.{_+_, _*_, _≤_, _<_};
 ghost use lib.ListN.{length};
 ghost use lib.Seq.{sets};
+ghost use Rattle.whole.specs.Table.{each, over};
 ghost use Rattle.words.specs.Words.{word-bytes};
 ghost use Rattle.image.specs.Joins.{joins-of};
-ghost use Rattle.image.specs.Image.{each, signed-bytes, join-bytes, section-bytes, job-bytes};
-ghost use Rattle.image.specs.Reader.{buffers, over};
+ghost use Rattle.image.specs.Image.{signed-bytes, join-bytes, section-bytes, job-bytes};
+ghost use Rattle.image.specs.Reader.{buffers};
 ghost use Rattle.image.specs.Writer.{lent-job};
 ghost use Rattle.writer.specs.Steps.{Tabled, Storable, Counted, length-with};
 

@@ -4,7 +4,7 @@ use Prim.Native.Nat.{_+_, _-_, _/_, _%_, _≤_}
 use native.Mathlib.Omega.{arith}
 use lib.ListN.{length, getD, length-append}
 use Rattle.writer.specs.Steps.{bytes-of}
-use Rattle.writer.proofs.Stores.{Stored, stored-length, stored-none, stored-next, stored-all}
+use Rattle.whole.proofs.Stores.{Stored, stored-length, stored-none, stored-next, stored-all}
 use Rattle.writer.proofs.Joins.{bytes-before, none-put, next-put, all-put, before-within, place-small}
 use Rattle.writer.proofs.joining.put_joins.Statement.{statement}
 use Rattle.writer.proofs.joining.put_joins.Tie as tie

@@ -5,7 +5,7 @@ use Prim.Native.Nat.{_+_, _-_, _≤_}
 use native.Mathlib.Omega.{arith}
 use lib.ListN.{length, getD, take}
 use lib.Seq.{length-take-le}
-use Rattle.writer.proofs.Stores.{Stored, stored-length, stored-none, stored-next, stored-all, front-next, front-all}
+use Rattle.whole.proofs.Stores.{Stored, stored-length, stored-none, stored-next, stored-all, front-next, front-all}
 use Rattle.writer.proofs.putting.put_bytes.Statement.{statement}
 use Rattle.writer.proofs.putting.put_bytes.Tie as tie
 

@@ -9,9 +9,10 @@ use lib.Seq.{sets}
 use mir.Syntax.{w32}
 use mir.Val.{ofZ}
 use mir.ValLaws.{toZ-ofZ}
+use Rattle.whole.specs.Table.{each}
 use Rattle.words.specs.Words.{word-bytes}
-use Rattle.image.specs.Image.{each, signed-bytes}
-use Rattle.writer.proofs.Stores.{Stored, stored-length, stored-none, stored-all, front-all, each-none, item-next}
+use Rattle.image.specs.Image.{signed-bytes}
+use Rattle.whole.proofs.Stores.{Stored, stored-length, stored-none, stored-all, front-all, each-none, item-next}
 use Rattle.writer.proofs.putting.put_signed.Statement.{statement}
 use Rattle.writer.proofs.putting.put_signed.Tie as tie
 

@@ -3,9 +3,9 @@ use mathlib.Core.Path.{refl, ap}
 use Prim.Native.Nat.{_-_, _≤_}
 use native.Mathlib.Omega.{arith}
 use lib.ListN.{length, take}
+use Rattle.whole.specs.Table.{each}
 use Rattle.words.specs.Words.{word-bytes}
-use Rattle.image.specs.Image.{each}
-use Rattle.writer.proofs.Stores.{Stored, stored-length, stored-none, stored-all, front-all, each-none, item-next}
+use Rattle.whole.proofs.Stores.{Stored, stored-length, stored-none, stored-all, front-all, each-none, item-next}
 use Rattle.writer.proofs.putting.put_words.Statement.{statement}
 use Rattle.writer.proofs.putting.put_words.Tie as tie
 

@@ -1,6 +1,6 @@
 -- `put_bytes_section` meets its contract: the count is stored, and the numbers behind it. Assumes nothing.
 use borrow.Author.Needs.{needs}
-use Rattle.writer.proofs.Stores.{section-put}
+use Rattle.writer.proofs.SectionPut.{section-put}
 use Rattle.writer.proofs.storing.put_bytes_section.Statement.{statement}
 use Rattle.writer.proofs.storing.put_bytes_section.Tie as tie
 

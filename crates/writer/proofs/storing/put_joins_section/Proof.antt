@@ -3,10 +3,11 @@ use mathlib.Core.Path.{refl}
 use native.Mathlib.Omega.{arith}
 use borrow.Author.Needs.{needs}
 use Rattle.whole.proofs.Lists.{few}
+use Rattle.whole.specs.Table.{each}
 use Rattle.image.specs.Joins.{joins-of}
-use Rattle.image.specs.Image.{each, join-bytes}
-use Rattle.image.proofs.ItemKinds.{each-length}
-use Rattle.writer.proofs.Stores.{section-put}
+use Rattle.image.specs.Image.{join-bytes}
+use Rattle.whole.proofs.Stores.{each-length}
+use Rattle.writer.proofs.SectionPut.{section-put}
 use Rattle.writer.proofs.Joins.{joins-few}
 use Rattle.writer.proofs.storing.put_joins_section.Statement.{statement}
 use Rattle.writer.proofs.storing.put_joins_section.Tie as tie

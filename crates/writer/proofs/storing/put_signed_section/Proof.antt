@@ -1,7 +1,8 @@
 -- `put_signed_section` meets its contract: the count is stored, and the numbers' bytes behind it. Assumes nothing.
 use borrow.Author.Needs.{needs}
-use Rattle.image.specs.Image.{each, signed-bytes}
-use Rattle.writer.proofs.Stores.{section-put}
+use Rattle.whole.specs.Table.{each}
+use Rattle.image.specs.Image.{signed-bytes}
+use Rattle.writer.proofs.SectionPut.{section-put}
 use Rattle.writer.proofs.storing.put_signed_section.Statement.{statement}
 use Rattle.writer.proofs.storing.put_signed_section.Tie as tie
 

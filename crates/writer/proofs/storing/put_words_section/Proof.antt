@@ -1,8 +1,8 @@
 -- `put_words_section` meets its contract: the count is stored, and the numbers' bytes behind it. Assumes nothing.
 use borrow.Author.Needs.{needs}
+use Rattle.whole.specs.Table.{each}
 use Rattle.words.specs.Words.{word-bytes}
-use Rattle.image.specs.Image.{each}
-use Rattle.writer.proofs.Stores.{section-put}
+use Rattle.writer.proofs.SectionPut.{section-put}
 use Rattle.writer.proofs.storing.put_words_section.Statement.{statement}
 use Rattle.writer.proofs.storing.put_words_section.Tie as tie
 

@@ -6,10 +6,11 @@ use native.Mathlib.Omega.{arith}
 use borrow.Author.Needs.{needs}
 use lib.ListN.{length}
 use Rattle.whole.proofs.Lists.{few}
-use Rattle.image.specs.Reader.{Buffers, buffers, over}
+use Rattle.whole.specs.Table.{over}
+use Rattle.image.specs.Reader.{Buffers, buffers}
 use Rattle.image.specs.declared.Given.{Given}
 use Rattle.writer.specs.Steps.{length-with}
-use Rattle.writer.proofs.Stores.{Stored, stored-length, stored-next, stored-over}
+use Rattle.whole.proofs.Stores.{Stored, stored-length, stored-next, stored-over}
 use Rattle.writer.proofs.Parts.{Whole, whole}
 use Rattle.writer.proofs.Lengths as L
 use Rattle.writer.proofs.storing.store.Statement.{statement}

@@ -1,0 +1,39 @@
+-- The coefficients of a job and of its classes, from the whole numbers of the account. Assumes nothing.
+use mathlib.Core.Bool.{cond}
+use mathlib.Core.List.{List}
+use Prim.Native.Nat.{ℕ, _*_, _-_}
+use lib.Ieee.{Float}
+use lib.IntN.{ℤ, pos, _*ℤ_}
+use lib.ListN.{length}
+use Rattle.whole.specs.Integer.{is-zero}
+use Rattle.whole.specs.Table.{table, at, pair-at}
+use Rattle.nearest.specs.Answers.{nearest-float}
+use Rattle.account.specs.Measures.{spread-of}
+use Rattle.account.specs.Answers.{class-row}
+use Rattle.account.specs.Classes.{class-row-of}
+use Rattle.account.specs.declared.ClassRow.{ClassRow}
+use Rattle.coefficients.specs.declared.Coefficient.{Coefficient}
+use Rattle.coefficients.specs.declared.Coefficient.the-variants.{Figure, Weightless}
+use Rattle.coefficients.specs.declared.Pair.{Pair}
+
+-- the nearest float to p / q where the weight W is above 0; where it is 0 there is no coefficient
+unfoldable pub coefficient : ℤ → ℤ → ℤ → Coefficient
+coefficient weight p q = cond (is-zero weight) Weightless (Figure (nearest-float p q))
+
+-- Moran's I = P / (W × M) and Geary's c = ((n − 1) × n × G) / (2 × W × M), of the sums W, P and G in a class row
+unfoldable pub pair-of : ℕ → ℤ → ClassRow → Pair
+pair-of n spread row = record {
+  moran = coefficient (row .weight) (row .cross) (row .weight *ℤ spread);
+  geary = coefficient (row .weight) (pos ((n - 1) * n) *ℤ row .squares) ((pos 2 *ℤ row .weight) *ℤ spread);
+}
+
+-- of the whole job, and of class k, whose M is the whole job's
+unfoldable pub job-pair : ℕ → List ℤ → List ℕ → Pair
+job-pair n values weights = pair-of n (spread-of (at values) n) (class-row (pair-at weights n) (at values) n)
+
+unfoldable pub class-pair : ℕ → List ℤ → List ℕ → List ℕ → ℕ → Pair
+class-pair n values weights classes k = pair-of n (spread-of (at values) n) (class-row-of n values weights classes k)
+
+-- the local Moran L / M of each local numerator of a list
+unfoldable pub local-figures : ℤ → List ℤ → List Float
+local-figures spread numerators = table (λ i. nearest-float (at numerators i) spread) (length numerators)

@@ -1,0 +1,118 @@
+// The report's own judge, what it answers to a refusal, and its work on a job that was accepted.
+use crate::Answer;
+use crate::Coefficient;
+use crate::Pair;
+use crate::Report;
+use crate::forming;
+use account::ClassRow;
+use account::Sums;
+ghost use mathlib.Core.Path.{_≡_};
+ghost use mathlib.Core.List.{[], _∷_};
+ghost use Prim.Native.Nat.{_*_};
+ghost use lib.ListN.{length};
+ghost use Rattle.whole.specs.Rules.{first-broken, size-rules};
+ghost use Rattle.whole.specs.Table.{table, at};
+ghost use Rattle.account.specs.Measures.{spread-of};
+ghost use Rattle.account.specs.Answers.{five, job-figures, job-locals};
+ghost use Rattle.account.specs.Classes.{row-at};
+ghost use Rattle.account.specs.Refusals.{account-refusal};
+ghost use Rattle.coefficients.specs.Coefficients.{pair-of, job-pair, local-figures};
+ghost use Rattle.coefficients.specs.FloatReport.{no-pair};
+ghost use Rattle.coefficients.specs.Steps.{Reportable};
+ghost use Rattle.coefficients.specs.declared.Answer.the-variants.{Refused, Reported};
+
+// 1 and 2, of n and the two lists of floats.
+pub fn judge_lent(n: usize, figures: usize, parts: usize) -> u8
+    ensures { λ r. ⌜ r ≡ first-broken (size-rules n ((figures, n) ∷ (parts, 9 * n) ∷ [])) ⌝ }
+{
+    if n < 2 {
+        return 1;
+    }
+    if n > 64 {
+        return 1;
+    }
+    if figures != n {
+        return 2;
+    }
+    if parts != 9 * n {
+        return 2;
+    }
+    0
+}
+
+// A refusal: no class has a coefficient.
+pub fn refused(number: u8) -> Report
+    ensures { λ r. ⌜ r ≡ record { whole = Refused number; classes = table (λ k. no-pair) 9 } ⌝ }
+{
+    let none = Pair {
+        moran: Coefficient::Weightless,
+        geary: Coefficient::Weightless,
+    };
+    let classes = [none, none, none, none, none, none, none, none, none];
+    Report {
+        whole: Answer::Refused(number),
+        classes: classes,
+    }
+}
+
+// The sums of a job that the account accepts, with its local numerators in `numerators`.
+pub fn job_sums(n: usize, values: &[i32], weights: &[u8], numerators: &mut [i64]) -> Sums
+    requires { ⌜ account-refusal n (now values) (now weights) (now numerators) ≡ 0 ⌝ }
+    ensures { λ r. ⌜ five r ≡ job-figures n (now (values .entry)) (now (weights .entry)) ⌝ }
+    ensures { λ _. ⌜ now (numerators .exit) ≡ job-locals n (now (values .entry)) (now (weights .entry)) ⌝ }
+{
+    match account::account(n, values, weights, numerators) {
+        account::Answer::Accounted(sums) => sums,
+        account::Answer::Refused(_) => Sums {
+            total: 0,
+            spread: 0,
+            weight: 0,
+            cross: 0,
+            squares: 0,
+        },
+    }
+}
+
+// The report of an accepted job, whose class account left `rows`, and in `numerators` the local numerators of each class.
+pub fn report_job(
+    n: usize,
+    values: &[i32],
+    weights: &[u8],
+    rows: &[i64],
+    numerators: &[i64],
+    figures: &mut [f64],
+    parts: &mut [f64],
+) -> Report
+    requires { ⌜ Reportable n (now values) (now weights) (now rows) (now numerators) ⌝ }
+    requires { ⌜ length (now figures) ≡ n ⌝ }
+    requires { ⌜ length (now parts) ≡ length (now numerators) ⌝ }
+    ensures { λ r. ⌜ r ≡ record {
+      whole = Reported (job-pair n (now (values .entry)) (now (weights .entry)));
+      classes = table (λ k. pair-of n (spread-of (at (now (values .entry))) n) (row-at (now (rows .entry)) k)) 9;
+    } ⌝ }
+    ensures { λ _. ⌜ now (figures .exit)
+        ≡ local-figures (spread-of (at (now (values .entry))) n) (job-locals n (now (values .entry)) (now (weights .entry))) ⌝ }
+    ensures { λ _. ⌜ now (parts .exit) ≡ local-figures (spread-of (at (now (values .entry))) n) (now (numerators .entry)) ⌝ }
+{
+    let mut own: [i64; 64] = [0; 64];
+    let sums = job_sums(n, values, weights, &mut own[..n]);
+    let spread = sums.spread;
+    let weight = sums.weight;
+    let cross = sums.cross;
+    let squares = sums.squares;
+    forming::put_figures(spread, &own[..n], figures);
+    forming::put_figures(spread, numerators, parts);
+    let whole = forming::pair(
+        n,
+        spread,
+        ClassRow {
+            weight: weight,
+            cross: cross,
+            squares: squares,
+        },
+    );
+    Report {
+        whole: Answer::Reported(whole),
+        classes: forming::class_pairs(n, spread, rows),
+    }
+}
