@@ -40,7 +40,7 @@ ordered-some : (n : ℕ) → 2 ≤ n → 1 ≤ (n - 1) * n
 ordered-some n h = N.mul-le-mul {n₁ = 1} {m₁ = 1} (omega arith) (omega arith)
 
 -- a factor is no larger than a product whose other factor is not 0
-left-le : (a b : ℤ) (m : ℕ) → 1 ≤ natAbs b → natAbs (a *ℤ b) ≤ m → natAbs a ≤ m
+pub left-le : (a b : ℤ) (m : ℕ) → 1 ≤ natAbs b → natAbs (a *ℤ b) ≤ m → natAbs a ≤ m
 left-le a b m h g = omega (arith, size-* a b, N.mul-le-mul-left (natAbs a) h)
 
 right-le : (a b : ℤ) (m : ℕ) → 1 ≤ natAbs a → natAbs (a *ℤ b) ≤ m → natAbs b ≤ m

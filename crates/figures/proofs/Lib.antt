@@ -1,2 +1,3 @@
 -- That the table is right.
 pub mod Computed
+pub mod Printed

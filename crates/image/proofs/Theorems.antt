@@ -13,15 +13,17 @@ use Rattle.whole.proofs.Rules.{in-range, first-applies, worked-when-taken, kept
 use Rattle.whole.specs.Table.{over}
 use Rattle.account.specs.Classes.{class-rules}
 use Rattle.account.specs.Refusals.{sum-rules}
-use Rattle.image.specs.Image.{Job, count, from-categories, from-joins, from-places, from-bands, from-shuffles, job-of, job-bytes}
+use Rattle.image.specs.Image.{Job, count, from-categories, from-joins, from-places, from-bands, from-shuffles, job-of, image-refusal, job-bytes}
 use Rattle.image.specs.Reader.{Buffers, buffer-lengths, filled, counts-in, read-rules, read-refusal, read-counts, read-left}
 use Rattle.image.specs.Writer.{lent-job, write-rules, write-refusal, write-length, write-left}
 use Rattle.image.specs.RoundTrip.{ReadBack, given-in, left, WrittenBack, TakenByAll}
 use Rattle.image.specs.declared.Given.{Given}
-use Rattle.image.proofs.Accepted.{accepted, counted}
+use Rattle.image.proofs.Accepted.{Counted, accepted, counted}
 use Rattle.image.proofs.BytesBack.{within-counts, image-parts, bytes-same}
 use Rattle.image.proofs.Buffers.{Exact, exact}
 use Rattle.image.proofs.Called.{
+  Within,
+  Limited,
   read-taken,
   read-let-in,
   limited,
@@ -155,3 +157,33 @@ write-leaves given lent out f =
 pub read-stores : (image : List ℕ) (lent : Buffers) → read-refusal image lent ≡ 0 → read-left image lent ≡ filled (job-of image) lent
 unfolding read-left
 read-stores image lent e = worked-when-taken (read-refusal image lent) (filled (job-of image) lent) lent e
+
+-- ---- the job that a read leaves at the front of the buffers, which keep their lengths; how long its lists are, and how long they can be
+module _ (image : List ℕ) (lent : Buffers) (e : read-refusal image lent ≡ 0) where
+  pub job-counted : Counted image
+  job-counted = counted image (accepted image (read-taken image lent e .1))
+
+  pub job-lengths : Within (given-in image) (job-of image)
+  job-lengths = within-counts image (accepted image (read-taken image lent e .1))
+
+  pub job-limits : Limited (given-in image)
+  unfolding given-in
+  job-limits =
+      let a = accepted image (read-taken image lent e .1) in
+      limited (given-in image) (job-of image) (in-range 2 64 (count image) (a .values .counted) .1) (image-parts image a)
+
+  pub job-left : lent-job (given-in image) (read-left image lent) ≡ job-of image
+  job-left = ap (lent-job (given-in image)) (read-stores image lent e) ∙ lent-filled (given-in image) (job-of image) job-lengths lent
+
+  pub lengths-left : Exact (read-left image lent)
+  lengths-left =
+      subst (λ (b : Buffers). Exact b) (sym (read-stores image lent e))
+      (filled-exact (given-in image) (job-of image) job-lengths job-limits lent (read-taken image lent e .0))
+
+-- ---- an image that is read is accepted; buffers of their exact lengths break no rule of the call, so that the image alone decides
+pub read-accepted : (image : List ℕ) (lent : Buffers) → read-refusal image lent ≡ 0 → image-refusal image ≡ 0
+read-accepted image lent e = read-taken image lent e .1
+
+pub image-decides : (image : List ℕ) (lent : Buffers) → misfits (buffer-lengths lent) ≡ false → read-refusal image lent ≡ image-refusal image
+unfolding read-refusal read-rules image-refusal
+image-decides image lent x = rw x

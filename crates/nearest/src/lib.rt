@@ -2,7 +2,6 @@
 mod division;
 mod rounding;
 mod scaling;
-mod signs;
 
 ghost use mathlib.Core.Bool.{false};
 ghost use mathlib.Core.Path.{_≡_};

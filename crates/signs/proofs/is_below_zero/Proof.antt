@@ -1,7 +1,7 @@
 -- `is_below_zero` meets its contract. Assumes nothing.
 use Rattle.whole.proofs.Sign.{sign-read}
-use Rattle.nearest.proofs.signs.is_below_zero.Statement.{statement}
-use Rattle.nearest.proofs.signs.is_below_zero.Tie as tie
+use Rattle.signs.proofs.is_below_zero.Statement.{statement}
+use Rattle.signs.proofs.is_below_zero.Tie as tie
 
 returns : tie.Need-returns
 returns c = sign-read (c .args .z) (c .fits .z)

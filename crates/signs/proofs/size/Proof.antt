@@ -1,8 +1,8 @@
 -- `size` meets its contract. Assumes nothing.
 use borrow.Author.Needs.{needs}
 use Rattle.whole.proofs.Sign.{not-below, below, Turned}
-use Rattle.nearest.proofs.signs.size.Statement.{statement}
-use Rattle.nearest.proofs.signs.size.Tie as tie
+use Rattle.signs.proofs.size.Statement.{statement}
+use Rattle.signs.proofs.size.Tie as tie
 
 turned : (c : tie.Then1) → Turned (c .before .args .z)
 turned c = below (c .before .args .z) (c .before .fits .z) (c .if1 .taken)

@@ -1,0 +1,228 @@
+-- The lines of a job are those that its account, its pair and its hot list give. Assumes nothing.
+use mathlib.Core.Path.{_≡_, refl, sym, ap, _∙_}
+use mathlib.Core.Bool.{false, cond}
+use mathlib.Core.List.{List, [], _∷_, _++_, append-assoc}
+use Prim.Native.Nat.{ℕ, suc, _*_, _<_}
+use native.Mathlib.Omega.{arith}
+use borrow.Author.Tests.{eq-eqb, ne-eqb}
+use lib.Dec.{eqb}
+use lib.Ieee.{Float}
+use lib.IntN.{ℤ, pos, natAbs}
+use lib.ListN.{length, getD}
+use mir.Syntax.{w64}
+use Rattle.whole.specs.Integer.{is-zero}
+use Rattle.whole.specs.Rules.{ratio-limit}
+use Rattle.whole.specs.Table.{table, at, pair-at, each}
+use Rattle.whole.proofs.Machine.{back, r64}
+use Rattle.whole.proofs.Rules.{worked-when-taken}
+use Rattle.whole.proofs.Size.{one-some}
+use Rattle.whole.proofs.Stores.{each-same}
+use Rattle.whole.proofs.Table.{table-length, table-at}
+use Rattle.nearest.specs.Answers.{nearest-float}
+use Rattle.nearest.proofs.Theorems.{not-nan}
+use Rattle.account.specs.Measures.{total-of, deviation-of, spread-of, weight-of, cross-of, squares-of}
+use Rattle.account.specs.Answers.{five, class-row, job-figures, job-locals}
+use Rattle.account.specs.Refusals.{account-refusal}
+use Rattle.account.specs.HotList.{hot-list}
+use Rattle.account.specs.declared.Sums.{Sums}
+use Rattle.account.proofs.Theorems.{accepted-limits, weight-one, spread-one, job-locals-length}
+use Rattle.account.proofs.HotTheorems.{hot-list-length, hot-list-each}
+use Rattle.coefficients.specs.Coefficients.{pair-of, job-pair, class-pair, local-figures}
+use Rattle.coefficients.specs.Coefficients as coefficients
+use Rattle.coefficients.specs.FloatReport.{pair-in, no-pair, report-refusal, report-whole, report-classes, report-figures}
+use Rattle.coefficients.specs.declared.Answer.{Answer}
+use Rattle.coefficients.specs.declared.Answer.the-variants.{Refused, Reported}
+use Rattle.coefficients.specs.declared.Pair.{Pair}
+use Rattle.coefficients.specs.declared.Report.{Report}
+use Rattle.report.specs.Lines.{line, numbers, bits, coefficient}
+use Rattle.report.specs.Text.{job-lines, local-line, local-lines, pair-lines, rank-line, class-line, class-lines}
+use Rattle.report.specs.Text.{numbered, where-given, job-text}
+use Rattle.report.specs.Steps.{float-at, PrintablePair, Within, Listed, Sound, Low, Classed, lists}
+use Rattle.report.specs.Steps.{sum-lines, ratio-lines, zone-line}
+use Rattle.report.proofs.Readable.{pair-printable}
+
+-- ---- the zones in hot-list order
+module _ (n : ℕ) (values : List ℤ) (weights : List ℕ) where
+  abbrev M : ℤ
+  M = spread-of (at values) n
+
+  abbrev locals : List ℤ
+  locals = job-locals n values weights
+
+  abbrev figures : List Float
+  figures = local-figures M locals
+
+  figures-length : length figures ≡ length locals
+  unfolding local-figures
+  figures-length = table-length (λ i. nearest-float (at locals i) M) (length locals)
+
+  figure-at : (i : ℕ) → i < length locals → float-at figures i ≡ nearest-float (at locals i) M
+  unfolding local-figures
+  figure-at i h = table-at (λ i. nearest-float (at locals i) M) (length locals) i (nearest-float (pos 0) (pos 1)) h
+
+  below : (k : ℕ) → k < length (hot-list n values weights) → getD (hot-list n values weights) k 0 < length locals
+  below k h =
+      let into = hot-list-each n values weights .into k (omega (arith, hot-list-length n values weights)) in
+      omega (arith, job-locals-length n values weights)
+
+  all-listed : Listed (hot-list n values weights) locals figures
+  all-listed = record {
+    there = below;
+    as-many = figures-length;
+    readable = λ k h. rw (figure-at k (omega (arith, figures-length))) (not-nan (at locals k) M);
+  }
+
+  one-zone : (zone : ℕ) → zone < length locals → zone-line locals figures M zone ≡ local-line n values weights zone
+  unfolding zone-line local-line coefficient
+  one-zone zone h = ap (λ x. line "local" (numbers (pos zone ∷ at locals zone ∷ M ∷ []) ++ bits x)) (figure-at zone h)
+
+  all-lines : each (zone-line locals figures M) (hot-list n values weights) ≡ local-lines n values weights
+  unfolding local-lines
+  all-lines =
+      each-same (zone-line locals figures M) (local-line n values weights) 0 (hot-list n values weights) (λ k h. one-zone _ (below k h))
+
+  -- as the lists and the spread that were handed out hold them
+  module _ {zones : List ℕ} {held : List ℤ} {floats : List Float}
+      (e : zones ≡ hot-list n values weights) (g : held ≡ locals) (h : floats ≡ figures) where
+    pub listed : Listed zones held floats
+    listed = rw (e, g, h) all-listed
+
+    pub zones-are : {spread : ℤ} → spread ≡ M → each (zone-line held floats spread) zones ≡ local-lines n values weights
+    zones-are f = rw (e, f, g, h) all-lines
+
+-- ---- the pair of a job can be printed
+pub job-printable :
+    (n : ℕ) (values : List ℤ) (weights : List ℕ) (pair : Pair) → pair ≡ job-pair n values weights → PrintablePair pair
+unfolding job-pair
+job-printable n values weights pair e = rw e (pair-printable n (spread-of (at values) n) (class-row (pair-at weights n) (at values) n))
+
+-- ---- the sums that the account answers
+module _ (n : ℕ) (values : List ℤ) (weights : List ℕ) (sound : Sound n values weights) where
+  taken : account-refusal n values weights (job-locals n values weights) ≡ 0
+  taken = sound .taken (job-locals n values weights) (job-locals-length n values weights)
+
+  -- W is not 0, so that the pair has its figures
+  weighty : is-zero (weight-of (pair-at weights n) n) ≡ false
+  weighty =
+      let W = weight-of (pair-at weights n) n in
+      let some = one-some W (weight-one n values weights (job-locals n values weights) taken) in
+      ne-eqb (natAbs W) 0 (λ e. let z : ⊥ = omega arith in z)
+
+  module _ (sums : Sums) (e : five sums ≡ job-figures n values weights) where
+    total-is : sums .total ≡ total-of (at values) n
+    unfolding job-figures
+    total-is = ap (λ l. at l 0) e
+
+    spread-is : sums .spread ≡ spread-of (at values) n
+    unfolding job-figures
+    spread-is = ap (λ l. at l 1) e
+
+    weight-is : sums .weight ≡ weight-of (pair-at weights n) n
+    unfolding job-figures
+    weight-is = ap (λ l. at l 2) e
+
+    cross-is : sums .cross ≡ cross-of (pair-at weights n) (deviation-of (at values) n) n
+    unfolding job-figures
+    cross-is = ap (λ l. at l 3) e
+
+    squares-is : sums .squares ≡ squares-of (pair-at weights n) (at values) n
+    unfolding job-figures
+    squares-is = ap (λ l. at l 4) e
+
+    pub sums-within : Within n sums
+    sums-within =
+        let limits = accepted-limits n values weights (job-locals n values weights) taken in record {
+          two = sound .two;
+          zones = sound .zones;
+          varied = rw spread-is (spread-one n values weights (job-locals n values weights) taken);
+          moran-divisor = rw (weight-is, spread-is) (limits .moran-divisor);
+          geary-numerator = rw squares-is (limits .geary-numerator);
+          geary-divisor = rw (weight-is, spread-is) (limits .geary-divisor);
+        }
+
+    -- and M comes back from a machine word as it was
+    pub spread-read : r64 (sums .spread) ≡ spread-of (at values) n
+    spread-read =
+        let limits = accepted-limits n values weights (job-locals n values weights) taken in
+        ap r64 spread-is ∙ back w64 (spread-of (at values) n) ratio-limit (limits .local-divisor) tt
+
+    with-pair : sum-lines n sums ++ ratio-lines n sums (job-pair n values weights) ≡ job-lines n values weights
+    unfolding sum-lines ratio-lines job-lines job-pair pair-of class-row coefficient coefficients.coefficient
+    with-pair =
+        let zones = line "zones" (numbers (pos n ∷ total-of (at values) n ∷ spread-of (at values) n ∷ [])) in
+        let W = weight-of (pair-at weights n) n in
+        let P = cross-of (pair-at weights n) (deviation-of (at values) n) n in
+        let joins = line "joins" (numbers (W ∷ P ∷ squares-of (pair-at weights n) (at values) n ∷ [])) in
+        rw (total-is, spread-is, weight-is, cross-is, squares-is, weighty) (append-assoc zones joins _)
+
+    pub job-lines-are :
+        (pair : Pair) → pair ≡ job-pair n values weights → sum-lines n sums ++ ratio-lines n sums pair ≡ job-lines n values weights
+    job-lines-are pair f = ap (λ p. sum-lines n sums ++ ratio-lines n sums p) f ∙ with-pair
+
+-- ---- the float report refuses nothing
+
+-- it answers the pair of the job and those of the classes, and leaves the local figures
+pub record Reports (n : ℕ) (values : List ℤ) (weights classes : List ℕ) (report : Report) (left : List Float) : Type 0 where
+  pub of-job : pair-in (report .whole) ≡ job-pair n values weights ∷ []
+  pub of-classes : report .classes ≡ table (class-pair n values weights classes) 9
+  pub of-zones : left ≡ local-figures (spread-of (at values) n) (job-locals n values weights)
+
+module _ {n : ℕ} {values : List ℤ} {weights classes : List ℕ} (sound : Sound n values weights) (low : Low n classes) where
+  report-taken :
+      (figures parts : List Float) → length figures ≡ n → length parts ≡ 9 * n → report-refusal n values weights classes figures parts ≡ 0
+  unfolding report-refusal
+  report-taken figures parts e f =
+      sound .classed classes ((length figures, n) ∷ (length parts, 9 * n) ∷ []) (low .classes-fit) (low .low)
+      (rw (eq-eqb (length figures) n e, eq-eqb (length parts) (9 * n) f) refl)
+
+  pub reports :
+      (figures parts : List Float) {report : Report} {left : List Float} → length figures ≡ n → length parts ≡ 9 * n →
+      pair-in (report .whole) ≡ report-whole n values weights classes figures parts →
+      report .classes ≡ report-classes n values weights classes figures parts →
+      left ≡ report-figures n values weights classes figures parts →
+      Reports n values weights classes report left
+  unfolding report-whole report-classes report-figures
+  reports figures parts e f whole pairs zones =
+      let z = report-taken figures parts e f in record {
+        of-job = whole ∙ worked-when-taken _ _ _ z;
+        of-classes = pairs ∙ worked-when-taken _ _ _ z;
+        of-zones = zones ∙ worked-when-taken _ _ _ z;
+      }
+
+-- an answer that has a pair is no refusal
+pub never-refused : {r : Answer} {pair : Pair} {k : ℕ} → pair-in r ≡ pair ∷ [] → r ≡ Refused k → ⊥
+unfolding pair-in
+never-refused e f = let z : _≡_ {A = ℕ} 0 1 = ap length (sym (ap pair-in f) ∙ e) in omega arith
+
+pub pair-is : {r : Answer} {pair other : Pair} → pair-in r ≡ other ∷ [] → r ≡ Reported pair → pair ≡ other
+unfolding pair-in
+pair-is e f = ap (λ l. getD l 0 no-pair) (sym (ap pair-in f) ∙ e)
+
+-- ---- the class lines, where there are bands
+pub class-lines-are :
+    (n : ℕ) (values : List ℤ) (weights : List ℕ) (places : List ℤ) (bands classes : List ℕ) → Classed n places bands classes →
+    cond (eqb (length bands) 0) [] (each (class-line n values weights classes) (numbered (suc (length bands))))
+    ≡ where-given bands (class-lines n values weights places bands)
+unfolding class-lines
+class-lines-are n values weights places [] classes c = refl
+class-lines-are n values weights places (band ∷ bands) classes c =
+    let some : length (band ∷ bands) ≡ 0 → ⊥ = λ e. let z : ⊥ = omega arith in z in
+    rw (ne-eqb (length (band ∷ bands)) 0 some)
+    (ap (λ l. each (class-line n values weights l) (numbered (suc (length (band ∷ bands))))) (c .made some))
+
+-- ---- the parts of the text, put one after the other
+five-parts : (a b c d e : List ℕ) → (((a ++ b) ++ c) ++ d) ++ e ≡ a ++ (b ++ (c ++ (d ++ e)))
+five-parts a b c d e =
+    append-assoc ((a ++ b) ++ c) d e ∙ append-assoc (a ++ b) c (d ++ e) ∙ append-assoc a b (c ++ (d ++ e))
+
+pub job-text-is :
+    (n : ℕ) (values : List ℤ) (categories weights : List ℕ) (places : List ℤ) (bands shuffles : List ℕ) →
+    (((job-lines n values weights ++ local-lines n values weights) ++ where-given categories (pair-lines n categories weights))
+    ++ where-given bands (class-lines n values weights places bands))
+    ++ where-given shuffles (rank-line n values weights shuffles)
+    ≡ job-text n (lists values categories weights places bands shuffles)
+unfolding job-text
+job-text-is n values categories weights places bands shuffles =
+    five-parts (job-lines n values weights) (local-lines n values weights) (where-given categories (pair-lines n categories weights))
+    (where-given bands (class-lines n values weights places bands))
+    (where-given shuffles (rank-line n values weights shuffles))

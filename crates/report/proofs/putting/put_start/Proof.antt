@@ -1,0 +1,23 @@
+-- `put_start` meets its contract: the numbers stand behind the word. Assumes nothing.
+use native.Mathlib.Omega.{arith}
+use borrow.Author.Needs.{needs}
+use Rattle.report.proofs.Puts.{put-most, put-then}
+use Rattle.report.proofs.putting.put_start.Statement.{statement}
+use Rattle.report.proofs.putting.put_start.Tie as tie
+
+put-requires : tie.Need-put-requires
+put-requires c κs = search needs
+
+put-numbers-requires : tie.Need-put-numbers-requires
+put-numbers-requires c κs = search needs
+
+same-length : tie.Need-same-length
+same-length c = search needs
+
+returns : tie.Need-returns
+returns c =
+    let b = c .before .before in
+    put-most (put-then (b .before .before .before .before .put .ensures) (b .put-numbers .ensures)) (omega arith)
+
+pub put-start-spec : {M : Type 1} → statement M
+put-start-spec = tie.close (tie.spec put-requires put-numbers-requires same-length returns)

@@ -1,0 +1,122 @@
+use mathlib.Core.List.{List}
+use Prim.Native.Nat.{ℕ}
+use native.Mathlib.Omega.{arith}
+use borrow.Author.Needs.{needs}
+use Rattle.image.specs.Reader.{Buffers, buffers}
+use Rattle.report.proofs.Puts.{put-as, put-most}
+use Rattle.report.proofs.ReadJob.{Told, read-held, read-text, refused-text}
+use Rattle.report.proofs.reading.put_text.Statement.{statement}
+use Rattle.report.proofs.reading.put_text.Tie as tie
+
+-- what the reader was lent, and what it told
+abbrev image : tie.After-read → List ℕ
+image b = b .before .before .before .before .before .before .before .before .before .before .before .before .before .args .image .now
+
+abbrev lent : tie.After-read → Buffers
+lent b =
+    buffers (b .before .before .before .before .before .before .before .before .before .before .before .before .before .args .values .now) (b .before .before .before .before .before .before .before .before .before .before .before .before .before .args .categories .now) (b .before .before .before .before .before .before .before .before .before .before .before .before .before .args .weights .now) (b .before .before .before .before .before .before .before .before .before .before .before .before .before .args .places .now) (b .before .before .before .before .before .before .before .before .before .before .before .before .before .args .bands .now) (b .before .before .before .before .before .before .before .before .before .before .before .before .before .args .shuffles .now)
+
+abbrev held : tie.After-read → Buffers
+held b = buffers (b .read .last .1 .0) (b .read .last .1 .1 .0) (b .read .last .1 .1 .1 .0) (b .read .last .1 .1 .1 .1 .0) (b .read .last .1 .1 .1 .1 .1 .0) (b .read .last .1 .1 .1 .1 .1 .1 .0)
+
+told : (b : tie.After-read) → Told (image b) (lent b) (b .read .result) (held b)
+told b = let e = b .read .ensures in record { number = e .0; counted = e .1 .0; left = e .1 .1 }
+
+read-requires : tie.Need-read-requires
+read-requires c κs = search needs
+
+enum-known-number : tie.Need-enum-known-number
+enum-known-number c = search needs
+
+put-refusal-requires : tie.Need-put-refusal-requires
+put-refusal-requires c κs = search needs
+
+enum-known-counts : tie.Need-enum-known-counts
+enum-known-counts c = search needs
+
+put-read-requires : tie.Need-put-read-requires
+put-read-requires c κs =
+    let g = c .before .before .before .before .before .before .before .before .counts .given in
+    let b = c .before .before .before .before .before .before .before .before .before .before .before .before .before .before .before .before .before .before .before .before in
+    (read-held (told b) (g .1), b .before .before .before .before .before .before .before .before .before .before .before .before .before .pre .1)
+
+same-length : tie.Need-same-length
+same-length c = search needs
+
+same-length-2 : tie.Need-same-length-2
+same-length-2 c = search needs
+
+same-length-3 : tie.Need-same-length-3
+same-length-3 c = search needs
+
+same-length-4 : tie.Need-same-length-4
+same-length-4 c = search needs
+
+same-length-5 : tie.Need-same-length-5
+same-length-5 c = search needs
+
+same-length-6 : tie.Need-same-length-6
+same-length-6 c = search needs
+
+same-length-7 : tie.Need-same-length-7
+same-length-7 c = search needs
+
+returns : tie.Need-returns
+returns c =
+    let g = c .before .before .before .before .before .number .given in
+    let b = c .before .before .before .before .before .before .before .before .before .before .before .before .before .before .before .before .before in
+    let put = c .before .before .put-refusal .ensures in
+    put-as (put-most put (omega arith)) (refused-text (told b) (g .1) (b .before .before .before .before .before .before .before .before .before .before .before .before .before .pre .0))
+
+same-length-8 : tie.Need-same-length-8
+same-length-8 c = search needs
+
+same-length-9 : tie.Need-same-length-9
+same-length-9 c = search needs
+
+same-length-10 : tie.Need-same-length-10
+same-length-10 c = search needs
+
+same-length-11 : tie.Need-same-length-11
+same-length-11 c = search needs
+
+same-length-12 : tie.Need-same-length-12
+same-length-12 c = search needs
+
+same-length-13 : tie.Need-same-length-13
+same-length-13 c = search needs
+
+same-length-14 : tie.Need-same-length-14
+same-length-14 c = search needs
+
+returns-2 : tie.Need-returns-2
+returns-2 c =
+    let b = c .before .before .before .before .before .before .before .before .before .before .before .before .before .before .before .before .before .before .before .before .before .before .before in
+    let g = c .before .before .before .before .before .before .before .before .before .before .before .counts .given in
+    put-as (c .before .before .put-read .ensures) (read-text (told b) (g .1))
+
+pub put-text-spec : {M : Type 1} → statement M
+put-text-spec =
+    tie.close
+    (tie.spec
+    read-requires
+    enum-known-number
+    put-refusal-requires
+    enum-known-counts
+    put-read-requires
+    same-length
+    same-length-2
+    same-length-3
+    same-length-4
+    same-length-5
+    same-length-6
+    same-length-7
+    returns
+    same-length-8
+    same-length-9
+    same-length-10
+    same-length-11
+    same-length-12
+    same-length-13
+    same-length-14
+    returns-2)

@@ -1,0 +1,4 @@
+-- What a buyer must believe of a report's text; Steps is what private functions promise each other.
+pub mod Lines
+pub mod Text
+pub mod Steps

@@ -1,0 +1,121 @@
+-- A whole report, as document 01 writes it out: the text of an image, which is the lines of its job, or `refused` and the number.
+-- Assumes nothing.
+use mathlib.Core.Bool.{cond}
+use mathlib.Core.List.{List, [], _∷_, _++_}
+use Prim.Native.Nat.{ℕ, suc, _-_, _*_}
+use lib.Dec.{ltb}
+use lib.IntN.{ℤ, pos, negsuc, _*ℤ_}
+use lib.ListN.{length}
+use lib.Signed.{ltZ}
+use Rattle.whole.specs.Rules.{unless-refused}
+use Rattle.whole.specs.Table.{table, at, pair-at, each, over}
+use Rattle.account.specs.Measures.{total-of, deviation-of, spread-of, weight-of, cross-of, squares-of}
+use Rattle.account.specs.Answers.{job-locals}
+use Rattle.account.specs.Classes.{class-row-of}
+use Rattle.account.specs.HotList.{hot-list}
+use Rattle.account.specs.Rank.{job-rank}
+use Rattle.joins.specs.Joins.{category-at, joins-of}
+use Rattle.places.specs.Bands.{band-classes}
+use Rattle.coefficients.specs.Coefficients.{class-pair}
+use Rattle.image.specs.Image.{Job, count, job-of, image-refusal}
+use Rattle.report.specs.Lines.{line, numbers, figure, coefficient}
+
+-- 0, 1, .., n − 1
+abbrev pub numbered : ℕ → List ℕ
+numbered n = table (λ k. k) n
+
+-- counts as whole numbers
+abbrev pub whole : List ℕ → List ℤ
+whole [] = []
+whole (k ∷ more) = pos k ∷ whole more
+
+-- ---- of values and weights of n zones
+module _ (n : ℕ) (values : List ℤ) (weights : List ℕ) where
+  abbrev x : ℕ → ℤ
+  x = at values
+
+  abbrev w : ℕ → ℕ → ℕ
+  w = pair-at weights n
+
+  abbrev M : ℤ
+  M = spread-of x n
+
+  abbrev W : ℤ
+  W = weight-of w n
+
+  abbrev P : ℤ
+  P = cross-of w (deviation-of x n) n
+
+  abbrev G : ℤ
+  G = squares-of w x n
+
+  -- n S M; W P G; Moran's I; Geary's c; the expected I, -1 / (n − 1)
+  unfoldable pub job-lines : List ℕ
+  job-lines =
+      line "zones" (numbers (pos n ∷ total-of x n ∷ M ∷ []))
+      ++ (line "joins" (numbers (W ∷ P ∷ G ∷ []))
+      ++ (line "moran" (figure [] P (W *ℤ M))
+      ++ (line "geary" (figure [] (pos ((n - 1) * n) *ℤ G) ((pos 2 *ℤ W) *ℤ M))
+      ++ line "expected" (numbers (negsuc 0 ∷ pos (n - 1) ∷ [])))))
+
+  -- zone, L, M and the bits of L / M
+  unfoldable pub local-line : ℕ → List ℕ
+  local-line zone = line "local" (figure (pos zone ∷ []) (at (job-locals n values weights) zone) M)
+
+  -- in hot-list order
+  unfoldable pub local-lines : List ℕ
+  local-lines = each local-line (hot-list n values weights)
+
+  -- less, equal, greater
+  unfoldable pub rank-line : List ℕ → List ℕ
+  rank-line shuffles = line "rank" (numbers (whole (job-rank n values weights shuffles)))
+
+  -- class, W, P, G, Moran, Geary, of the classes that bands of distance between places give
+  unfoldable pub class-line : List ℕ → ℕ → List ℕ
+  class-line classes k =
+      let row = class-row-of n values weights classes k in
+      let pair = class-pair n values weights classes k in
+      line "class" (numbers (pos k ∷ row .weight ∷ row .cross ∷ row .squares ∷ []) ++ (coefficient (pair .moran) ++ coefficient (pair .geary)))
+
+  -- 0 up to the band count
+  unfoldable pub class-lines : List ℤ → List ℕ → List ℕ
+  class-lines places bands = each (class-line (band-classes n places bands)) (numbered (suc (length bands)))
+
+-- ---- of categories and weights of n zones
+module _ (n : ℕ) (categories weights : List ℕ) where
+  -- r, s, T where T is above 0
+  unfoldable pub pair-line : ℕ → ℕ → List ℕ
+  pair-line r s =
+      let t = joins-of (pair-at weights n) (category-at categories) n r s in
+      cond (ltZ (pos 0) t) (line "pair" (numbers (pos r ∷ pos s ∷ t ∷ []))) []
+
+  -- by rising r, then s
+  unfoldable pub pair-lines : List ℕ
+  pair-lines = each (λ r. each (pair-line r) (numbered 8)) (numbered 8)
+
+-- ---- the whole text
+
+-- lines that need a list: none where nothing is in it
+abbrev pub where-given : {A : Type 0} → List A → List ℕ → List ℕ
+where-given [] lines = []
+where-given (item ∷ more) lines = lines
+
+-- pair lines need categories, class lines bands, the rank line a shuffle
+unfoldable pub job-text : ℕ → Job → List ℕ
+job-text n job =
+    job-lines n (job .values) (job .weights)
+    ++ (local-lines n (job .values) (job .weights)
+    ++ (where-given (job .categories) (pair-lines n (job .categories) (job .weights))
+    ++ (where-given (job .bands) (class-lines n (job .values) (job .weights) (job .places) (job .bands))
+    ++ where-given (job .shuffles) (rank-line n (job .values) (job .weights) (job .shuffles)))))
+
+unfoldable pub refusal-line : ℕ → List ℕ
+refusal-line number = line "refused" (numbers (pos number ∷ []))
+
+-- the report of an image
+unfoldable pub report-text : List ℕ → List ℕ
+report-text image = unless-refused (image-refusal image) (job-text (count image) (job-of image)) (refusal-line (image-refusal image))
+
+-- what the lent page holds after the call: the text at its front, where there is room for all of it
+unfoldable pub page-left : List ℕ → List ℕ → List ℕ
+page-left image page = cond (ltb (length page) (length (report-text image))) page (over (report-text image) page)

@@ -1,0 +1,242 @@
+#!/usr/bin/env python3
+"""The samples: job images, each with the text that it is made of and the report that it must have.
+
+    samples.py                  writes samples/*.txt, *.image and *.report (report.image is written by image_vectors.py, and looked at here)
+    samples.py --check          says whether the files are what this program makes
+    samples.py --check PROGRAM  the same, and that PROGRAM writes each report on its image
+
+`report` is document 01's worked report, its text as the document prints it. `island` is a job with all parts and of the largest number of
+zones. `refused` is a job with one plain mistake. The report of the island is that of independent_report.c, which is compiled here with gcc;
+that program must write the other two reports as well, byte for byte.
+"""
+import itertools
+import pathlib
+import subprocess
+import sys
+import tempfile
+
+from image_cases import REPORT
+from job_image import Job, encode
+from job_text import SAMPLES, image_of, text_of
+
+SOURCE = pathlib.Path(__file__).resolve().parent / 'independent_report.c'
+GCC = ['gcc', '-O2', '-Wall', '-Wextra', '-Werror', '-std=c17']
+SEED = 20261120
+SIDE = 8  # the island has as many rows of districts, and as many in a row
+APART = 40  # how far two districts of a row lie from each other, about
+NEAR = 64 * 64  # the squared distance up to which two districts have a boundary
+
+# the report that document 01 prints
+DOCUMENT_01 = """\
+zones 4 8 16
+joins 8 64 8
+moran 64 128 3FE0000000000000
+geary 96 256 3FD8000000000000
+expected -1 3
+local 0 48 16 4008000000000000
+local 1 32 16 4000000000000000
+local 3 0 16 0000000000000000
+local 2 -16 16 BFF0000000000000
+pair 0 0 6
+pair 0 1 1
+pair 1 0 1
+class 0 0 0 0 - -
+class 1 6 96 0 3FF0000000000000 0000000000000000
+class 2 2 -32 8 BFF0000000000000 3FF8000000000000
+rank 1 1 0
+"""
+
+REPORT_NOTES = {'values': 'the job of the worked report of document 01'}
+
+ISLAND_NOTES = {
+    'values': 'an island of 64 districts: change in the number of households since the last count',
+    'categories': 'main use: 0 harbour, 1 town, 2 suburb, 3 orchards, 4 fields, 5 pasture, 6 forest, 7 heath',
+    'join': 'from, to, grade of the boundary; some are open one way only, and from 63 to 0 there is a ferry',
+    'place': 'the middle of each district, in hundreds of metres across and up',
+    'bands': 'squared distances; no boundary goes beyond the fourth, and the ferry beyond all',
+    'shuffle': '499 shuffles',
+}
+
+REFUSED = """\
+# a job of six districts with one mistake: the program answers `refused 5`
+values 12 15 -4 0 7 21
+categories 0 0 1 1 2 2
+join 0 1 4
+join 1 0 4
+join 1 2 2
+join 2 1 2
+join 2 3 6
+join 3 2 6
+join 3 3 1   # the mistake: district 3 is joined to itself
+join 3 4 5
+join 4 3 5
+join 4 5 3
+join 5 4 3
+place 0 0
+place 10 2
+place 21 -1
+place 30 5
+place 38 14
+place 52 11
+bands 150 400
+shuffle 5 4 3 2 1 0
+shuffle 1 0 3 2 5 4
+"""
+
+
+# ---- the island
+
+class Draw:
+    """Numbers by chance that are the same everywhere: 16,807 times the one before, modulo 2^31 - 1."""
+
+    def __init__(self, seed):
+        """Begins at the seed."""
+        self.state = seed
+
+    def between(self, least, most):
+        """One of the numbers from least to most."""
+        self.state = self.state * 16807 % (2 ** 31 - 1)
+        return least + self.state % (most - least + 1)
+
+    def shuffled(self, n):
+        """The numbers below n in another order."""
+        row = list(range(n))
+        for last in range(n - 1, 0, -1):
+            other = self.between(0, last)
+            row[last], row[other] = row[other], row[last]
+        return tuple(row)
+
+
+def squared(places, start, end):
+    """The squared distance of two districts."""
+    return sum((a - b) ** 2 for a, b in zip(places[start], places[end]))
+
+
+def island_places(draw):
+    """Rows of districts, each moved a little, the rows shorter at the two ends of the island."""
+    places = []
+    for row, column in itertools.product(range(SIDE), repeat=2):
+        wide = APART - (2 * row - SIDE + 1) ** 2 // 8
+        places.append(((2 * column - SIDE + 1) * wide // 2 + 5 * row + draw.between(-9, 9),
+                       (SIDE - 1 - 2 * row) * APART // 2 + draw.between(-9, 9)))
+    return places
+
+
+def island_values(draw):
+    """Households become more around the harbour town in the south-east, and fewer far from it, with much that is by chance."""
+    return [120 - 5 * ((row - 5) ** 2 + (column - 6) ** 2) + draw.between(-400, 400)
+            for row, column in itertools.product(range(SIDE), repeat=2)]
+
+
+def island_categories(draw):
+    """Use by the distance from the harbour town, and here and there another one."""
+    rings = [(row - 5) ** 2 + (column - 6) ** 2 for row, column in itertools.product(range(SIDE), repeat=2)]
+    uses = [sum(ring > end for end in (0, 2, 8, 13, 20, 32, 45)) for ring in rings]
+    return [draw.between(2, 7) if draw.between(1, 9) == 1 else use for use in uses]
+
+
+def grade_of(draw, distance):
+    """The nearer two districts, the higher the grade; in one direction of five it is another, in one of sixteen there is no way."""
+    if draw.between(1, 16) == 1:
+        return 0
+    grade = 9 - 8 * distance // NEAR + (draw.between(-2, 2) if draw.between(1, 5) == 1 else 0)
+    return min(9, max(1, grade))
+
+
+def island_joins(draw, places):
+    """Joins of near districts; and a ferry round the island, one way only."""
+    pairs = [pair for pair in itertools.permutations(range(len(places)), 2) if squared(places, *pair) <= NEAR]
+    graded = [(*pair, grade_of(draw, squared(places, *pair))) for pair in pairs]
+    return sorted([join for join in graded if join[2] > 0] + [(63, 0, 1)])
+
+
+def island():
+    """The job of the island."""
+    draw = Draw(SEED)
+    places = island_places(draw)
+    bands = [side * side for side in (30, 40, 50, 64, 90, 130, 180, 240)]
+    return Job(island_values(draw), island_categories(draw), island_joins(draw, places), places, bands,
+               [draw.shuffled(len(places)) for _ in range(499)])
+
+
+# ---- the files
+
+def noted(text, notes):
+    """The text with a note above the first line of each section."""
+    lines, left = [], dict(notes)
+    for line in text.splitlines():
+        note = left.pop(line.split()[0], None)
+        lines += [f'# {note}', line] if note else [line]
+    return '\n'.join([*lines, ''])
+
+
+def written(program, image):
+    """What a program writes on an image."""
+    return subprocess.run([program], input=image, capture_output=True, check=True).stdout
+
+
+def reports(images):
+    """What independent_report.c writes on each image."""
+    with tempfile.TemporaryDirectory() as place:
+        program = pathlib.Path(place) / 'independent_report'
+        subprocess.run([*GCC, '-o', program, SOURCE], check=True)
+        return {name: written(program, image) for name, image in images.items()}
+
+
+def must(holds, told):
+    """Ends the run where something does not hold."""
+    if not holds:
+        sys.exit(told)
+
+
+def made():
+    """The files by their names; the reports that are known beforehand must be those of the program."""
+    texts = {'report': noted(text_of(REPORT)[0], REPORT_NOTES), 'island': noted(text_of(encode(island()))[0], ISLAND_NOTES),
+             'refused': REFUSED}
+    images = {name: image_of(text) for name, text in texts.items()}
+    printed = reports(images)
+    must(printed['report'] == DOCUMENT_01.encode(), "independent_report.c does not write document 01's report")
+    must(printed['refused'] == b'refused 5\n', 'independent_report.c does not refuse the job with the mistake')
+    must_have_all(printed['island'].decode())
+    files = {f'{name}.txt': text.encode() for name, text in texts.items()}
+    files |= {f'{name}.image': image for name, image in images.items()}
+    return files | {f'{name}.report': report for name, report in printed.items()}
+
+
+def must_have_all(report):
+    """The island's report must have lines of all kinds, classes with and without weight, and shuffles on both sides of its rank."""
+    lines = [line.split() for line in report.splitlines()]
+    words = [line[0] for line in lines]
+    must(words.count('local') == 64 and words.count('pair') > 8 and words.count('class') == 9, 'lines of some kind lack on the island')
+    must({line[5] == '-' for line in lines if line[0] == 'class'} == {True, False}, 'all classes have weight, or none')
+    must(lines[-1][0] == 'rank' and lines[-1][1] != '0' != lines[-1][3], 'no shuffles on both sides')
+
+
+def make():
+    """Writes the files, but for report.image, which image_vectors.py writes."""
+    for name, data in made().items():
+        if name != 'report.image':
+            (SAMPLES / name).write_bytes(data)
+
+
+def check(program):
+    """Whether the files are what is made here, and whether the program, where one is given, writes the reports."""
+    files = made()
+    for name, data in files.items():
+        must((SAMPLES / name).read_bytes() == data, f'samples/{name} is not what samples.py makes')
+    must({path.name for path in SAMPLES.iterdir()} == set(files), 'samples/ has other files than those that samples.py makes')
+    images = [name for name in files if name.endswith('.image')]
+    for name in images if program else ():
+        kept = name.replace('.image', '.report')
+        must(written(program, files[name]) == files[kept], f'on samples/{name} the program does not write samples/{kept}')
+    print(f'the {len(files)} files of samples/ are what tools/samples.py makes' +
+          (f'; on {len(images)} images the program writes the report that is kept' if program else ''))
+
+
+if __name__ == '__main__':
+    if len(sys.argv) == 1:
+        make()
+    elif sys.argv[1] == '--check' and len(sys.argv) < 4:
+        check(sys.argv[2] if len(sys.argv) == 3 else None)
+    else:
+        sys.exit(__doc__)
