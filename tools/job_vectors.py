@@ -41,6 +41,16 @@ PRINTED = [
     'example-2 account 1654 4572 14 -9416 1864 |',
     'request-a4 account 85344 5929018368 18144 -1668068720640 53453138256 |',
     'request-a4 rank 271 0 228',
+    # document 01's run-only cases, besides Example 2: n of 1 and 65 refused, 2 and (request-a4) 64 taken, and values, weights and equal
+    # values at the limits; a third place on the circle is one of `networks`
+    'n-1 account refused 1 |',
+    'n-65 account refused 1 |',
+    'two-zones account 0 196 3 -588 588 |',
+    'value-100000 account 100007 19998600062 4 ',
+    'value-100001 account refused 3 |',
+    'weight-9 account 9 42 12 ',
+    'weight-10 account refused 4 |',
+    'equal account refused 7 |',
 ]
 
 

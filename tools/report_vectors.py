@@ -213,15 +213,30 @@ def of_cases(rng):
     yield from largest(rng)
 
 
+def beyond(rng):
+    """Images with more bytes than a program looks at, damaged ones among them: what it does not look at must not change the number."""
+    longest = encode(largest_job(rng))
+    for k in range(100):
+        damaged = bytearray(longest)
+        damaged[rng.randrange(len(damaged))] ^= 1 << rng.randrange(8)
+        yield Read(f'beyond-largest-{k}', bytes(damaged) + rng.randbytes(rng.randrange(2, 9000)))
+    for k, case in enumerate(read_cases(drawn(rng, 200, (2, 3, 5, 64)))):
+        yield Read(f'beyond-{k}', case.image + rng.randbytes(LONGEST + rng.randrange(2, 9000)))
+
+
+def read_cases(made):
+    """Those of some cases in which an image is read into buffers of their lengths."""
+    return (case for case in made if isinstance(case, Read) and case.lengths == LENGTHS)
+
+
 def cases():
     """The images that are compared, each with a name."""
     rng = random.Random(SEED)
     for kind in (at_limits, rings, two_zones, banded, far_apart, ranked, full, halfway, whole):
         for name, job in kind(rng):
             yield Read(name, encode(job))
-    for case in of_cases(rng):
-        if isinstance(case, Read) and case.lengths == LENGTHS:
-            yield case
+    yield from read_cases(of_cases(rng))
+    yield from beyond(rng)
 
 
 # ---- the printed text by itself

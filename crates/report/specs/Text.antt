@@ -37,6 +37,9 @@ module _ (n : ℕ) (values : List ℤ) (weights : List ℕ) where
   abbrev w : ℕ → ℕ → ℕ
   w = pair-at weights n
 
+  abbrev S : ℤ
+  S = total-of x n
+
   abbrev M : ℤ
   M = spread-of x n
 
@@ -52,7 +55,7 @@ module _ (n : ℕ) (values : List ℤ) (weights : List ℕ) where
   -- n S M; W P G; Moran's I; Geary's c; the expected I, -1 / (n − 1)
   unfoldable pub job-lines : List ℕ
   job-lines =
-      line "zones" (numbers (pos n ∷ total-of x n ∷ M ∷ []))
+      line "zones" (numbers (pos n ∷ S ∷ M ∷ []))
       ++ (line "joins" (numbers (W ∷ P ∷ G ∷ []))
       ++ (line "moran" (figure [] P (W *ℤ M))
       ++ (line "geary" (figure [] (pos ((n - 1) * n) *ℤ G) ((pos 2 *ℤ W) *ℤ M))
