@@ -8,13 +8,11 @@ pub mod Locals
 pub mod ByClass
 pub mod ShuffleList
 pub mod Shuffled
-pub mod HotOrder
 pub mod Tallied
 pub mod Accepted
 pub mod Judged
 pub mod Answered
 pub mod Theorems
 pub mod ClassTheorems
-pub mod HotTheorems
 pub mod RankTheorems
 pub mod Papers

@@ -1,6 +1,6 @@
 -- What the buyer asks for by name, over the definitions of Measures, Limits, Refusals and Answers. Assumes nothing.
 use mathlib.Core.Path.{_≡_, refl, sym, ap, _∙_}
-use mathlib.Core.List.{List}
+use mathlib.Core.List.{List, [], _∷_}
 use Prim.Native.Nat.{ℕ, _*_, _-_, _≤_, _<_}
 use native.Mathlib.Nat as N
 use native.Mathlib.Decide.{decLt, ℕ-discrete}
@@ -10,24 +10,25 @@ use lib.IntN.{ℤ, pos, natAbs, _-ℤ_, _*ℤ_, +ℤ-invr}
 use lib.ListN.{length}
 use lib.Signed.{_≤ℤ_}
 use Rattle.whole.specs.Integer.{square}
-use Rattle.whole.specs.Rules.{Applies}
+use Rattle.whole.specs.Rules.{Applies, first-broken, size-rules}
 use Rattle.whole.specs.Sum.{sum}
 use Rattle.whole.proofs.Integer.{equal-of-diff}
 use Rattle.whole.proofs.Pairs.{deviations-squared}
-use Rattle.whole.proofs.Rules.{first-least, first-applies, worked-when-taken}
+use Rattle.whole.proofs.Rules.{first-least, first-applies, worked-when-taken, fits}
 use Rattle.whole.proofs.Size.{size-*-le, square-zero, square-above, one-of}
 use Rattle.whole.proofs.Sum.{sum-cong, sum-none}
 use Rattle.whole.proofs.SumSize.{sum-above, terms-zero}
 use Rattle.whole.specs.Table.{at, pair-at}
 use Rattle.account.specs.Measures.{total-of, deviation-of, spread-of, weight-of, cross-of, squares-of, local-of}
 use Rattle.account.specs.Limits.{Limits}
-use Rattle.account.specs.Refusals.{job-rules, call-rules, account-rules, account-refusal}
+use Rattle.account.specs.Refusals.{job-rules, job-lengths, call-rules, account-rules, account-refusal}
 use Rattle.account.specs.Answers.{five, number-of, figures-of, job-figures, job-locals, account-figures, account-locals}
 use Rattle.account.specs.declared.Sums.{Sums}
 use Rattle.account.specs.declared.Answer.{Answer}
 use Rattle.account.specs.declared.Answer.the-variants.{Refused, Accounted}
-use Rattle.account.proofs.Accepted.{accepted}
+use Rattle.account.proofs.Accepted.{fitting, accepted}
 use Rattle.account.proofs.Adding as adding
+use Rattle.account.proofs.Judged.{by-sizes}
 use Rattle.account.proofs.Locals.{locals-cross}
 use Rattle.account.proofs.Reading.{weight-le}
 use Rattle.account.proofs.Sizes.{deviation-size, spread-of-size, weight-sharp, squares-sharp, local-sharp, cross-sharp}
@@ -130,6 +131,27 @@ module _ {A : Type 0} (n : ℕ) (values : List ℤ) (weights : List ℕ) (locals
       (number : ℕ) → Applies number (account-rules n values weights locals) → account-refusal n values weights locals ≤ number
   unfolding account-refusal account-rules call-rules job-rules
   refusal-least number = first-least 0 number (account-rules n values weights locals) (tt, (tt, (tt, (tt, (tt, (tt, (tt, tt)))))))
+
+  -- it is that of the sizes where they have one
+  abbrev pub sizes-refusal : ℕ
+  sizes-refusal = first-broken (size-rules n (job-lengths n (length values) (length weights) ((length locals, n) ∷ [])))
+
+  pub refusal-by-sizes : (r : ℕ) → r ≡ sizes-refusal → (r ≡ 0 → ⊥) → r ≡ account-refusal n values weights locals
+  unfolding account-refusal account-rules
+  refusal-by-sizes = by-sizes n values weights ((length locals, n) ∷ []) []
+
+  -- and what they are where they have none
+  pub sizes-fit : sizes-refusal ≡ 0 → (n ≤ 64) × (length locals ≡ n)
+  sizes-fit e =
+      let f = fitting n (length values) (length weights) ((length locals, n) ∷ []) e in
+      (f .zones, fits (length locals) n [] (f .lent-fit) .0)
+
+-- of what the lent list holds nothing is judged: the refusal is the same with another of its length
+pub refusal-same :
+    {A B : Type 0} (n : ℕ) (values : List ℤ) (weights : List ℕ) (locals : List A) (others : List B) → length locals ≡ length others →
+    account-refusal n values weights locals ≡ account-refusal n values weights others
+unfolding account-refusal account-rules
+refusal-same n values weights locals others e = ap (λ k. first-broken (call-rules n values weights ((k, n) ∷ []) [])) e
 
 -- ---- an answer is known by its number and its figures, so that the contract leaves no second answer open
 made : (s m w p g : ℤ) → Sums

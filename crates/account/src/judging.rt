@@ -36,8 +36,7 @@ pub fn judge_job(n: usize, values: &[i32], weights: &[u8]) -> u8
     0
 }
 
-// 1 to 7: the refusal of the account and of the hot list. What the n lent places hold is not judged, so their number is all that is
-// asked for.
+// 1 to 7: the refusal of the account. What the n lent places hold is not judged, so their number is all that is asked for.
 pub fn judge_account(n: usize, values: &[i32], weights: &[u8], places: usize) -> u8
     ensures { λ r. ⌜ r ≡ first-broken (call-rules n (now (values .entry)) (now (weights .entry)) ((places, n) ∷ []) []) ⌝ }
 {

@@ -1,11 +1,10 @@
 // The account of a job: values and weights give S, M, W, P, G, and the local numerators L(i) go to a lent list. The class account of a
-// job and its classes: W, P, G and the local numerators of each class go to two lent lists. The hot list of a job: its zones by their
-// local numerators go to a lent list. The rank of a job among shuffles of its values.
+// job and its classes: W, P, G and the local numerators of each class go to two lent lists. The rank of a job among shuffles of its
+// values.
 mod classes;
 mod deviations;
 mod differences;
 mod judging;
-mod ordering;
 mod ranking;
 mod rows;
 mod shuffling;
@@ -19,7 +18,6 @@ ghost use lib.ListN.{length};
 ghost use Rattle.account.specs.Refusals.{account-refusal};
 ghost use Rattle.account.specs.Answers.{number-of, figures-of, account-figures, account-locals};
 ghost use Rattle.account.specs.Classes.{class-refusal, class-account-sums, class-account-rows, class-account-locals};
-ghost use Rattle.account.specs.HotList.{hot-zones};
 ghost use Rattle.account.specs.Rank.{rank-refusal, rank-counts, counts-of};
 ghost use Rattle.account.specs.Rank as rank;
 
@@ -123,20 +121,6 @@ pub fn class_rows(
 {
     let worked = rows::work_rows(n, values, weights, classes, rows.len(), locals);
     rows::put_rows(rows, worked)
-}
-
-// Works the hot list of the job: `zones` is lent n places for the zone numbers by falling L(i), equal ones by rising zone number, and is
-// left as it was where the job is refused. Answers the number of the refusal, 0 where nothing is refused.
-pub fn hot_list(n: usize, values: &[i32], weights: &[u8], zones: &mut [u8]) -> u8
-    ensures number { λ r. ⌜ r ≡ account-refusal n (now (values .entry)) (now (weights .entry)) (now (zones .entry)) ⌝ }
-    ensures lent { λ _. ⌜ now (zones .exit) ≡ hot-zones n (now (values .entry)) (now (weights .entry)) (now (zones .entry)) ⌝ }
-{
-    let number = judging::judge_account(n, values, weights, zones.len());
-    if number != 0 {
-        return number;
-    }
-    ordering::work_hot_list(n, values, weights, zones);
-    0
 }
 
 // Counts the shuffles whose P is less than, equal to and greater than the job's own, which is not counted itself. `shuffles` has a row

@@ -13,8 +13,8 @@ use Rattle.nearest.specs.Answers.{nearest-float}
 use Rattle.account.specs.Measures.{total-of, deviation-of, spread-of, row-of, pairs-of, weight-of, cross-of, squares-of, local-of}
 use Rattle.account.specs.Answers.{class-row, job-locals}
 use Rattle.account.specs.Classes.{class-weight, class-row-of}
-use Rattle.account.specs.HotList.{hotter, hot-list}
 use Rattle.account.specs.Rank.{shuffle-count, values-cross, shuffle-cross, compared, job-rank}
+use Rattle.hot_list.specs.HotList.{hotter, hot-list}
 use Rattle.joins.specs.Joins.{weight-between, joins-of}
 use Rattle.places.specs.Places.{across, up, squared-distance}
 use Rattle.places.specs.Bands.{within-band, band-class, pair-class, band-classes}

@@ -23,10 +23,10 @@ use Rattle.nearest.proofs.Theorems.{not-nan}
 use Rattle.account.specs.Measures.{total-of, deviation-of, spread-of, weight-of, cross-of, squares-of}
 use Rattle.account.specs.Answers.{five, class-row, job-figures, job-locals}
 use Rattle.account.specs.Refusals.{account-refusal}
-use Rattle.account.specs.HotList.{hot-list}
 use Rattle.account.specs.declared.Sums.{Sums}
 use Rattle.account.proofs.Theorems.{accepted-limits, weight-one, spread-one, job-locals-length}
-use Rattle.account.proofs.HotTheorems.{hot-list-length, hot-list-each}
+use Rattle.hot_list.specs.HotList.{hot-list}
+use Rattle.hot_list.proofs.HotTheorems.{hot-list-length, hot-list-each}
 use Rattle.coefficients.specs.Coefficients.{pair-of, job-pair, class-pair, local-figures}
 use Rattle.coefficients.specs.Coefficients as coefficients
 use Rattle.coefficients.specs.FloatReport.{pair-in, no-pair, report-refusal, report-whole, report-classes, report-figures}

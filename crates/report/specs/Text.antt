@@ -12,8 +12,8 @@ use Rattle.whole.specs.Table.{table, at, pair-at, each, over}
 use Rattle.account.specs.Measures.{total-of, deviation-of, spread-of, weight-of, cross-of, squares-of}
 use Rattle.account.specs.Answers.{job-locals}
 use Rattle.account.specs.Classes.{class-row-of}
-use Rattle.account.specs.HotList.{hot-list}
 use Rattle.account.specs.Rank.{job-rank}
+use Rattle.hot_list.specs.HotList.{hot-list}
 use Rattle.joins.specs.Joins.{category-at, joins-of}
 use Rattle.places.specs.Bands.{band-classes}
 use Rattle.coefficients.specs.Coefficients.{class-pair}

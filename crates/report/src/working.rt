@@ -62,7 +62,7 @@ fn put_hot_list(
 {
     let mut space: [u8; 64] = [0; 64];
     let zones = &mut space[..n];
-    account::hot_list(n, values, weights, zones);
+    hot_list::hot_list(n, values, weights, zones);
     lines::put_zones(page, at, zones, locals, figures, spread)
 }
 

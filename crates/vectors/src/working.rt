@@ -82,7 +82,7 @@ pub fn work_hot_list(name: &[u8], n: usize, values: &[i32], weights: &[u8], zone
     requires { ⌜ zones ≤ 66 ⌝ }
 {
     let mut lent: [u8; 66] = [7; 66];
-    let number = account::hot_list(n, values, weights, &mut lent[..zones]);
+    let number = hot_list::hot_list(n, values, weights, &mut lent[..zones]);
     io::write_all(1, name);
     io::write_all(1, b" hot");
     printing::print_number(number);

@@ -11,8 +11,8 @@ use mir.ValLaws.{toZ-ofZ}
 use Rattle.whole.specs.Table.{at}
 use Rattle.account.specs.Measures.{spread-of}
 use Rattle.account.specs.Answers.{job-locals}
-use Rattle.account.specs.HotList.{hot-list}
-use Rattle.account.proofs.HotTheorems.{hot-left, hot-list-length}
+use Rattle.hot_list.specs.HotList.{hot-list}
+use Rattle.hot_list.proofs.HotTheorems.{hot-left, hot-list-length}
 use Rattle.coefficients.specs.Coefficients.{local-figures}
 use Rattle.report.proofs.Puts.{put-as, put-most}
 use Rattle.report.proofs.JobText.{listed, zones-are}

@@ -1,0 +1,2 @@
+-- Meaning: HotList.
+pub mod HotList
