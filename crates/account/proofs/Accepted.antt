@@ -4,24 +4,25 @@ use mathlib.Core.Bool.{Bool, true, false, not, _||_, true≢false}
 use mathlib.Core.List.{List, [], _∷_, _++_}
 use Prim.Native.Nat.{ℕ, _*_, _≤_, _<_}
 use native.Mathlib.Omega.{arith}
-use borrow.Author.Tests.{eq-eqb, ltb-false}
+use borrow.Author.Tests.{le-ltb, eq-eqb, ltb-false}
 use lib.Dec.{ltb, eqb}
 use lib.IntN.{ℤ, natAbs}
 use lib.ListN.{length, getD}
 use Rattle.whole.specs.Integer.{is-zero}
-use Rattle.whole.specs.Order.{lacks}
 use Rattle.whole.specs.Rules.{Rule, first-broken, misfits, size-rules}
 use Rattle.whole.proofs.Rules.{holds, first-none, both-hold, fits, sizes-hold, sizes-let-in}
 use Rattle.whole.proofs.Search.{some-none, none-beyond, none-above}
 use Rattle.whole.proofs.Size.{some-size}
 use Rattle.whole.specs.Table.{at, pair-at}
 use Rattle.whole.specs.Search.{any-beyond, any-above, any-on-diagonal}
+use Rattle.shuffles.specs.Shuffles.{shuffle-count, any-lacking, shuffle-refusal}
+use Rattle.shuffles.specs.Steps.{Shuffles}
+use Rattle.shuffles.proofs.Theorems.{list-taken}
 use Rattle.account.specs.Measures.{weight-of, spread-of}
 use Rattle.account.specs.Refusals.{job-rules, job-lengths, call-rules, account-rules, account-refusal}
 use Rattle.account.specs.Classes.{class-rules, class-refusal}
-use Rattle.account.specs.Rank.{shuffle-count, any-lacking, rank-rules, rank-refusal}
-use Rattle.account.specs.Steps.{Sized, Weighted, Job, Shuffles}
-use Rattle.account.proofs.ShuffleList.{at-most-499}
+use Rattle.account.specs.Rank.{rank-rules, rank-refusal}
+use Rattle.account.specs.Steps.{Sized, Weighted, Job}
 
 -- ---- what a rule that holds tells
 pub near : (limit : ℕ) (numbers : List ℤ) (n : ℕ) → length numbers ≡ n → any-beyond limit numbers ≡ false → Sized limit numbers n
@@ -61,6 +62,13 @@ fitted n values weights lent others f e =
     let lengths = job-lengths n values weights others in
     let all : misfits lengths ≡ false = rw (eq-eqb values n (f .values-fit), eq-eqb weights (n * n) (f .weights-fit), e) refl in
     sizes-let-in n lengths (record { two = f .two; zones = f .zones; fitting = all })
+
+-- other lists, which do not fit
+pub unfitted :
+    (n values weights : ℕ) (lent others : List (ℕ × ℕ)) → Fitting n values weights lent → misfits others ≡ true →
+    first-broken (size-rules n (job-lengths n values weights others)) ≡ 2
+unfitted n values weights lent others f e =
+    rw (le-ltb n 2 (f .two), le-ltb 64 n (f .zones), eq-eqb values n (f .values-fit), eq-eqb weights (n * n) (f .weights-fit), e) refl
 
 -- where a job's two lists do not fit, with n places beside them, they do not with any further lists
 pub also-misfits :
@@ -212,19 +220,24 @@ rank-called n values weights shuffles e =
     let c = called n values weights ((length shuffles, shuffle-count n (length shuffles) * n) ∷ []) ((any-lacking n shuffles, 13) ∷ []) e in
     (c .0, holds (any-lacking n shuffles) 12 0 (c .1) .0)
 
+-- the judge of shuffles refuses nothing either
+pub shuffles-accepted :
+    (n : ℕ) (values : List ℤ) (weights shuffles : List ℕ) → rank-refusal n values weights shuffles ≡ 0 → shuffle-refusal n shuffles ≡ 0
+unfolding shuffle-refusal
+shuffles-accepted n values weights shuffles e =
+    let c = rank-called n values weights shuffles e in
+    let s = c .0 .sizes in
+    let lengths : List (ℕ × ℕ) = (length shuffles, shuffle-count n (length shuffles) * n) ∷ [] in
+    both-hold ((any-lacking n shuffles, 13) ∷ []) 0 (size-rules n lengths) (tt, (tt, tt))
+    (sizes-let-in n lengths (record { two = s .two; zones = s .zones; fitting = s .lent-fit }))
+    (rw (c .1) refl)
+
 pub rank-accepted :
     (n : ℕ) (values : List ℤ) (weights shuffles : List ℕ) → rank-refusal n values weights shuffles ≡ 0 →
     RankAccepted n values weights shuffles
-unfolding any-lacking
 rank-accepted n values weights shuffles e =
-    let c = rank-called n values weights shuffles e in
-    let rows = shuffle-count n (length shuffles) in record {
-      two = c .0 .sizes .two;
-      good = good n values weights _ (c .0);
-      rows = record {
-        zones = c .0 .sizes .zones;
-        few = at-most-499 n (length shuffles);
-        count = fits (length shuffles) (rows * n) [] (c .0 .sizes .lent-fit) .0;
-        full = λ r h. some-none (λ r. lacks (pair-at shuffles n r) n) rows r (c .1) h;
-      };
+    let c = rank-called n values weights shuffles e .0 in record {
+      two = c .sizes .two;
+      good = good n values weights _ c;
+      rows = list-taken n shuffles (shuffles-accepted n values weights shuffles e);
     }

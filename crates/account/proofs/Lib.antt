@@ -6,7 +6,6 @@ pub mod Reading
 pub mod Running
 pub mod Locals
 pub mod ByClass
-pub mod ShuffleList
 pub mod Shuffled
 pub mod Tallied
 pub mod Accepted

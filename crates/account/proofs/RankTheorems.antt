@@ -3,7 +3,7 @@
 use mathlib.Core.Path.{_≡_, refl, sym, ap, _∙_}
 use mathlib.Core.Bool.{false}
 use mathlib.Core.List.{List, [], _∷_}
-use Prim.Native.Nat.{ℕ, _+_, _*_, _/_, _≤_, _<_}
+use Prim.Native.Nat.{ℕ, _+_, _/_, _≤_, _<_}
 use native.Mathlib.Nat as N
 use native.Mathlib.Omega.{arith}
 use borrow.Author.Tests.{eq-eqb}
@@ -18,23 +18,25 @@ use Rattle.whole.specs.Sum.{sum}
 use Rattle.whole.specs.Table.{at, pair-at}
 use Rattle.whole.proofs.Compare.{less-scaled, equal-scaled}
 use Rattle.whole.proofs.Pairs.{pairs-sum}
-use Rattle.whole.proofs.Permutation.{Permutation, stands, full, permuted-sum}
+use Rattle.whole.proofs.Permutation.{stands, full, permuted-sum}
 use Rattle.whole.proofs.Rules.{first-least, first-applies, worked-when-taken}
 use Rattle.whole.proofs.Size.{one-*}
+use Rattle.shuffles.specs.Shuffles.{shuffle-count}
+use Rattle.shuffles.proofs.ShuffleList.{whole-rows}
 use Rattle.account.specs.Measures.{total-of, spread-of, weight-of}
 use Rattle.account.specs.Refusals.{job-rules, call-rules, account-rules, account-refusal}
 use Rattle.account.specs.Answers.{job-figures}
-use Rattle.account.specs.Rank.{shuffle-count, shuffled, values-cross, shuffle-cross, compared, job-rank, rank-rules, rank-refusal}
+use Rattle.account.specs.Rank.{shuffled, values-cross, shuffle-cross, compared, job-rank, rank-rules, rank-refusal}
 use Rattle.account.specs.Rank.{three, number-of, counts-of, rank-counts}
 use Rattle.account.specs.declared.Counts.{Counts}
 use Rattle.account.specs.declared.RankAnswer.{RankAnswer}
 use Rattle.account.specs.declared.RankAnswer.the-variants.{Refused, Counted}
 use Rattle.account.proofs.Accepted.{rank-called, rank-accepted, let-in}
-use Rattle.account.proofs.ShuffleList.{whole-rows, rows-counted}
 use Rattle.account.proofs.Tallied.{all-counted}
 use Rattle.account.proofs.Theorems.{weight-one, spread-one}
--- stated where they are proved: S in a shuffle, its deviations, and that no more than 499 shuffles are counted
-pub use Rattle.account.proofs.ShuffleList.{at-most-499}
+-- stated where they are proved: S in a shuffle and its deviations, and that the list of an accepted rank is one that the judge of shuffles
+-- takes, so that what holds of such a list holds of it
+pub use Rattle.account.proofs.Accepted.{shuffles-accepted}
 pub use Rattle.account.proofs.Shuffled.{shuffled-total, shuffled-deviation}
 
 -- ---- a shuffle leaves the spread as it is
@@ -66,10 +68,6 @@ pub no-rows : (n : ℕ) (values : List ℤ) (weights : List ℕ) → job-rank n 
 unfolding job-rank compared shuffle-count count
 no-rows n values weights = rw (N.zero-div n) refl
 
--- ---- a list of shuffles fits exactly where it is 0 to 499 whole rows: so many as there are, no more than 499 (`at-most-499`)
-pub rows-fit : (n length rows : ℕ) → 0 < n → rows ≤ 499 → length ≡ rows * n → length ≡ shuffle-count n length * n
-rows-fit n length rows h k e = e ∙ ap (λ r. r * n) (sym (rows-counted n length rows h k e))
-
 -- ---- where nothing is refused
 module _ (n : ℕ) (values : List ℤ) (weights shuffles : List ℕ) (taken : rank-refusal n values weights shuffles ≡ 0) where
   abbrev rows : ℕ
@@ -79,15 +77,8 @@ module _ (n : ℕ) (values : List ℤ) (weights shuffles : List ℕ) (taken : ra
   abbrev row : ℕ → ℕ → ℕ
   row = pair-at shuffles n
 
-  pub rank-rows : length shuffles ≡ rows * n
-  rank-rows = rank-accepted n values weights shuffles taken .rows .count
-
   none-lacks : (r : ℕ) → r < rows → lacks (row r) n ≡ false
   none-lacks = rank-accepted n values weights shuffles taken .rows .full
-
-  -- each row has each zone number once
-  pub every-shuffle : (r : ℕ) → r < rows → Permutation (row r) (stands (row r) n) n
-  every-shuffle r h = full (row r) n (none-lacks r h)
 
   -- the account refuses nothing either
   pub account-accepts : {A : Type 0} (places : List A) → length places ≡ n → account-refusal n values weights places ≡ 0

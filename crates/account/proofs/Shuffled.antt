@@ -8,9 +8,10 @@ use Rattle.whole.specs.Order.{lacks}
 use Rattle.whole.specs.Table.{table, at, pair-at}
 use Rattle.whole.proofs.Permutation.{stands, full, permuted-sum}
 use Rattle.whole.proofs.Table.{table-held}
+use Rattle.shuffles.specs.Steps.{Shuffle}
 use Rattle.account.specs.Measures.{total-of, deviation-of}
 use Rattle.account.specs.Rank.{shuffled, values-cross, shuffle-cross}
-use Rattle.account.specs.Steps.{Sized, Shuffle, cross-held, cross-moved}
+use Rattle.account.specs.Steps.{Sized, cross-held, cross-moved}
 use Rattle.account.proofs.Adding.{cross-alike}
 
 -- ---- the deviations that the zones take in a shuffle are no larger

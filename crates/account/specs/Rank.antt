@@ -1,17 +1,15 @@
 -- The rank of a job: how many shuffles of its values have a P less than, equal to and greater than its own. The job itself is not counted.
 -- A list of shuffles has a row of n zone numbers for each. Assumes nothing.
-use mathlib.Core.Bool.{Bool, cond}
-use mathlib.Core.List.{List, [], _∷_, _++_}
-use Prim.Native.Nat.{ℕ, _*_, _/_}
-use lib.Dec.{ltb}
+use mathlib.Core.List.{List, [], _∷_}
+use Prim.Native.Nat.{ℕ, _*_}
 use lib.IntN.{ℤ}
 use lib.ListN.{length}
 use lib.Signed.{ltZ}
 use Rattle.whole.specs.Integer.{equal}
-use Rattle.whole.specs.Order.{lacks}
-use Rattle.whole.specs.Rules.{Rule, first-broken, size-rules, unless-refused}
-use Rattle.whole.specs.Search.{some, count}
+use Rattle.whole.specs.Rules.{Rule, first-broken, unless-refused}
+use Rattle.whole.specs.Search.{count}
 use Rattle.whole.specs.Table.{at, pair-at}
+use Rattle.shuffles.specs.Shuffles.{shuffle-count, any-lacking}
 use Rattle.account.specs.Measures.{deviation-of, cross-of}
 use Rattle.account.specs.Refusals.{call-rules}
 use Rattle.account.specs.declared.Counts.{Counts}
@@ -19,10 +17,6 @@ use Rattle.account.specs.declared.RankAnswer.{RankAnswer}
 use Rattle.account.specs.declared.RankAnswer.the-variants.{Refused, Counted}
 
 -- ---- what is worked
-
--- the number of shuffles in a list of that length: its whole rows of n, at most 499
-unfoldable pub shuffle-count : ℕ → ℕ → ℕ
-shuffle-count n length = let rows = length / n in cond (ltb 499 rows) 499 rows
 
 -- zone i takes the value of the zone named at place i
 abbrev pub shuffled : (ℕ → ℤ) → (ℕ → ℕ) → ℕ → ℤ
@@ -48,10 +42,6 @@ job-rank n values weights shuffles =
 
 -- ---- what is refused
 
--- a shuffle lacks some zone number
-unfoldable pub any-lacking : ℕ → List ℕ → Bool
-any-lacking n shuffles = some (λ r. lacks (pair-at shuffles n r) n) (shuffle-count n (length shuffles))
-
 -- 1 to 7, then 13; the list of shuffles has nothing beside its 0 to 499 whole rows
 unfoldable pub rank-rules : ℕ → List ℤ → List ℕ → List ℕ → List Rule
 rank-rules n values weights shuffles =
@@ -60,12 +50,6 @@ rank-rules n values weights shuffles =
 -- the rank's refusal, 0 where no rule is broken
 unfoldable pub rank-refusal : ℕ → List ℤ → List ℕ → List ℕ → ℕ
 rank-refusal n values weights shuffles = first-broken (rank-rules n values weights shuffles)
-
--- 1, 2 and 13 of a list of shuffles alone; the refusal is 0 where no rule is broken
-unfoldable pub shuffle-refusal : ℕ → List ℕ → ℕ
-shuffle-refusal n shuffles =
-    first-broken
-    (size-rules n ((length shuffles, shuffle-count n (length shuffles) * n) ∷ []) ++ ((any-lacking n shuffles, 13) ∷ []))
 
 -- ---- what is answered
 

@@ -1,12 +1,11 @@
 -- What the private functions ask of each other; no part of the public promise. Assumes nothing.
 use mathlib.Core.Path.{_≡_}
-use mathlib.Core.Bool.{false, cond}
+use mathlib.Core.Bool.{cond}
 use mathlib.Core.List.{List, [], _∷_}
-use Prim.Native.Nat.{ℕ, _+_, _*_, _≤_, _<_}
+use Prim.Native.Nat.{ℕ, _*_, _≤_, _<_}
 use lib.Dec.{eqb}
 use lib.IntN.{ℤ, natAbs}
 use lib.ListN.{length, getD}
-use Rattle.whole.specs.Order.{lacks}
 use Rattle.whole.specs.Rules.{unless-refused}
 use Rattle.whole.specs.Table.{table, at, pair-at}
 use Rattle.account.specs.Measures.{cross-of}
@@ -41,24 +40,6 @@ unfoldable pub weights-in : List ℕ → List ℕ → ℕ → List ℕ
 weights-in weights classes k = table (λ p. cond (eqb (getD classes p 0) k) (getD weights p 0) 0) (length weights)
 
 -- ---- the shuffles
-
--- the list has a row r of n numbers
-pub record Row (shuffles : List ℕ) (n r : ℕ) : Type 0 where
-  pub zones : n ≤ 64
-  pub early : r < 499
-  pub there : r * n + n ≤ length shuffles
-
--- which is a shuffle of the zones
-pub record Shuffle (shuffles : List ℕ) (n r : ℕ) : Type 0 where
-  pub row : Row shuffles n r
-  pub full : lacks (pair-at shuffles n r) n ≡ false
-
--- the list is so many shuffles
-pub record Shuffles (shuffles : List ℕ) (n rows : ℕ) : Type 0 where
-  pub zones : n ≤ 64
-  pub few : rows ≤ 499
-  pub count : length shuffles ≡ rows * n
-  pub full : (r : ℕ) → r < rows → lacks (pair-at shuffles n r) n ≡ false
 
 -- the P of the deviations that a list holds, and of those that the zones take in shuffle r
 abbrev pub cross-held : List ℕ → ℕ → List ℤ → ℤ

@@ -1,6 +1,5 @@
 // The judges: each answers the number of the first broken rule, 0 where none is broken, and stores nothing.
 use crate::differences;
-use crate::shuffling;
 use crate::working;
 ghost use mathlib.Core.Path.{_≡_};
 ghost use mathlib.Core.List.{[], _∷_};
@@ -9,7 +8,7 @@ ghost use lib.ListN.{length};
 ghost use Rattle.whole.specs.Rules.{first-broken, size-rules};
 ghost use Rattle.account.specs.Refusals.{job-rules, job-lengths, call-rules, job-refusal};
 ghost use Rattle.account.specs.Classes.{class-refusal};
-ghost use Rattle.account.specs.Rank.{shuffle-count, rank-refusal, shuffle-refusal};
+ghost use Rattle.account.specs.Rank.{rank-refusal};
 
 // 3 to 7, of a job whose sizes are good.
 pub fn judge_job(n: usize, values: &[i32], weights: &[u8]) -> u8
@@ -117,58 +116,21 @@ pub fn judge_classes(
     0
 }
 
-// 1 and 2 of a rank: n, and the lengths of its three lists. The shuffles are 0 to 499 whole rows.
-pub fn judge_rank_sizes(n: usize, values: usize, weights: usize, shuffles: usize) -> u8
-    ensures { λ r. ⌜ r ≡ first-broken (size-rules n (job-lengths n values weights ((shuffles, shuffle-count n shuffles * n) ∷ []))) ⌝ }
-{
-    let sizes = judges::judge_sizes(n, values, weights, n, n);
-    if sizes != 0 {
-        return sizes;
-    }
-    let rows = shuffles / n;
-    if rows > 499 {
-        return 2;
-    }
-    if shuffles != rows * n {
-        return 2;
-    }
-    0
-}
-
-// 1 to 7, then 13: the rank's refusal.
+// 1 to 7, then 13: the rank's refusal. The list of shuffles is judged alone; its 2 goes before the job's numbers, its 13 after them.
 pub fn judge_rank(n: usize, values: &[i32], weights: &[u8], shuffles: &[u8]) -> u8
     ensures { λ r. ⌜ r ≡ rank-refusal n (now (values .entry)) (now (weights .entry)) (now (shuffles .entry)) ⌝ }
 {
-    let sizes = judge_rank_sizes(n, values.len(), weights.len(), shuffles.len());
+    let sizes = judges::judge_sizes(n, values.len(), weights.len(), n, n);
     if sizes != 0 {
         return sizes;
+    }
+    let listed = shuffles::judge_shuffles(n, shuffles);
+    if listed == 2 {
+        return listed;
     }
     let job = judge_job(n, values, weights);
     if job != 0 {
         return job;
     }
-    if shuffling::any_lacking(n, shuffles, shuffles.len() / n) {
-        return 13;
-    }
-    0
-}
-
-// 1, 2 and 13 of a list of shuffles alone.
-pub fn judge_shuffles(n: usize, shuffles: &[u8]) -> u8
-    ensures { λ r. ⌜ r ≡ shuffle-refusal n (now (shuffles .entry)) ⌝ }
-{
-    if n < 2 {
-        return 1;
-    }
-    if n > 64 {
-        return 1;
-    }
-    let sizes = judge_rank_sizes(n, n, n * n, shuffles.len());
-    if sizes != 0 {
-        return sizes;
-    }
-    if shuffling::any_lacking(n, shuffles, shuffles.len() / n) {
-        return 13;
-    }
-    0
+    listed
 }

@@ -12,7 +12,6 @@ mod working;
 
 // What the reader and the writer of the job image judge by too.
 pub use judging::judge;
-pub use judging::judge_shuffles;
 ghost use mathlib.Core.Path.{_≡_};
 ghost use lib.ListN.{length};
 ghost use Rattle.account.specs.Refusals.{account-refusal};

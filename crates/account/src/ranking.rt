@@ -4,8 +4,9 @@ use crate::deviations;
 use crate::shuffling;
 ghost use mathlib.Core.Path.{_≡_};
 ghost use Rattle.whole.specs.Table.{at};
+ghost use Rattle.shuffles.specs.Steps.{Shuffle, Shuffles};
 ghost use Rattle.account.specs.Rank.{values-cross, shuffle-cross, compared, three};
-ghost use Rattle.account.specs.Steps.{Sized, Weighted, Job, Shuffle, Shuffles, cross-held, cross-moved};
+ghost use Rattle.account.specs.Steps.{Sized, Weighted, Job, cross-held, cross-moved};
 
 // The P of the deviations d: each row's weighted neighbours are added up first, and multiplied by the row's d once.
 pub fn cross_sum(n: usize, weights: &[u8], d: &[i64]) -> i64

@@ -6,10 +6,11 @@ use Rattle.whole.specs.Search.{count, first}
 use Rattle.whole.specs.Sum.{sum}
 use Rattle.whole.specs.Table.{table, table-rows, pair-at}
 use Rattle.nearest.specs.Answers.{nearest-float}
+use Rattle.shuffles.specs.Shuffles.{shuffle-count}
 use Rattle.account.specs.Measures.{total-of, deviation-of, spread-of, row-of, pairs-of, weight-of, cross-of, squares-of, local-of}
 use Rattle.account.specs.Answers.{class-row, job-locals}
 use Rattle.account.specs.Classes.{class-weight, class-row-of}
-use Rattle.account.specs.Rank.{shuffle-count, values-cross, shuffle-cross, compared, job-rank}
+use Rattle.account.specs.Rank.{values-cross, shuffle-cross, compared, job-rank}
 use Rattle.hot_list.specs.HotList.{hotter, hot-list}
 use Rattle.joins.specs.Joins.{weight-between, joins-of, join-table}
 use Rattle.places.specs.Places.{across, up, squared-distance}

@@ -10,10 +10,11 @@ use Rattle.whole.specs.Table.{table, table-rows, pair-at, each}
 use Rattle.words.specs.Words.{two-at}
 use Rattle.digits.specs.Digits.{unsigned, decimal, hexadecimal}
 use Rattle.nearest.specs.Answers.{nearest-float}
+use Rattle.shuffles.specs.Shuffles.{shuffle-count}
 use Rattle.account.specs.Measures.{total-of, deviation-of, spread-of, row-of, pairs-of, weight-of, cross-of, squares-of, local-of}
 use Rattle.account.specs.Answers.{class-row, job-locals}
 use Rattle.account.specs.Classes.{class-weight, class-row-of}
-use Rattle.account.specs.Rank.{shuffle-count, values-cross, shuffle-cross, compared, job-rank}
+use Rattle.account.specs.Rank.{values-cross, shuffle-cross, compared, job-rank}
 use Rattle.hot_list.specs.HotList.{hotter, hot-list}
 use Rattle.joins.specs.Joins.{weight-between, joins-of}
 use Rattle.places.specs.Places.{across, up, squared-distance}

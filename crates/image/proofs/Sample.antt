@@ -10,8 +10,8 @@ use Rattle.whole.specs.Search.{some, any-beyond, any-above}
 use Rattle.whole.specs.Sum.{sum}
 use Rattle.whole.specs.Table.{table, pair-at, each}
 use Rattle.words.specs.Words.{two-at, word-at}
+use Rattle.shuffles.specs.Shuffles.{shuffle-count, any-lacking}
 use Rattle.account.specs.Measures.{row-of, pairs-of, weight-of, spread-of}
-use Rattle.account.specs.Rank.{shuffle-count, any-lacking}
 use Rattle.places.specs.Places.{across, up, at-one-place, place-rules-of, places-in-turn}
 use Rattle.places.specs.Bands.{any-empty-band, any-not-rising, any-misplaced}
 use Rattle.image.specs.Joins.{put, joins-from, join-rules}

@@ -10,12 +10,12 @@ use lib.ListN.{length}
 use Rattle.whole.specs.Rules.{Rule, first-broken, misfits}
 use Rattle.whole.specs.Search.{any-beyond, any-above, any-on-diagonal}
 use Rattle.whole.proofs.Rules.{holds, neither}
+use Rattle.shuffles.specs.Shuffles.{shuffle-count}
+use Rattle.shuffles.proofs.ShuffleList.{rows-counted}
 use Rattle.account.specs.Refusals.{call-rules, job-refusal, account-rules, account-refusal}
 use Rattle.account.specs.Classes.{class-rules}
-use Rattle.account.specs.Rank as rank
 use Rattle.account.specs.Rank.{rank-refusal, rank-rules}
 use Rattle.account.proofs.Accepted.{Called, called, let-in}
-use Rattle.account.proofs.ShuffleList.{rows-counted}
 use Rattle.joins.specs.Joins.{join-refusal, join-rules}
 use Rattle.places.specs.Places.{place-rules}
 use Rattle.places.specs.Places as places
@@ -91,8 +91,8 @@ module _ (image : List ℕ) (a : Accepted image) where
       let k = c .two in
       let rows = rows-counted n (length (job .shuffles)) (count (from-shuffles image)) (omega arith) (c .shuffles) long in
       let whole = long ∙ ap (λ m. m * n) (sym rows) in
-      call-taken ((length (job .shuffles), rank.shuffle-count n (length (job .shuffles)) * n) ∷ []) _
-      (rw (eq-eqb (length (job .shuffles)) (rank.shuffle-count n (length (job .shuffles)) * n) whole))
+      call-taken ((length (job .shuffles), shuffle-count n (length (job .shuffles)) * n) ∷ []) _
+      (rw (eq-eqb (length (job .shuffles)) (shuffle-count n (length (job .shuffles)) * n) whole))
       (a .shuffles .listed)
 
   joins-taken : (count (from-categories image) ≡ 0 → ⊥) → join-refusal n (job .categories) (job .weights) 64 ≡ 0

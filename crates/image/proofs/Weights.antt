@@ -18,10 +18,9 @@ use Rattle.whole.proofs.InTurn.{Numbered, turn-each}
 use Rattle.whole.proofs.Lists.{within}
 use Rattle.whole.proofs.Rules.{holds, in-range, both-passed, other-fails, first-fails}
 use Rattle.whole.proofs.Search.{none-some, all-within}
+use Rattle.shuffles.specs.Shuffles.{shuffle-count, shuffle-refusal}
+use Rattle.shuffles.proofs.ShuffleList.{rows-counted}
 use Rattle.account.specs.Refusals.{job-rules, sum-rules, call-rules, job-refusal}
-use Rattle.account.specs.Rank.{shuffle-refusal}
-use Rattle.account.specs.Rank as rank
-use Rattle.account.proofs.ShuffleList.{rows-counted}
 use Rattle.image.specs.Joins.{Join, place, put, weights-of, not-rising, join-rules, weight-rules}
 use Rattle.image.specs.Image.{shuffle-rules}
 
@@ -211,4 +210,4 @@ pub shuffles-decide :
 unfolding shuffle-refusal
 shuffles-decide n k shuffles two zones few e =
     let whole = e ∙ ap (λ t. t * n) (sym (rows-counted n (length shuffles) k (omega arith) few e)) in
-    rw (le-ltb n 2 two, le-ltb 64 n zones, eq-eqb (length shuffles) (rank.shuffle-count n (length shuffles) * n) whole)
+    rw (le-ltb n 2 two, le-ltb 64 n zones, eq-eqb (length shuffles) (shuffle-count n (length shuffles) * n) whole)

@@ -12,7 +12,7 @@ use Rattle.whole.specs.Rules.{Rule, first-broken, in-turn, outside}
 use Rattle.whole.specs.Search.{any-beyond, any-above}
 use Rattle.whole.specs.Table.{table, each}
 use Rattle.words.specs.Words.{byte-at, two-at, word-at, two-bytes, word-bytes}
-use Rattle.account.specs.Rank.{any-lacking}
+use Rattle.shuffles.specs.Shuffles.{any-lacking}
 use Rattle.account.specs.Refusals.{sum-rules}
 use Rattle.places.specs.Places.{places-in-turn}
 use Rattle.places.specs.Bands.{any-misplaced}

@@ -84,7 +84,7 @@ fn judge_shuffles(image: &[u8], at: usize, k: usize, n: usize) -> u8
     ensures { λ r. ⌜ r ≡ first-broken (shuffle-rules n (bytes (k * n) (drop at (now (image .entry))))) ⌝ }
 {
     let end = at + k * n;
-    account::judge_shuffles(n, &image[at..end])
+    shuffles::judge_shuffles(n, &image[at..end])
 }
 
 // What is judged of a section before its k items, which have a size: the number so far, or 14 if the count is cut, the count's own number,

@@ -15,12 +15,13 @@ use Rattle.whole.specs.Table.{table, at, each}
 use Rattle.whole.proofs.Machine.{nat}
 use Rattle.whole.proofs.Stores.{each-same}
 use Rattle.whole.proofs.Table.{table-length, table-at, table-held}
+use Rattle.shuffles.proofs.Theorems.{at-most-499}
 use Rattle.account.specs.Classes.{class-sums, row-at}
 use Rattle.account.specs.Rank.{job-rank, three}
 use Rattle.account.specs.declared.ClassRow.{ClassRow}
 use Rattle.account.specs.declared.Counts.{Counts}
 use Rattle.account.proofs.ClassTheorems.{class-sums-row}
-use Rattle.account.proofs.RankTheorems.{rank-adds-up, at-most-499}
+use Rattle.account.proofs.RankTheorems.{rank-adds-up}
 use Rattle.joins.specs.Joins.{join-table}
 use Rattle.joins.proofs.Theorems.{join-table-at}
 use Rattle.coefficients.specs.Coefficients.{class-pair}

@@ -109,7 +109,7 @@ fn judge_shuffles(before: u8, shuffles: &[u8], n: usize, k: usize) -> u8
         return count;
     }
     let entries = k * n;
-    account::judge_shuffles(n, &shuffles[..entries])
+    shuffles::judge_shuffles(n, &shuffles[..entries])
 }
 
 // 6 and 7.

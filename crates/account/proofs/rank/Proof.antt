@@ -4,10 +4,11 @@ use Prim.Native.Nat.{_/_}
 use native.Mathlib.Omega.{arith}
 use lib.ListN.{length}
 use Rattle.whole.proofs.Rules.{kept-when-refused, worked-when-taken}
-use Rattle.account.specs.Rank.{shuffle-count, compared, job-rank, rank-refusal, rank-counts, number-of, counts-of}
-use Rattle.account.specs.Steps.{Shuffles}
+use Rattle.shuffles.specs.Shuffles.{shuffle-count}
+use Rattle.shuffles.specs.Steps.{Shuffles}
+use Rattle.shuffles.proofs.ShuffleList.{whole-rows}
+use Rattle.account.specs.Rank.{compared, job-rank, rank-refusal, rank-counts, number-of, counts-of}
 use Rattle.account.proofs.Accepted.{RankAccepted, rank-accepted}
-use Rattle.account.proofs.ShuffleList.{whole-rows}
 use Rattle.account.proofs.rank.Statement.{statement}
 use Rattle.account.proofs.rank.Tie as tie
 

@@ -9,10 +9,10 @@ use lib.Signed.{ltZ}
 use mir.Syntax.{w64}
 use Rattle.whole.specs.Table.{at}
 use Rattle.whole.proofs.Machine.{Is, rd, r64}
+use Rattle.shuffles.proofs.ShuffleList.{shuffle-there}
 use Rattle.account.specs.Rank.{compared}
 use Rattle.account.specs.Steps.{cross-held, cross-moved}
 use Rattle.account.proofs.Locals.{deviations-cross-told}
-use Rattle.account.proofs.ShuffleList.{shuffle-there}
 use Rattle.account.proofs.Shuffled.{shuffled-size}
 use Rattle.account.proofs.Tallied.{Tallied, none-yet, one-less, one-greater, one-equal, no-more, tallied}
 use Rattle.account.proofs.ranking.tally.Statement.{statement}

@@ -10,7 +10,7 @@ use mir.ValLaws.{toZ-ofZ}
 use Rattle.whole.specs.Table.{at, pair-at}
 use Rattle.whole.proofs.Permutation.{full}
 use Rattle.whole.proofs.Table.{is-table, stored}
-use Rattle.account.proofs.ShuffleList.{row-end}
+use Rattle.shuffles.proofs.ShuffleList.{row-end}
 use Rattle.account.proofs.shuffling.shuffle_deviations.Statement.{statement}
 use Rattle.account.proofs.shuffling.shuffle_deviations.Tie as tie
 

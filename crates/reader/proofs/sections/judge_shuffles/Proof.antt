@@ -5,7 +5,7 @@ use native.Mathlib.Omega.{arith}
 use borrow.Author.Needs.{needs}
 use lib.ListN.{drop}
 use Rattle.whole.proofs.Table.{table-length}
-use Rattle.account.specs.Rank.{shuffle-refusal}
+use Rattle.shuffles.specs.Shuffles.{shuffle-refusal}
 use Rattle.image.specs.Image.{bytes}
 use Rattle.image.proofs.Weights.{shuffles-decide}
 use Rattle.reader.proofs.Parts.{bytes-between}

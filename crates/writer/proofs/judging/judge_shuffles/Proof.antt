@@ -1,4 +1,4 @@
--- `judge_shuffles` meets its contract: the number so far, then the count's; of whole rows the account judges 13 alone. Assumes nothing.
+-- `judge_shuffles` meets its contract: the number so far, then the count's; of whole rows 13 alone is judged. Assumes nothing.
 use mathlib.Core.Path.{_≡_, sym, _∙_}
 use mathlib.Core.List.{List}
 use Prim.Native.Nat.{ℕ, _*_, _≤_}

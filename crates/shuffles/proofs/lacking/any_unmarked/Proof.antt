@@ -7,8 +7,8 @@ use native.Mathlib.Omega.{arith}
 use lib.ListN.{length, getD}
 use Rattle.whole.specs.Search.{some}
 use Rattle.whole.proofs.Search.{some-zero, some-more, some-found, some-done}
-use Rattle.account.proofs.shuffling.any_unmarked.Statement.{statement}
-use Rattle.account.proofs.shuffling.any_unmarked.Tie as tie
+use Rattle.shuffles.proofs.lacking.any_unmarked.Statement.{statement}
+use Rattle.shuffles.proofs.lacking.any_unmarked.Tie as tie
 
 abbrev test : List Bool → ℕ → Bool
 test named k = not (getD named k false)

@@ -8,9 +8,9 @@ use Rattle.whole.specs.Order.{lacks}
 use Rattle.whole.specs.Search.{some}
 use Rattle.whole.specs.Table.{pair-at}
 use Rattle.whole.proofs.Search.{some-zero, some-more, some-found, some-done}
-use Rattle.account.proofs.ShuffleList.{row-there}
-use Rattle.account.proofs.shuffling.any_lacking.Statement.{statement}
-use Rattle.account.proofs.shuffling.any_lacking.Tie as tie
+use Rattle.shuffles.proofs.ShuffleList.{row-there}
+use Rattle.shuffles.proofs.lacking.any_lacking.Statement.{statement}
+use Rattle.shuffles.proofs.lacking.any_lacking.Tie as tie
 
 abbrev test : List ℕ → ℕ → ℕ → Bool
 test shuffles n r = lacks (pair-at shuffles n r) n

@@ -12,8 +12,8 @@ use Rattle.whole.specs.Table.{table, pair-at}
 use Rattle.whole.proofs.Lists.{front, front-le, front-length}
 use Rattle.whole.proofs.Search.{some-cong}
 use Rattle.whole.proofs.Table.{table-length, table-at, table-front}
-use Rattle.account.proofs.shuffling.lacks_zone.Statement.{statement}
-use Rattle.account.proofs.shuffling.lacks_zone.Tie as tie
+use Rattle.shuffles.proofs.lacking.lacks_zone.Statement.{statement}
+use Rattle.shuffles.proofs.lacking.lacks_zone.Tie as tie
 
 -- the marks, as the array's front holds them
 module _ (c : tie.After-mark) where

@@ -10,9 +10,9 @@ use Rattle.whole.specs.Search.{some}
 use Rattle.whole.specs.Table.{pair-at}
 use Rattle.whole.proofs.Search.{some-zero}
 use Rattle.whole.proofs.Table.{is-table, table-length, table-at}
-use Rattle.account.proofs.ShuffleList.{row-end, marked, unmarked}
-use Rattle.account.proofs.shuffling.mark.Statement.{statement}
-use Rattle.account.proofs.shuffling.mark.Tie as tie
+use Rattle.shuffles.proofs.ShuffleList.{row-end, marked, unmarked}
+use Rattle.shuffles.proofs.lacking.mark.Statement.{statement}
+use Rattle.shuffles.proofs.lacking.mark.Tie as tie
 
 abbrev Inv-loop : tie.InvT-loop
 Inv-loop n shuffles r named₀ row i₀ named i =

@@ -11,10 +11,9 @@ use lib.Dec.{ltb, eqb}
 use lib.ListN.{length, getD, set}
 use lib.Seq.{getD-set-same, getD-set-other}
 use Rattle.whole.specs.Search.{some}
-use Rattle.whole.proofs.Permutation.{full}
 use Rattle.whole.proofs.Search.{some-next, some-found}
-use Rattle.account.specs.Rank.{shuffle-count}
-use Rattle.account.specs.Steps.{Row, Shuffle, Shuffles}
+use Rattle.shuffles.specs.Shuffles.{shuffle-count}
+use Rattle.shuffles.specs.Steps.{Row, Shuffle, Shuffles}
 
 -- ---- how many there are
 pub at-most-499 : (n length : ℕ) → shuffle-count n length ≤ 499
