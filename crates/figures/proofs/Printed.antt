@@ -1,6 +1,5 @@
 -- The report of document 01's image is its worked report, byte for byte: antt computes it. Assumes nothing.
 use mathlib.Core.Path.{_≡_, refl, ap, _∙_}
-use Prim.Native.Nat.{ℕ}
 use lib.Ieee.{toBits, round}
 use Rattle.whole.specs.Order.{place-of, ordered}
 use Rattle.whole.specs.Rules.{unless-refused}

@@ -20,7 +20,9 @@ use Rattle.whole.proofs.Table.{table-length}
 use Rattle.whole.proofs.TableRows.{split}
 use Rattle.words.specs.Words.{word-at, word-bytes}
 use Rattle.image.specs.Joins.{Join, weights-of, joins-of, weight-rules}
-use Rattle.image.specs.Image.{Job, count, items, join-in, values-in, from-categories, categories-in, from-joins, joins-in, from-places, places-in, from-bands, bands-in, from-shuffles, shuffles-in, rest, job-of, signed-bytes, join-bytes, section-bytes, job-bytes}
+use Rattle.image.specs.Image.{Job, count, items, join-in, values-in, from-categories, categories-in, from-joins, joins-in}
+use Rattle.image.specs.Image.{from-places, places-in, from-bands, bands-in, from-shuffles, shuffles-in, rest, job-of, signed-bytes}
+use Rattle.image.specs.Image.{join-bytes, section-bytes, job-bytes}
 use Rattle.image.specs.RoundTrip.{given-in}
 use Rattle.image.proofs.Accepted.{Accepted, counted}
 use Rattle.image.proofs.Called.{Within}

@@ -18,7 +18,10 @@ use Rattle.words.specs.Words.{word-at, word-bytes}
 use Rattle.account.specs.Refusals.{sum-rules}
 use Rattle.places.specs.Places.{places-in-turn}
 use Rattle.image.specs.Joins.{Join, weights-of, joins-of, join-rules}
-use Rattle.image.specs.Image.{Job, count, items, after, bytes, join-in, values-in, from-categories, categories-in, from-joins, joins-in, from-places, places-in, from-bands, bands-in, from-shuffles, shuffles-in, rest, job-of, value-rules, category-rules, band-rules, shuffle-rules, image-refusal, signed-bytes, join-bytes, section-bytes, job-bytes}
+use Rattle.image.specs.Image.{Job, count, items, after, bytes, join-in, values-in, from-categories, categories-in, from-joins}
+use Rattle.image.specs.Image.{joins-in, from-places, places-in, from-bands, bands-in, from-shuffles, shuffles-in, rest, job-of}
+use Rattle.image.specs.Image.{value-rules, category-rules, band-rules, shuffle-rules, image-refusal, signed-bytes, join-bytes}
+use Rattle.image.specs.Image.{section-bytes, job-bytes}
 use Rattle.image.specs.declared.Given.{Given}
 use Rattle.image.proofs.Accepted.{part-only, Accepted, let-in}
 use Rattle.image.proofs.ItemKinds.{All, none, more, Kind, listed, listed-back}

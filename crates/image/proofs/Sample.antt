@@ -15,7 +15,8 @@ use Rattle.account.specs.Measures.{row-of, pairs-of, weight-of, spread-of}
 use Rattle.places.specs.Places.{across, up, at-one-place, place-rules-of, places-in-turn}
 use Rattle.places.specs.Bands.{any-empty-band, any-not-rising, any-misplaced}
 use Rattle.image.specs.Joins.{put, joins-from, join-rules}
-use Rattle.image.specs.Image.{Job, job-of, in-values, in-categories, in-joins, in-places, in-bands, in-shuffles, image-rules, image-refusal, job-bytes}
+use Rattle.image.specs.Image.{Job, job-of, in-values, in-categories, in-joins, in-places, in-bands, in-shuffles, image-rules}
+use Rattle.image.specs.Image.{image-refusal, job-bytes}
 use Rattle.image.specs.declared.Given.{Given}
 
 -- values 1 1 3 3; categories 0 0 1 1; joins 0-1 and 1-0 weight 3, 1-2 and 2-1 weight 1; places (0,0) (1,0) (3,0) (9,9); bands 1 4;

@@ -13,7 +13,8 @@ use Rattle.whole.proofs.Rules.{in-range, first-applies, worked-when-taken, kept
 use Rattle.whole.specs.Table.{over}
 use Rattle.account.specs.Classes.{class-rules}
 use Rattle.account.specs.Refusals.{sum-rules}
-use Rattle.image.specs.Image.{Job, count, from-categories, from-joins, from-places, from-bands, from-shuffles, job-of, image-refusal, job-bytes}
+use Rattle.image.specs.Image.{Job, count, from-categories, from-joins, from-places, from-bands, from-shuffles, job-of}
+use Rattle.image.specs.Image.{image-refusal, job-bytes}
 use Rattle.image.specs.Reader.{Buffers, buffer-lengths, filled, counts-in, read-rules, read-refusal, read-counts, read-left}
 use Rattle.image.specs.Writer.{lent-job, write-rules, write-refusal, write-length, write-left}
 use Rattle.image.specs.RoundTrip.{ReadBack, given-in, left, WrittenBack, TakenByAll}
@@ -184,6 +185,7 @@ module _ (image : List ℕ) (lent : Buffers) (e : read-refusal image lent ≡ 0)
 pub read-accepted : (image : List ℕ) (lent : Buffers) → read-refusal image lent ≡ 0 → image-refusal image ≡ 0
 read-accepted image lent e = read-taken image lent e .1
 
-pub image-decides : (image : List ℕ) (lent : Buffers) → misfits (buffer-lengths lent) ≡ false → read-refusal image lent ≡ image-refusal image
+pub image-decides :
+    (image : List ℕ) (lent : Buffers) → misfits (buffer-lengths lent) ≡ false → read-refusal image lent ≡ image-refusal image
 unfolding read-refusal read-rules image-refusal
 image-decides image lent x = rw x

@@ -1,8 +1,8 @@
 -- What the reader answers, and what it leaves in the six buffers that it is lent. Assumes nothing.
-use mathlib.Core.List.{List, [], _∷_, _++_}
+use mathlib.Core.List.{List, [], _∷_}
 use Prim.Native.Nat.{ℕ}
 use lib.IntN.{ℤ}
-use lib.ListN.{length, drop}
+use lib.ListN.{length}
 use Rattle.whole.specs.Rules.{Rule, first-broken, misfits, unless-refused}
 use Rattle.whole.specs.Table.{over}
 use Rattle.image.specs.Image.{Job, count, from-categories, from-joins, from-places, from-bands, from-shuffles, job-of, image-rules}

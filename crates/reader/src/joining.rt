@@ -1,8 +1,6 @@
 // The joins of an image: their judge, and the table of weights that they make.
 ghost use mathlib.Core.Path.{_≡_};
-ghost use mathlib.Core.Bool.{Bool};
 ghost use Prim.Native.Nat.{_+_, _*_, _≤_, _<_};
-ghost use lib.Dec.{ltb};
 ghost use lib.ListN.{length, drop, replicate};
 ghost use Rattle.whole.specs.Rules.{first-broken, in-turn};
 ghost use Rattle.whole.specs.Table.{table};

@@ -6,7 +6,6 @@ mod sections;
 mod storing;
 
 ghost use mathlib.Core.Path.{_≡_};
-ghost use lib.ListN.{length};
 ghost use Rattle.image.specs.Reader.{buffers, read-refusal, read-counts, read-left};
 ghost use Rattle.reader.specs.Answers.{number-of, counts-of};
 

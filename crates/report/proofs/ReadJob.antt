@@ -2,17 +2,18 @@
 use mathlib.Core.Path.{_≡_, sym, ap, _∙_, subst}
 use mathlib.Core.Bool.{false}
 use mathlib.Core.List.{List}
-use Prim.Native.Nat.{ℕ, _*_, _≤_}
+use Prim.Native.Nat.{ℕ, _*_}
 use native.Mathlib.Omega.{arith}
-use lib.ListN.{length, getD}
+use lib.ListN.{getD}
 use Rattle.whole.specs.Rules.{misfits}
-use Rattle.whole.proofs.Rules.{in-range, worked-when-taken, kept-when-refused}
+use Rattle.whole.proofs.Rules.{worked-when-taken, kept-when-refused}
 use Rattle.image.specs.Image.{Job, count, job-of, image-refusal}
 use Rattle.image.specs.Reader.{Buffers, buffer-lengths, counts-in, read-refusal, read-counts, read-left}
 use Rattle.image.specs.RoundTrip.{given-in}
 use Rattle.image.specs.Writer.{lent-job}
 use Rattle.image.specs.declared.Given.{Given}
-use Rattle.image.proofs.Theorems.{taken-by-all, taken-with-classes, job-counted, job-lengths, job-limits, job-left, lengths-left, read-accepted, image-decides}
+use Rattle.image.proofs.Theorems.{taken-by-all, taken-with-classes, job-counted, job-lengths, job-limits, job-left, lengths-left}
+use Rattle.image.proofs.Theorems.{read-accepted, image-decides}
 use Rattle.reader.specs.Answers.{six, number-of, counts-of}
 use Rattle.reader.specs.declared.Counts.{Counts}
 use Rattle.reader.specs.declared.Answer.{Answer}

@@ -1,6 +1,6 @@
 -- A line of a report: a word, fields with a space before each, and a line feed. Bytes are ASCII codes. Assumes nothing.
 use mathlib.Core.List.{List, [], _∷_, _++_}
-use Prim.Native.Char.{Char, code}
+use Prim.Native.Char.{code}
 use Prim.Native.Nat.{ℕ}
 use Prim.Native.String.{String, [] as empty, _∷_ as _then_}
 use lib.Ieee.{Float, binary64, toBits}

@@ -78,7 +78,8 @@ module _ (n : ℕ) (values : List ℤ) (weights : List ℕ) where
   class-line classes k =
       let row = class-row-of n values weights classes k in
       let pair = class-pair n values weights classes k in
-      line "class" (numbers (pos k ∷ row .weight ∷ row .cross ∷ row .squares ∷ []) ++ (coefficient (pair .moran) ++ coefficient (pair .geary)))
+      line "class"
+      (numbers (pos k ∷ row .weight ∷ row .cross ∷ row .squares ∷ []) ++ (coefficient (pair .moran) ++ coefficient (pair .geary)))
 
   -- 0 up to the band count
   unfoldable pub class-lines : List ℤ → List ℕ → List ℕ

@@ -5,7 +5,7 @@ use coefficients::Coefficient;
 use coefficients::Pair;
 ghost use mathlib.Core.Path.{_≡_};
 ghost use Prim.Native.Nat.{suc, _*_, _≤_, _<_};
-ghost use lib.ListN.{length, getD};
+ghost use lib.ListN.{length};
 ghost use Rattle.whole.specs.Table.{each};
 ghost use Rattle.report.specs.Text.{numbered};
 ghost use Rattle.report.specs.Steps.{Put, Room, PrintablePair, PrintablePairs, Within, Listed};

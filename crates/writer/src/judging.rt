@@ -3,7 +3,7 @@
 use crate::joining;
 use image::Given;
 ghost use mathlib.Core.Path.{_≡_};
-ghost use mathlib.Core.List.{[], _∷_, _++_};
+ghost use mathlib.Core.List.{_∷_};
 ghost use Prim.Native.Nat.{_*_, _≤_};
 ghost use lib.ListN.{length, take};
 ghost use Rattle.whole.specs.Rules.{first-broken, misfits, in-turn};

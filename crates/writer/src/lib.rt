@@ -7,7 +7,7 @@ mod storing;
 
 use image::Given;
 ghost use mathlib.Core.Path.{_≡_};
-ghost use Prim.Native.Nat.{_+_, _*_};
+ghost use Prim.Native.Nat.{_*_};
 ghost use lib.ListN.{length};
 ghost use Rattle.image.specs.Reader.{buffers};
 ghost use Rattle.image.specs.Writer.{write-refusal, write-length, write-left};

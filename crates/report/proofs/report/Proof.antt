@@ -67,7 +67,8 @@ returns-2 c =
       omega (arith, put .behind),
       (
         omega (arith, put .behind, long b, b .put-report .ensures .few),
-        put-over put (omega (arith, long b, room)) ∙ page-filled (s .args .image .now) (s .args .page .now) (b .put-report .result) (long b) room,
+        put-over put (omega (arith, long b, room))
+            ∙ page-filled (s .args .image .now) (s .args .page .now) (b .put-report .result) (long b) room,
       ),
     )
 

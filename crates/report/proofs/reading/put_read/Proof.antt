@@ -48,7 +48,9 @@ slice-aggregate-put-job-6 c =
 
 put-job-requires : tie.Need-put-job-requires
 unfolding lent-job
-put-job-requires c κs = let s = c .before .before .before .before .before .before .before .before .before .before .before .before .before .before in (s .pre .0 .sound, s .pre .1)
+put-job-requires c κs =
+    let s = c .before .before .before .before .before .before .before .before .before .before .before .before .before .before in
+    (s .pre .0 .sound, s .pre .1)
 
 same-length : tie.Need-same-length
 same-length c = search needs

@@ -1,5 +1,4 @@
-use mathlib.Core.List.{List}
-use Prim.Native.Nat.{ℕ}
+-- `put_text` meets its contract. Assumes nothing.
 use native.Mathlib.Omega.{arith}
 use borrow.Author.Needs.{needs}
 use Rattle.image.specs.Reader.{Buffers, buffers}
@@ -8,18 +7,21 @@ use Rattle.report.proofs.ReadJob.{Told, read-held, read-text, refused-t
 use Rattle.report.proofs.reading.put_text.Statement.{statement}
 use Rattle.report.proofs.reading.put_text.Tie as tie
 
--- what the reader was lent, and what it told
-abbrev image : tie.After-read → List ℕ
-image b = b .before .before .before .before .before .before .before .before .before .before .before .before .before .args .image .now
+-- where the call began, what the reader was lent, and what it told
+abbrev start : tie.After-read → tie.Start
+start b = b .before .before .before .before .before .before .before .before .before .before .before .before .before
 
-abbrev lent : tie.After-read → Buffers
-lent b =
-    buffers (b .before .before .before .before .before .before .before .before .before .before .before .before .before .args .values .now) (b .before .before .before .before .before .before .before .before .before .before .before .before .before .args .categories .now) (b .before .before .before .before .before .before .before .before .before .before .before .before .before .args .weights .now) (b .before .before .before .before .before .before .before .before .before .before .before .before .before .args .places .now) (b .before .before .before .before .before .before .before .before .before .before .before .before .before .args .bands .now) (b .before .before .before .before .before .before .before .before .before .before .before .before .before .args .shuffles .now)
+abbrev lent : tie.Start → Buffers
+lent s =
+    buffers (s .args .values .now) (s .args .categories .now) (s .args .weights .now)
+    (s .args .places .now) (s .args .bands .now) (s .args .shuffles .now)
 
 abbrev held : tie.After-read → Buffers
-held b = buffers (b .read .last .1 .0) (b .read .last .1 .1 .0) (b .read .last .1 .1 .1 .0) (b .read .last .1 .1 .1 .1 .0) (b .read .last .1 .1 .1 .1 .1 .0) (b .read .last .1 .1 .1 .1 .1 .1 .0)
+held b =
+    let l = b .read .last .1 in
+    buffers (l .0) (l .1 .0) (l .1 .1 .0) (l .1 .1 .1 .0) (l .1 .1 .1 .1 .0) (l .1 .1 .1 .1 .1 .0)
 
-told : (b : tie.After-read) → Told (image b) (lent b) (b .read .result) (held b)
+told : (b : tie.After-read) → Told (start b .args .image .now) (lent (start b)) (b .read .result) (held b)
 told b = let e = b .read .ensures in record { number = e .0; counted = e .1 .0; left = e .1 .1 }
 
 read-requires : tie.Need-read-requires
@@ -37,8 +39,9 @@ enum-known-counts c = search needs
 put-read-requires : tie.Need-put-read-requires
 put-read-requires c κs =
     let g = c .before .before .before .before .before .before .before .before .counts .given in
-    let b = c .before .before .before .before .before .before .before .before .before .before .before .before .before .before .before .before .before .before .before .before in
-    (read-held (told b) (g .1), b .before .before .before .before .before .before .before .before .before .before .before .before .before .pre .1)
+    let b = c .before .before .before .before .before .before .before .before .before .before .before .before .before
+    .before .before .before .before .before .before .before in
+    (read-held (told b) (g .1), start b .pre .1)
 
 same-length : tie.Need-same-length
 same-length c = search needs
@@ -64,9 +67,10 @@ same-length-7 c = search needs
 returns : tie.Need-returns
 returns c =
     let g = c .before .before .before .before .before .number .given in
-    let b = c .before .before .before .before .before .before .before .before .before .before .before .before .before .before .before .before .before in
+    let b = c .before .before .before .before .before .before .before .before .before .before .before .before .before
+    .before .before .before .before in
     let put = c .before .before .put-refusal .ensures in
-    put-as (put-most put (omega arith)) (refused-text (told b) (g .1) (b .before .before .before .before .before .before .before .before .before .before .before .before .before .pre .0))
+    put-as (put-most put (omega arith)) (refused-text (told b) (g .1) (start b .pre .0))
 
 same-length-8 : tie.Need-same-length-8
 same-length-8 c = search needs
@@ -91,7 +95,8 @@ same-length-14 c = search needs
 
 returns-2 : tie.Need-returns-2
 returns-2 c =
-    let b = c .before .before .before .before .before .before .before .before .before .before .before .before .before .before .before .before .before .before .before .before .before .before .before in
+    let b = c .before .before .before .before .before .before .before .before .before .before .before .before .before
+    .before .before .before .before .before .before .before .before .before .before in
     let g = c .before .before .before .before .before .before .before .before .before .before .before .counts .given in
     put-as (c .before .before .put-read .ensures) (read-text (told b) (g .1))
 
