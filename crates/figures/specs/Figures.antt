@@ -2,6 +2,7 @@
 use mathlib.Core.Bool.{Bool, true, false, _&&_}
 use mathlib.Core.List.{List, [], _∷_, _++_}
 use Prim.Native.Nat.{ℕ, _^_}
+use Prim.Native.String.{String}
 use lib.Dec.{eqb}
 use lib.Ieee.{binary64, toBits}
 use lib.IntN.{ℤ, pos, negsuc, _*ℤ_}
@@ -93,10 +94,14 @@ right (rank job shuffles less level greater) =
     same eqb (less ∷ level ∷ greater ∷ []) (job-rank (job .zones) (job .values) (job .weights) shuffles)
 right (ratio p q printed) = prints printed (toBits binary64 (nearest-float p q))
 
-unfoldable pub all-right : List Row → Bool
+-- a row beside the words that say what it is
+abbrev pub Case : Type 0
+Case = String × Row
+
+unfoldable pub all-right : List Case → Bool
 unfolding right
 all-right [] = true
-all-right (row ∷ rows) = right row && all-right rows
+all-right (case ∷ cases) = right (case .1) && all-right cases
 
 -- ---- the jobs
 
@@ -131,24 +136,22 @@ reported = record {
 abbrev pub zeros : ℕ → List ℤ
 zeros n = table (λ k. pos 0) n
 
--- ---- the table: (a); (b); (c), with I and c; (d), with the unclassed pairs, and that its bands 1 and 4 give these classes; the report's
--- hot-list order; (e), a row of eight for category 0, then one for 1; (f), whose second shuffle exchanges the values of zones 0 and 2;
--- (g) and (h), two ties; (i), below 0; (j)
-unfoldable pub published : List Row
+-- ---- the table
+unfoldable pub published : List Case
 published =
-    sums line-of-three (negsuc 17) (pos 4) (pos 42) (pos 34) (pos 18 ∷ negsuc 8 ∷ negsuc 26 ∷ [])
-    ∷ pair two-joined (number (negsuc 0)) (number (pos 1))
-    ∷ sums reported (pos 64) (pos 8) (pos 16) (pos 8) (pos 48 ∷ pos 32 ∷ negsuc 15 ∷ pos 0 ∷ [])
-    ∷ pair reported (bits 0x3FE0000000000000) (bits 0x3FD8000000000000)
-    ∷ class reported 0 (pos 0) (pos 0) (pos 0) none none
-    ∷ class reported 1 (pos 6) (pos 96) (pos 0) (bits 0x3FF0000000000000) (bits 0x0000000000000000)
-    ∷ class reported 2 (pos 2) (negsuc 31) (pos 8) (bits 0xBFF0000000000000) (bits 0x3FF8000000000000)
-    ∷ banded reported (pos 0 ∷ pos 0 ∷ pos 1 ∷ pos 0 ∷ pos 3 ∷ pos 0 ∷ pos 9 ∷ pos 9 ∷ []) (1 ∷ 4 ∷ [])
-    ∷ hot reported (0 ∷ 1 ∷ 3 ∷ 2 ∷ [])
-    ∷ joins reported (0 ∷ 0 ∷ 1 ∷ 1 ∷ []) ((pos 6 ∷ pos 1 ∷ zeros 6) ++ (pos 1 ∷ zeros 7) ++ zeros 48)
-    ∷ rank reported (0 ∷ 1 ∷ 2 ∷ 3 ∷ 2 ∷ 1 ∷ 0 ∷ 3 ∷ []) 1 1 0
-    ∷ ratio (pos 9007199254740993) (pos 1) (number (pos 9007199254740992))
-    ∷ ratio (pos 9007199254740995) (pos 1) (number (pos 9007199254740996))
-    ∷ ratio (negsuc 0) (pos 3) (bits 0xBFD5555555555555)
-    ∷ ratio (pos 1) (pos 10) (bits 0x3FB999999999999A)
+    ("(a)", sums line-of-three (negsuc 17) (pos 4) (pos 42) (pos 34) (pos 18 ∷ negsuc 8 ∷ negsuc 26 ∷ []))
+    ∷ ("(b)", pair two-joined (number (negsuc 0)) (number (pos 1)))
+    ∷ ("(c)", sums reported (pos 64) (pos 8) (pos 16) (pos 8) (pos 48 ∷ pos 32 ∷ negsuc 15 ∷ pos 0 ∷ []))
+    ∷ ("the report's I and c", pair reported (bits 0x3FE0000000000000) (bits 0x3FD8000000000000))
+    ∷ ("the report's unclassed pairs", class reported 0 (pos 0) (pos 0) (pos 0) none none)
+    ∷ ("(d), class 1", class reported 1 (pos 6) (pos 96) (pos 0) (bits 0x3FF0000000000000) (bits 0x0000000000000000))
+    ∷ ("(d), class 2", class reported 2 (pos 2) (negsuc 31) (pos 8) (bits 0xBFF0000000000000) (bits 0x3FF8000000000000))
+    ∷ ("(d), from places and bands", banded reported (pos 0 ∷ pos 0 ∷ pos 1 ∷ pos 0 ∷ pos 3 ∷ pos 0 ∷ pos 9 ∷ pos 9 ∷ []) (1 ∷ 4 ∷ []))
+    ∷ ("the report's hot list", hot reported (0 ∷ 1 ∷ 3 ∷ 2 ∷ []))
+    ∷ ("(e)", joins reported (0 ∷ 0 ∷ 1 ∷ 1 ∷ []) ((pos 6 ∷ pos 1 ∷ zeros 6) ++ (pos 1 ∷ zeros 7) ++ zeros 48))
+    ∷ ("(f)", rank reported (0 ∷ 1 ∷ 2 ∷ 3 ∷ 2 ∷ 1 ∷ 0 ∷ 3 ∷ []) 1 1 0)
+    ∷ ("(g), a tie", ratio (pos 9007199254740993) (pos 1) (number (pos 9007199254740992)))
+    ∷ ("(h), a tie", ratio (pos 9007199254740995) (pos 1) (number (pos 9007199254740996)))
+    ∷ ("(i)", ratio (negsuc 0) (pos 3) (bits 0xBFD5555555555555))
+    ∷ ("(j)", ratio (pos 1) (pos 10) (bits 0x3FB999999999999A))
     ∷ []

@@ -108,12 +108,12 @@ pub record Low (n : ℕ) (classes : List ℕ) : Type 0 where
   pub classes-fit : length classes ≡ n * n
   pub low : any-above 8 classes ≡ false
 
--- which are those of the bands, where there are bands
+-- such classes, which are those of the bands where there are bands
 pub record Classed (n : ℕ) (places : List ℤ) (bands classes : List ℕ) : Type 0 where
   pub within : Low n classes
   pub made : (length bands ≡ 0 → ⊥) → classes ≡ band-classes n places bands
 
--- and its other lists, each where it has something in it
+-- a job's values and weights, and its other lists, each where it has something in it
 pub record SoundLists (n : ℕ) (values : List ℤ) (categories weights : List ℕ) (places : List ℤ) (bands shuffles : List ℕ) : Type 0 where
   pub job : Sound n values weights
   pub joined : Joinable n categories weights
@@ -121,6 +121,7 @@ pub record SoundLists (n : ℕ) (values : List ℤ) (categories weights : List �
   pub few-bands : length bands ≤ 8
   pub ranked : rank-refusal n values weights shuffles ≡ 0
 
+-- the same of a job
 abbrev pub SoundJob : ℕ → Job → Type 0
 SoundJob n job = SoundLists n (job .values) (job .categories) (job .weights) (job .places) (job .bands) (job .shuffles)
 

@@ -73,7 +73,7 @@ module _ (n : ℕ) (values : List ℤ) (weights : List ℕ) where
   unfoldable pub rank-line : List ℕ → List ℕ
   rank-line shuffles = line "rank" (numbers (whole (job-rank n values weights shuffles)))
 
-  -- class, W, P, G, Moran, Geary, of the classes that bands of distance between places give
+  -- class, W, P, G, Moran, Geary, under some classes of the pairs
   unfoldable pub class-line : List ℕ → ℕ → List ℕ
   class-line classes k =
       let row = class-row-of n values weights classes k in
@@ -81,7 +81,7 @@ module _ (n : ℕ) (values : List ℤ) (weights : List ℕ) where
       line "class"
       (numbers (pos k ∷ row .weight ∷ row .cross ∷ row .squares ∷ []) ++ (coefficient (pair .moran) ++ coefficient (pair .geary)))
 
-  -- 0 up to the band count
+  -- class 0 up to the band count, under the classes that the bands give
   unfoldable pub class-lines : List ℤ → List ℕ → List ℕ
   class-lines places bands = each (class-line (band-classes n places bands)) (numbered (suc (length bands)))
 
