@@ -16,12 +16,9 @@ pub fn put(page: &mut [u8], at: usize, text: &[u8]) -> usize
     requires { ⌜ Room (now page) at (length (now text)) ⌝ }
     ensures { λ r. ⌜ Put (now (page .entry)) (now (page .exit)) at r (length (now (text .entry))) (now (text .entry)) ⌝ }
 {
-    let mut i: usize = 0;
-    while i < text.len() {
-        page[at + i] = text[i];
-        i += 1;
-    }
-    at + text.len()
+    let end = at + text.len();
+    words::bytes_in(text, &mut page[at..end]);
+    end
 }
 
 // A whole number.

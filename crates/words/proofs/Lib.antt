@@ -1,2 +1,3 @@
 -- Laws of the definitions.
 pub mod Beyond
+pub mod PartFilled

@@ -70,9 +70,6 @@ pub fn put_bytes(out: &mut [u8], at: usize, numbers: &[u8])
     requires { ⌜ at + length (now numbers) ≤ length (now out) ⌝ }
     ensures { λ _. ⌜ now (out .exit) ≡ sets (now (out .entry)) at (now (numbers .entry)) ⌝ }
 {
-    let mut i: usize = 0;
-    while i < numbers.len() {
-        out[at + i] = numbers[i];
-        i += 1;
-    }
+    let end = at + numbers.len();
+    words::bytes_in(numbers, &mut out[at..end]);
 }

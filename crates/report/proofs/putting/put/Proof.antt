@@ -1,71 +1,45 @@
--- `put` meets its contract. The loop's invariant: the bytes passed are stored from `at` on. Assumes nothing.
-use mathlib.Core.Path.{refl, sym, ap}
-use mathlib.Core.List.{[], _∷_}
-use Prim.Native.Nat.{_+_, _-_, _≤_}
+-- `put` meets its contract. Assumes nothing.
+use mathlib.Core.Path.{refl}
 use native.Mathlib.Omega.{arith}
-use lib.ListN.{length, getD, take}
-use lib.Seq.{length-take-le}
-use Rattle.whole.proofs.Stores.{Stored, stored-length, stored-none, stored-next, stored-all, front-next, front-all}
+use borrow.Author.Needs.{needs}
+use Rattle.words.proofs.PartFilled.{part-filled}
 use Rattle.report.proofs.putting.put.Statement.{statement}
 use Rattle.report.proofs.putting.put.Tie as tie
 
-abbrev Inv-loop : tie.InvT-loop
-Inv-loop page₀ at text i₀ page i = (i ≤ length text) × Stored page₀ at (take i text) page
+add-end : tie.Need-add-end
+add-end c = search needs
 
-abbrev μ-loop : tie.MeasureT-loop
-μ-loop page₀ at text i₀ page i = length text - i
+sub-bytes-in : tie.Need-sub-bytes-in
+sub-bytes-in c = search needs
 
-loop-holds : tie.Need-loop-holds Inv-loop μ-loop
-loop-holds c = (omega arith, stored-none _ refl)
+part-bytes-in-start : tie.Need-part-bytes-in-start
+part-bytes-in-start c = search needs
 
-shared-slice-read-page : tie.Need-shared-slice-read-page Inv-loop μ-loop
-shared-slice-read-page c = omega arith
+part-bytes-in-end : tie.Need-part-bytes-in-end
+part-bytes-in-end c = search needs
 
-add-page : tie.Need-add-page Inv-loop μ-loop
-add-page c = omega arith
+bytes-in-requires : tie.Need-bytes-in-requires
+bytes-in-requires c κs = search needs
 
-slice-write-page : tie.Need-slice-write-page Inv-loop μ-loop
-slice-write-page c = omega (arith, stored-length (c .before .before .loop .inv .1))
+same-length : tie.Need-same-length
+same-length c = search needs
 
-add-i : tie.Need-add-i Inv-loop μ-loop
-add-i c = omega arith
-
-loop-less : tie.Need-loop-less Inv-loop μ-loop
-loop-less c = omega arith
-
-loop-again : tie.Need-loop-again Inv-loop μ-loop
-loop-again c =
-    let l = c .before .before .loop in
-    let a = c .before .before .before .args in
-    let text = a .text .now in
-    let place = ap (λ k. a .at + k) (sym (length-take-le (l .i) text (omega arith))) in
-    (omega arith, stored-next (getD text (l .i) 0 ∷ []) (l .inv .1) refl place (front-next text (l .i) 0 (omega arith)))
-
-add-result : tie.Need-add-result Inv-loop μ-loop
-add-result c = omega arith
-
-same-length : tie.Need-same-length Inv-loop μ-loop
-same-length c = stored-length (c .before .loop .inv .1)
-
-returns : tie.Need-returns Inv-loop μ-loop
+returns : tie.Need-returns
 returns c =
-    let l = c .before .loop in
-    let text = c .before .before .args .text .now in
-    record { same = stored-all text (l .inv .1) (front-all text (l .i) (omega arith)); behind = refl; few = omega arith }
+    let s = c .before .before .before .before .before .before in record {
+      same = part-filled (s .args .text .now) (s .args .page .now) _ (s .args .at) (s .pre) (c .before .before .bytes-in .ensures);
+      behind = refl;
+      few = omega arith;
+    }
 
 pub put-spec : {M : Type 1} → statement M
 put-spec =
     tie.close
     (tie.spec
-    Inv-loop
-    μ-loop
-    loop-holds
-    shared-slice-read-page
-    add-page
-    slice-write-page
-    add-i
-    loop-less
-    loop-again
-    add-result
+    add-end
+    sub-bytes-in
+    part-bytes-in-start
+    part-bytes-in-end
+    bytes-in-requires
     same-length
     returns)

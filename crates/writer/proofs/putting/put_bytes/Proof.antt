@@ -1,66 +1,40 @@
--- `put_bytes` meets its contract. The loop's invariant: the numbers passed are stored from `at` on. Assumes nothing.
-use mathlib.Core.Path.{refl, sym, ap}
-use mathlib.Core.List.{[], _∷_}
-use Prim.Native.Nat.{_+_, _-_, _≤_}
-use native.Mathlib.Omega.{arith}
-use lib.ListN.{length, getD, take}
-use lib.Seq.{length-take-le}
-use Rattle.whole.proofs.Stores.{Stored, stored-length, stored-none, stored-next, stored-all, front-next, front-all}
+-- `put_bytes` meets its contract. Assumes nothing.
+use borrow.Author.Needs.{needs}
+use Rattle.words.proofs.PartFilled.{part-filled}
 use Rattle.writer.proofs.putting.put_bytes.Statement.{statement}
 use Rattle.writer.proofs.putting.put_bytes.Tie as tie
 
-abbrev Inv-loop : tie.InvT-loop
-Inv-loop out₀ at numbers i₀ out i = (i ≤ length numbers) × Stored out₀ at (take i numbers) out
+add-end : tie.Need-add-end
+add-end c = search needs
 
-abbrev μ-loop : tie.MeasureT-loop
-μ-loop out₀ at numbers i₀ out i = length numbers - i
+sub-bytes-in : tie.Need-sub-bytes-in
+sub-bytes-in c = search needs
 
-loop-holds : tie.Need-loop-holds Inv-loop μ-loop
-loop-holds c = (omega arith, stored-none _ refl)
+part-bytes-in-start : tie.Need-part-bytes-in-start
+part-bytes-in-start c = search needs
 
-shared-slice-read-out : tie.Need-shared-slice-read-out Inv-loop μ-loop
-shared-slice-read-out c = omega arith
+part-bytes-in-end : tie.Need-part-bytes-in-end
+part-bytes-in-end c = search needs
 
-add-out : tie.Need-add-out Inv-loop μ-loop
-add-out c = omega arith
+bytes-in-requires : tie.Need-bytes-in-requires
+bytes-in-requires c κs = search needs
 
-slice-write-out : tie.Need-slice-write-out Inv-loop μ-loop
-slice-write-out c = omega (arith, stored-length (c .before .before .loop .inv .1))
+same-length : tie.Need-same-length
+same-length c = search needs
 
-add-i : tie.Need-add-i Inv-loop μ-loop
-add-i c = omega arith
-
-loop-less : tie.Need-loop-less Inv-loop μ-loop
-loop-less c = omega arith
-
-loop-again : tie.Need-loop-again Inv-loop μ-loop
-loop-again c =
-    let l = c .before .before .loop in
-    let a = c .before .before .before .args in
-    let numbers = a .numbers .now in
-    let place = ap (λ k. a .at + k) (sym (length-take-le (l .i) numbers (omega arith))) in
-    (omega arith, stored-next (getD numbers (l .i) 0 ∷ []) (l .inv .1) refl place (front-next numbers (l .i) 0 (omega arith)))
-
-same-length : tie.Need-same-length Inv-loop μ-loop
-same-length c = stored-length (c .before .loop .inv .1)
-
-returns : tie.Need-returns Inv-loop μ-loop
+returns : tie.Need-returns
 returns c =
-    let l = c .before .loop in
-    stored-all _ (l .inv .1) (front-all (c .before .before .args .numbers .now) (l .i) (omega arith))
+    let s = c .before .before .before .before .before .before in
+    part-filled (s .args .numbers .now) (s .args .out .now) _ (s .args .at) (s .pre) (c .before .before .bytes-in .ensures)
 
 pub put-bytes-spec : {M : Type 1} → statement M
 put-bytes-spec =
     tie.close
     (tie.spec
-    Inv-loop
-    μ-loop
-    loop-holds
-    shared-slice-read-out
-    add-out
-    slice-write-out
-    add-i
-    loop-less
-    loop-again
+    add-end
+    sub-bytes-in
+    part-bytes-in-start
+    part-bytes-in-end
+    bytes-in-requires
     same-length
     returns)
