@@ -53,14 +53,15 @@ pub fn any_beyond(limit: u32, numbers: &[i32]) -> bool
 pub fn any_above(limit: u8, numbers: &[u8]) -> bool
     ensures { λ r. ⌜ r ≡ any-above limit (now (numbers .entry)) ⌝ }
 {
+    let mut found = false;
     let mut i: usize = 0;
     while i < numbers.len() {
         if numbers[i] > limit {
-            return true;
+            found = true;
         }
         i += 1;
     }
-    false
+    found
 }
 
 // Whether some weight stands on the diagonal, where each zone has a row of n weights. A place behind the list's end has none.

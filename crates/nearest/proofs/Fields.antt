@@ -14,7 +14,7 @@ use lib.Pow.{pow-pos}
 use Rattle.nearest.specs.Bits.{negative, field, digits, Finite, steps, size-of}
 
 -- ---- from the bits to the value
-fields-value : (s : Bool) (x t : ℕ) → x < 2047 → HasValue (ofFields binary64 s x t) s (steps x t) (2 ^ 1074)
+pub fields-value : (s : Bool) (x t : ℕ) → x < 2047 → HasValue (ofFields binary64 s x t) s (steps x t) (2 ^ 1074)
 unfolding ofFields
 fields-value s zero t h = subst (λ (z : ℕ). HasValue (odd 53 s t 0 1074) s z (2 ^ 1074)) (mul-one t) (odd-sign 53 s t 0 1074)
 fields-value s (suc x) t h = go (eqb (suc x) 2047) (eqb→eq (suc x) 2047)

@@ -3,6 +3,7 @@ pub mod Compare
 pub mod Distance
 pub mod Between
 pub mod Powers
+pub mod Doublings
 pub mod LongDivision
 pub mod Neighbours
 pub mod Fields

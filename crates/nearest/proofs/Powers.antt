@@ -1,21 +1,23 @@
 -- A whole number of at most as many binary digits as the format has, scaled by powers of 2: nothing is rounded. Assumes nothing.
-use mathlib.Core.Path.{_≡_, refl, sym, ap, _∙_}
+use mathlib.Core.Path.{_≡_, sym, ap, _∙_}
 use mathlib.Core.Logic.{_⊎_, inl, inr, ⊎-elim}
 use mathlib.Core.Bool.{Bool, false, cond}
-use Prim.Native.Nat.{ℕ, suc, _+_, _-_, _*_, _/_, _^_, _≤_, _<_}
+use Prim.Native.Nat.{ℕ, zero, suc, _+_, _-_, _*_, _/_, _^_, _≤_, _<_}
 use native.Mathlib.Nat as N
-use native.Mathlib.Numerals.{add-one}
 use native.Mathlib.Omega.{arith}
+use lib.Arith.{lt→nleb}
 use lib.Dec.{T}
-use lib.Ieee.{Float, nan, inf, fin, Format, prec, emax, low, up, down, top, hid, size, round, mul, ofInt, ofBits, toBits, fits}
+use lib.Ieee.{Float, nan, inf, fin, Format, binary64, prec, emax, low, up, down, top, hid, size, round, mul, ofInt, ofBits, toBits, fits}
 use lib.Ieee.Back.{round-whole}
-use lib.Ieee.Bits.{ofBits-toBits}
+use lib.Ieee.Bits.{is-false, ofBits-toBits}
 use lib.Ieee.Digits.{back}
 use lib.Ieee.Exact.{HasValue, round-exact}
 use lib.Ieee.Fits.{down-pos, two, two-le-pos}
 use lib.Ieee.Positive.{mul-at, positive-of-value}
-use lib.IntN.{pos, negsuc}
+use lib.IntN.{pos}
 use lib.Pow.{pow-add, pow-pos, pow-mono, pow-lt, shl-lt}
+use Rattle.nearest.specs.Bits.{negative, field, digits}
+use Rattle.nearest.proofs.Fields.{fields-value}
 
 -- ---- a value is written in one way
 bits-of-value :
@@ -92,28 +94,30 @@ module _ (f : Format) (m j i : ℕ) (M : m ≤ 2 ^ prec f) (J : prec f + j ≤ e
   pub exact : (s : Bool) → HasValue (round f s (m * 2 ^ j) (2 ^ i)) s (m * 2 ^ j) (2 ^ i)
   exact s = elim (N.eq-or-lt-of-le M) [ inl e ↦ full s e | inr l ↦ fewer s l ]
 
--- ---- in the code: m is cast and multiplied by 2^j, then halved
+-- ---- in the code: a power of 2 is made by its bits, the field x and no digits, and m is cast and multiplied by it
+pub power-bits : (j i x : ℕ) → x + i ≡ 1023 + j → 0 < x → x < 2047 → HasValue (ofBits binary64 (x * 2 ^ 52)) false (2 ^ j) (2 ^ i)
+unfolding ofBits
+power-bits j i zero e P B = let z : ⊥ = omega arith in absurd z
+power-bits j i (suc y) e P B =
+    let b = suc y * 2 ^ 52 in
+    let sign-is : negative b ≡ false = is-false (negative b) (lt→nleb (2 ^ 63) b (omega arith)) in
+    let field-is : field b ≡ suc y = omega arith in
+    let digits-are : digits b ≡ 0 = omega arith in
+    let places : j + 1074 ≡ 52 + y + i = omega arith in
+    rescale (ofBits binary64 b) false (2 ^ 52 * 2 ^ y) (2 ^ 1074) (2 ^ j) (2 ^ i) (pow-pos 1074)
+    (sym (pow-add 2 j 1074) ∙ ap (λ (z : ℕ). 2 ^ z) places ∙ pow-add 2 (52 + y) i ∙ ap (λ (z : ℕ). z * 2 ^ i) (pow-add 2 52 y))
+    (rw (sign-is, field-is, digits-are) (fields-value false (suc y) 0 B))
+
 pub cast :
-    (f : Format) (m j : ℕ) → 0 < m → m ≤ 2 ^ prec f →
-    mul f (ofInt f (pos m)) (fin false 1 (pos j)) ≡ round f false (m * 2 ^ j) (2 ^ 0)
+    (f : Format) (m j i : ℕ) (y : Float) → 0 < m → m ≤ 2 ^ prec f → HasValue y false (2 ^ j) (2 ^ i) →
+    mul f (ofInt f (pos m)) y ≡ round f false (m * 2 ^ j) (2 ^ i)
 unfolding ofInt
-cast f m j P M =
+cast f m j i y P M u =
     let x = round f false m 1 in
     let v : HasValue x false m 1 = round-whole f false m M in
-    let u : HasValue (fin false 1 (pos j)) false (2 ^ j) 1 = (refl, ap (λ (z : ℕ). z * 1) (N.one-mul (2 ^ j))) in
-    mul-at f x (fin false 1 (pos j)) m 1 (2 ^ j) 1 (positive-of-value x m 1 v P) tt (pow-pos 0) (pow-pos 0) v u
-
-pub halve :
-    (f : Format) (m j i : ℕ) → 0 < m → m ≤ 2 ^ prec f → prec f + j ≤ emax f → i ≤ low f →
-    mul f (round f false (m * 2 ^ j) (2 ^ i)) (fin false 1 (negsuc 0)) ≡ round f false (m * 2 ^ j) (2 ^ (i + 1))
-halve f m j i P M J I =
-    let x = round f false (m * 2 ^ j) (2 ^ i) in
-    let v : HasValue x false (m * 2 ^ j) (2 ^ i) = exact f m j i M J I false in
-    let u : HasValue (fin false 1 (negsuc 0)) false 1 2 = (refl, refl) in
-    let positive = positive-of-value x (m * 2 ^ j) (2 ^ i) v (N.mul-pos P (pow-pos j)) in
-    mul-at f x (fin false 1 (negsuc 0)) (m * 2 ^ j) (2 ^ i) 1 2 positive tt (pow-pos i) (pow-pos 1) v u
-    ∙ ap (λ (z : ℕ). round f false z (2 ^ i * 2)) (N.mul-one (m * 2 ^ j))
-    ∙ ap (λ (z : ℕ). round f false (m * 2 ^ j) z) (sym (N.pow-suc 2 i) ∙ ap (λ (z : ℕ). 2 ^ z) (sym (add-one i)))
+    let above = positive-of-value y (2 ^ j) (2 ^ i) u (pow-pos j) in
+    mul-at f x y m 1 (2 ^ j) (2 ^ i) (positive-of-value x m 1 v P) above (pow-pos 0) (pow-pos i) v u
+    ∙ ap (λ (z : ℕ). round f false (m * 2 ^ j) z) (N.one-mul (2 ^ i))
 
 -- the code's doublings leave the format room
 pub few-doublings : (j : ℕ) → (j ≡ 0) ⊎ (j ≡ 10) → 53 + j ≤ 1023

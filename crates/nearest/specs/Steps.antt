@@ -10,6 +10,12 @@ pub record Widened (q divisor doublings : ℕ) : Type 0 where
   pub least : 1024 ≤ divisor
   pub most : divisor < 2 ^ 63
 
+-- doubled so often, x stays below 2^64, and it cannot be doubled more often
+pub record Room (x doublings : ℕ) : Type 0 where
+  pub few : doublings ≤ 64
+  pub inside : (x + 1) * 2 ^ doublings ≤ 2 ^ 64
+  pub most : (k : ℕ) → x < 2 ^ k → 64 ≤ k + doublings
+
 -- the quotient of a × 2^halvings by the divisor: a whole part of 53 binary digits, and the rest
 pub record Divided (a divisor whole rest halvings : ℕ) : Type 0 where
   pub same : whole * divisor + rest ≡ a * 2 ^ halvings

@@ -1,13 +1,13 @@
 // The integer long division, to a quotient of 53 binary digits.
 ghost use mathlib.Core.Path.{_≡_};
 ghost use Prim.Native.Nat.{_+_, _*_, _^_, _≤_, _<_};
-ghost use Rattle.nearest.specs.Steps.{Widened, Divided};
+ghost use Rattle.nearest.specs.Steps.{Widened, Room, Divided};
 
 // 2^52, the least number of 53 binary digits.
 const LEAST: u64 = 4503599627370496;
 
-// 2^53: what is below it can be doubled ten times and stays below 2^63.
-const ROOM: u64 = 9007199254740992;
+// Where the divisor leaves room for fewer digits, a division costs more than doublings do.
+const WORTH: u64 = 5;
 
 // What is divided by: q, doubled some times.
 pub struct Divisor {
@@ -28,7 +28,7 @@ pub fn widened(q: u64) -> Divisor
     requires { ⌜ q < 2 ^ 63 ⌝ }
     ensures { λ r. ⌜ Widened q (r .divisor) (r .doublings) ⌝ }
 {
-    if q < ROOM {
+    if q < 1024 {
         Divisor {
             divisor: q * 1024,
             doublings: 10,
@@ -38,6 +38,46 @@ pub fn widened(q: u64) -> Divisor
             divisor: q,
             doublings: 0,
         }
+    }
+}
+
+// How often a number can be doubled and stay below 2^64.
+fn room(x: u64) -> u64
+    ensures { λ r. ⌜ Room x r ⌝ }
+{
+    u64::leading_zeros(x) as u64
+}
+
+// How many digits more one division gives: as many as the divisor leaves room for, and no more than are lacking.
+fn count(whole: u64, most: u64) -> u64
+    requires { ⌜ whole < 2 ^ 52 ⌝ }
+    requires { ⌜ 0 < most ⌝ }
+    ensures { λ c. ⌜ 0 < c ⌝ }
+    ensures { λ c. ⌜ c ≤ most ⌝ }
+    ensures { λ c. ⌜ c ≤ 53 ⌝ }
+    ensures { λ c. ⌜ (whole + 1) * 2 ^ c ≤ 2 ^ 53 ⌝ }
+{
+    let lacking = room(whole) - 11;
+    if lacking < most { lacking } else { most }
+}
+
+// So many binary digits more, by a division.
+fn more_digits(x: Quotient, divisor: u64, count: u64) -> Quotient
+    requires { ⌜ x .rest < divisor ⌝ }
+    requires { ⌜ (divisor + 1) * 2 ^ count ≤ 2 ^ 64 ⌝ }
+    requires { ⌜ (x .whole + 1) * 2 ^ count ≤ 2 ^ 53 ⌝ }
+    requires { ⌜ count ≤ 53 ⌝ }
+    requires { ⌜ x .halvings < 1000 ⌝ }
+    ensures { λ y. ⌜ y .whole * divisor + y .rest ≡ (x .whole * divisor + x .rest) * 2 ^ count ⌝ }
+    ensures { λ y. ⌜ y .rest < divisor ⌝ }
+    ensures { λ y. ⌜ y .whole < 2 ^ 53 ⌝ }
+    ensures { λ y. ⌜ y .halvings ≡ x .halvings + count ⌝ }
+{
+    let rest = x.rest << count;
+    Quotient {
+        whole: (x.whole << count) + rest / divisor,
+        rest: rest % divisor,
+        halvings: x.halvings + count,
     }
 }
 
@@ -76,13 +116,18 @@ pub fn long_division(a: u64, divisor: u64) -> Quotient
     requires { ⌜ divisor < 2 ^ 63 ⌝ }
     ensures { λ y. ⌜ Divided a divisor (y .whole) (y .rest) (y .halvings) ⌝ }
 {
+    let most = room(divisor);
     let mut x = Quotient {
         whole: a / divisor,
         rest: a % divisor,
         halvings: 0,
     };
     while x.whole < LEAST {
-        x = next_digit(x, divisor);
+        if most < WORTH {
+            x = next_digit(x, divisor);
+        } else {
+            x = more_digits(x, divisor, count(x.whole, most));
+        }
     }
     x
 }

@@ -30,14 +30,15 @@ pub fn mark(n: usize, shuffles: &[u8], r: usize, named: &mut [bool])
 pub fn any_unmarked(named: &[bool]) -> bool
     ensures { λ r. ⌜ r ≡ some (λ k. not (getD (now (named .entry)) k false)) (length (now (named .entry))) ⌝ }
 {
+    let mut found = false;
     let mut k: usize = 0;
     while k < named.len() {
         if !named[k] {
-            return true;
+            found = true;
         }
         k += 1;
     }
-    false
+    found
 }
 
 // Whether row r lacks some zone number.

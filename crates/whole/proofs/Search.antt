@@ -1,6 +1,6 @@
 -- Laws of `some`, as a searching loop uses them. Assumes nothing.
 use mathlib.Core.Path.{_≡_, refl, sym, ap, _∙_}
-use mathlib.Core.Bool.{Bool, true, false, false≢true, _||_}
+use mathlib.Core.Bool.{Bool, true, false, false≢true, _||_, or-false}
 use mathlib.Core.List.{List}
 use Prim.Native.Nat.{ℕ, zero, suc, _+_, _≤_, _<_}
 use native.Mathlib.Numerals.{add-one}
@@ -28,6 +28,10 @@ module _ (test : ℕ → Bool) where
   -- none so far, and not here
   pub some-more : (n : ℕ) → some test n ≡ false → test n ≡ false → some test (n + 1) ≡ false
   some-more n p q = some-next n ∙ rw (p, q) refl
+
+  -- not here: the answer stays
+  pub some-same : (n : ℕ) → test n ≡ false → some test n ≡ some test (n + 1)
+  some-same n e = sym (some-next n ∙ rw e (or-false (some test n)))
 
   -- one that passes
   some-hit : (n k : ℕ) → k < n → test k ≡ true → some test n ≡ true

@@ -1,38 +1,32 @@
--- `any_above` meets its contract. The loop's invariant: no number passed is above the limit. Assumes nothing.
-use mathlib.Core.Path.{_≡_}
-use mathlib.Core.Bool.{Bool, false}
+-- `any_above` meets its contract. The loop's invariant: `found` says whether some number passed is above the limit. Assumes nothing.
+use mathlib.Core.Path.{_≡_, sym, ap, _∙_}
+use mathlib.Core.Logic.{⊎-elim}
+use mathlib.Core.Bool.{Bool}
 use mathlib.Core.List.{List}
-use Prim.Native.Nat.{ℕ, _-_, _≤_}
+use Prim.Native.Nat.{ℕ, _+_, _-_, _≤_}
 use native.Mathlib.Omega.{arith}
 use borrow.Author.Tests.{lt-ltb, le-ltb}
 use lib.Dec.{ltb}
 use lib.ListN.{length, getD}
 use Rattle.whole.specs.Search.{some, any-above}
-use Rattle.whole.proofs.Search.{some-zero, some-more, some-found, some-done}
+use Rattle.whole.proofs.Search.{some-zero, some-found, some-same}
 use Rattle.judges.proofs.any_above.Statement.{statement}
 use Rattle.judges.proofs.any_above.Tie as tie
-
-abbrev Inv-loop : tie.InvT-loop
-Inv-loop limit numbers i₀ i = (i ≤ length numbers) × (some (λ k. ltb limit (getD numbers k 0)) i ≡ false)
-
-abbrev μ-loop : tie.MeasureT-loop
-μ-loop limit numbers i₀ i = length numbers - i
 
 abbrev test : ℕ → List ℕ → ℕ → Bool
 test limit numbers k = ltb limit (getD numbers k 0)
 
+abbrev Inv-loop : tie.InvT-loop
+Inv-loop limit numbers found₀ i₀ found i = (i ≤ length numbers) × (found ≡ some (test limit numbers) i)
+
+abbrev μ-loop : tie.MeasureT-loop
+μ-loop limit numbers found₀ i₀ found i = length numbers - i
+
 loop-holds : tie.Need-loop-holds Inv-loop μ-loop
-loop-holds c = (omega arith, some-zero _)
+loop-holds c = (omega arith, sym (some-zero _))
 
 shared-slice-read-if1 : tie.Need-shared-slice-read-if1 Inv-loop μ-loop
 shared-slice-read-if1 c = omega arith
-
-returns : tie.Need-returns Inv-loop μ-loop
-unfolding any-above
-returns c =
-    let b = c .before .before .before in
-    let a = b .before .args in
-    some-found (test (a .limit) (a .numbers .now)) (length (a .numbers .now)) (b .loop .i) (omega arith) (lt-ltb _ _ (c .if1 .taken))
 
 add-i : tie.Need-add-i Inv-loop μ-loop
 add-i c = omega arith
@@ -44,25 +38,20 @@ loop-again : tie.Need-loop-again Inv-loop μ-loop
 loop-again c =
     let b = c .before .before .before in
     let a = b .before .args in
-    (omega arith, some-more (test (a .limit) (a .numbers .now)) (b .loop .i) (b .loop .inv .1) (le-ltb _ _ (c .if1 .left)))
+    let t = test (a .limit) (a .numbers .now) in
+    let i = b .loop .i in (
+      omega arith,
+      ⊎-elim (λ u. u .1 ∙ some-found t (i + 1) i (omega arith) (lt-ltb _ _ (u .0 .taken)))
+          (λ u. u .1 ∙ b .loop .inv .1 ∙ some-same t i (le-ltb _ _ (u .0 .left))) (c .if1 .came),
+    )
 
-returns-2 : tie.Need-returns-2 Inv-loop μ-loop
+returns : tie.Need-returns Inv-loop μ-loop
 unfolding any-above
-returns-2 c =
+returns c =
     let b = c .before in
     let a = b .before .args in
-    some-done (test (a .limit) (a .numbers .now)) (b .loop .i) _ (omega arith) (b .loop .inv .1)
+    b .loop .inv .1 ∙ ap (some (test (a .limit) (a .numbers .now))) (omega arith)
 
 pub any-above-spec : {M : Type 1} → statement M
 any-above-spec =
-    tie.close
-    (tie.spec
-    Inv-loop
-    μ-loop
-    loop-holds
-    shared-slice-read-if1
-    returns
-    add-i
-    loop-less
-    loop-again
-    returns-2)
+    tie.close (tie.spec Inv-loop μ-loop loop-holds shared-slice-read-if1 add-i loop-less loop-again returns)
