@@ -1,9 +1,11 @@
 -- What the account promises of an accepted job, as the coefficients are formed from it. Assumes nothing.
 use mathlib.Core.Path.{_≡_, refl, ap}
 use mathlib.Core.List.{List}
-use Prim.Native.Nat.{ℕ, _*_, _<_}
+use Prim.Native.Nat.{ℕ, _*_, _≤_, _<_}
 use native.Mathlib.Omega.{arith}
 use lib.IntN.{ℤ, pos}
+use lib.ListN.{length, take}
+use lib.Seq.{length-take-le, getD-take}
 use lib.Signed.{_≤ℤ_}
 use Rattle.whole.specs.Rules.{first-broken}
 use Rattle.whole.specs.Table.{at, pair-at}
@@ -93,19 +95,26 @@ module _ (n : ℕ) (values : List ℤ) (weights classes : List ℕ) (lent : List
       let range = zones-in-range n values weights classes lent taken in
       record { few = omega (arith, range .1); each = λ i h. local-ratio i (omega arith) }
 
-  class-numerators : Numerators (spread-of (at values) n) (class-locals n values weights classes)
-  class-numerators =
+  class-numerators :
+      (count : ℕ) → count ≤ 9 * n → Numerators (spread-of (at values) n) (take count (class-locals n values weights classes))
+  class-numerators count h =
+      let numerators = class-locals n values weights classes in
       let l = class-locals-length n values weights classes in
-      let range = zones-in-range n values weights classes lent taken in
-      record { few = omega (arith, range .1); each = λ t h. class-local-ratio t (omega arith) }
+      let as-many : length (take count numerators) ≡ count = length-take-le count numerators (omega arith) in
+      let range = zones-in-range n values weights classes lent taken in record {
+        few = omega (arith, range .1);
+        each = λ t g. rw (getD-take count numerators t (pos 0) (omega arith)) (class-local-ratio t (omega arith));
+      }
 
-  -- all that the report's work asks for
-  pub reportable : Reportable n values weights (class-sums n values weights classes) (class-locals n values weights classes)
-  reportable = record {
+  -- all that the report's work asks for, with so many of the local numerators of the classes
+  pub reportable :
+      (count : ℕ) → count ≤ 9 * n →
+      Reportable n values weights (class-sums n values weights classes) (take count (class-locals n values weights classes))
+  reportable count h = record {
     zones = zones-in-range n values weights classes lent taken .1;
     accepted = λ locals l. account-taken n values weights classes lent taken locals l;
     whole = job-formable;
     numerators = job-numerators;
     class-rows = class-rows;
-    class-numerators = class-numerators;
+    class-numerators = class-numerators count h;
   }

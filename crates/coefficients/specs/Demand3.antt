@@ -1,5 +1,5 @@
--- Demand 3 at a glance: of one job under one assignment of classes, what the account, the class account and the float report are lent,
--- what they hand out by their contracts, and what then holds of it. Assumes nothing.
+-- Demand 3 at a glance: of one job under one assignment of classes, what the account, the class account and the float report, whole or
+-- plain, are lent, what they hand out by their contracts, and what then holds of it. Assumes nothing.
 use mathlib.Core.Path.{_≡_}
 use mathlib.Core.List.{List}
 use Prim.Native.Nat.{ℕ, _+_, _*_, _-_, _≤_, _<_}
@@ -19,6 +19,7 @@ use Rattle.account.specs.declared.ClassRow.{ClassRow}
 use Rattle.account.specs.declared.Sums.{Sums}
 use Rattle.coefficients.specs.FloatReport.{number-of, pair-in, report-refusal, no-pair}
 use Rattle.coefficients.specs.FloatReport.{report-whole, report-classes, report-figures, report-parts}
+use Rattle.coefficients.specs.FloatReport.{plain-refusal, plain-whole, plain-classes, plain-figures}
 use Rattle.coefficients.specs.declared.Answer.the-variants.{Reported}
 use Rattle.coefficients.specs.declared.Coefficient.{Coefficient}
 use Rattle.coefficients.specs.declared.Coefficient.the-variants.{Figure, Weightless}
@@ -71,6 +72,28 @@ module _ (n : ℕ) (values : List ℤ) (weights classes : List ℕ) where
     pub class-pairs : out .report .classes ≡ report-classes n values weights classes (before .figures) (before .parts)
     pub figures-lent : out .after .figures ≡ report-figures n values weights classes (before .figures) (before .parts)
     pub parts-lent : out .after .parts ≡ report-parts n values weights classes (before .figures) (before .parts)
+
+  -- the contract of `plain_report`, clause by clause, of its answer and of what is then in the list that it is lent
+  pub record PlainContract (figures : List Float) (r : Report) (left : List Float) : Type 0 where
+    pub number : number-of (r .whole) ≡ plain-refusal n values weights classes figures
+    pub whole-pair : pair-in (r .whole) ≡ plain-whole n values weights classes figures
+    pub class-pairs : r .classes ≡ plain-classes n values weights classes figures
+    pub lent : left ≡ plain-figures n values weights classes figures
+
+-- the same handed out, with the answer and the local figures of `plain_report` in the place of the float report's
+abbrev pub with-plain : HandedOut → Report → List Float → HandedOut
+with-plain out r left = record {
+  answer = out .answer;
+  number = out .number;
+  report = r;
+  after = record {
+    locals = out .after .locals;
+    rows = out .after .rows;
+    class-locals = out .after .class-locals;
+    figures = left;
+    parts = out .after .parts;
+  };
+}
 
 -- ---- what holds of it
 

@@ -5,6 +5,7 @@ mod working;
 ghost use mathlib.Core.Path.{_≡_};
 ghost use Rattle.coefficients.specs.FloatReport.{number-of, pair-in, report-refusal};
 ghost use Rattle.coefficients.specs.FloatReport.{report-whole, report-classes, report-figures, report-parts};
+ghost use Rattle.coefficients.specs.FloatReport.{plain-refusal, plain-whole, plain-classes, plain-figures};
 
 // A coefficient: the nearest float to its exact ratio. A class without weight has none, and says so.
 pub enum Coefficient {
@@ -55,27 +56,32 @@ pub fn float_report(
     if lent != 0 {
         return working::refused(lent);
     }
-    let places = 9 * n;
-    let mut rows: [i64; 27] = [0; 27];
-    let mut numerators: [i64; 576] = [0; 576];
-    let refusal = account::class_account(
-        n,
-        values,
-        weights,
-        classes,
-        &mut rows,
-        &mut numerators[..places],
-    );
-    if refusal != 0 {
-        return working::refused(refusal);
+    working::report_sized(n, values, weights, classes, figures, parts)
+}
+
+// The float report without the local figures of the classes, which are most of its divisions: `figures` has n places for the local Moran
+// of each zone, and is left as it was where the job is refused.
+pub fn plain_report(
+    n: usize,
+    values: &[i32],
+    weights: &[u8],
+    classes: &[u8],
+    figures: &mut [f64],
+) -> Report
+    ensures number { λ r. ⌜ number-of (r .whole) ≡ plain-refusal n
+        (now (values .entry)) (now (weights .entry)) (now (classes .entry)) (now (figures .entry)) ⌝ }
+    ensures whole { λ r. ⌜ pair-in (r .whole) ≡ plain-whole n
+        (now (values .entry)) (now (weights .entry)) (now (classes .entry)) (now (figures .entry)) ⌝ }
+    ensures pairs { λ r. ⌜ r .classes ≡ plain-classes n
+        (now (values .entry)) (now (weights .entry)) (now (classes .entry)) (now (figures .entry)) ⌝ }
+    ensures figures { λ _. ⌜ now (figures .exit) ≡ plain-figures n
+        (now (values .entry)) (now (weights .entry)) (now (classes .entry)) (now (figures .entry)) ⌝ }
+{
+    let sizes = judges::judge_sizes(n, values.len(), weights.len(), figures.len(), n);
+    if sizes != 0 {
+        return working::refused(sizes);
     }
-    working::report_job(
-        n,
-        values,
-        weights,
-        &rows,
-        &numerators[..places],
-        figures,
-        parts,
-    )
+    // The local figures of the classes get no place.
+    let mut space: [f64; 1] = [0.0; 1];
+    working::report_sized(n, values, weights, classes, figures, &mut space[..0])
 }

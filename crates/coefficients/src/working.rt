@@ -8,17 +8,17 @@ use account::ClassRow;
 use account::Sums;
 ghost use mathlib.Core.Path.{_≡_};
 ghost use mathlib.Core.List.{[], _∷_};
-ghost use Prim.Native.Nat.{_*_};
-ghost use lib.ListN.{length};
-ghost use Rattle.whole.specs.Rules.{first-broken, size-rules};
+ghost use Prim.Native.Nat.{_*_, _≤_};
+ghost use lib.ListN.{length, take};
+ghost use Rattle.whole.specs.Rules.{first-broken, size-rules, unless-refused};
 ghost use Rattle.whole.specs.Table.{table, at};
 ghost use Rattle.account.specs.Measures.{spread-of};
 ghost use Rattle.account.specs.Answers.{five, job-figures, job-locals};
-ghost use Rattle.account.specs.Classes.{row-at};
+ghost use Rattle.account.specs.Classes.{row-at, class-locals};
 ghost use Rattle.account.specs.Refusals.{account-refusal};
 ghost use Rattle.coefficients.specs.Coefficients.{pair-of, job-pair, local-figures};
 ghost use Rattle.coefficients.specs.FloatReport.{no-pair};
-ghost use Rattle.coefficients.specs.Steps.{Reportable};
+ghost use Rattle.coefficients.specs.Steps.{Reportable, rest-refusal, Reports};
 ghost use Rattle.coefficients.specs.declared.Answer.the-variants.{Refused, Reported};
 
 // 1 and 2, of n and the two lists of floats.
@@ -115,4 +115,51 @@ pub fn report_job(
         whole: Answer::Reported(whole),
         classes: forming::class_pairs(n, spread, rows),
     }
+}
+
+// The report of a call whose n and whose lists of floats were judged: the class account judges the rest. `parts` has places for the local
+// figures of the classes, or for the first of them, or for none.
+pub fn report_sized(
+    n: usize,
+    values: &[i32],
+    weights: &[u8],
+    classes: &[u8],
+    figures: &mut [f64],
+    parts: &mut [f64],
+) -> Report
+    requires { ⌜ n ≤ 64 ⌝ }
+    requires { ⌜ length (now figures) ≡ n ⌝ }
+    requires { ⌜ length (now parts) ≤ 9 * n ⌝ }
+    ensures { λ r. ⌜ Reports (rest-refusal n (now (values .entry)) (now (weights .entry)) (now (classes .entry))) n
+        (now (values .entry)) (now (weights .entry)) (now (classes .entry)) (now (figures .entry)) r (now (figures .exit)) ⌝ }
+    ensures { λ _. ⌜ now (parts .exit)
+        ≡ unless-refused (rest-refusal n (now (values .entry)) (now (weights .entry)) (now (classes .entry)))
+        (local-figures (spread-of (at (now (values .entry))) n) (take (length (now (parts .entry)))
+        (class-locals n (now (values .entry)) (now (weights .entry)) (now (classes .entry)))))
+        (now (parts .entry)) ⌝ }
+{
+    let places = 9 * n;
+    let mut rows: [i64; 27] = [0; 27];
+    let mut numerators: [i64; 576] = [0; 576];
+    let refusal = account::class_account(
+        n,
+        values,
+        weights,
+        classes,
+        &mut rows,
+        &mut numerators[..places],
+    );
+    if refusal != 0 {
+        return refused(refusal);
+    }
+    let wanted = parts.len();
+    report_job(
+        n,
+        values,
+        weights,
+        &rows,
+        &numerators[..wanted],
+        figures,
+        parts,
+    )
 }

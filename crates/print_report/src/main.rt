@@ -10,10 +10,10 @@ fn input_room() -> [u8; 44909]
     [0; 44909]
 }
 
-fn page_room() -> [u8; 18304]
-    ensures { λ r. ⌜ 18304 ≡ length r ⌝ }
+fn page_room() -> [u8; 16384]
+    ensures { λ r. ⌜ 16384 ≡ length r ⌝ }
 {
-    [0; 18304]
+    [0; 16384]
 }
 
 fn main() {

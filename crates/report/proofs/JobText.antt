@@ -2,7 +2,7 @@
 use mathlib.Core.Path.{_≡_, refl, sym, ap, _∙_}
 use mathlib.Core.Bool.{false, cond}
 use mathlib.Core.List.{List, [], _∷_, _++_, append-assoc}
-use Prim.Native.Nat.{ℕ, suc, _*_, _<_}
+use Prim.Native.Nat.{ℕ, suc, _<_}
 use native.Mathlib.Omega.{arith}
 use borrow.Author.Tests.{eq-eqb, ne-eqb}
 use lib.Dec.{eqb}
@@ -29,7 +29,7 @@ use Rattle.hot_list.specs.HotList.{hot-list}
 use Rattle.hot_list.proofs.HotTheorems.{hot-list-length, hot-list-each}
 use Rattle.coefficients.specs.Coefficients.{pair-of, job-pair, class-pair, local-figures}
 use Rattle.coefficients.specs.Coefficients as coefficients
-use Rattle.coefficients.specs.FloatReport.{pair-in, no-pair, report-refusal, report-whole, report-classes, report-figures}
+use Rattle.coefficients.specs.FloatReport.{pair-in, no-pair, plain-refusal, plain-whole, plain-classes, plain-figures}
 use Rattle.coefficients.specs.declared.Answer.{Answer}
 use Rattle.coefficients.specs.declared.Answer.the-variants.{Refused, Reported}
 use Rattle.coefficients.specs.declared.Pair.{Pair}
@@ -159,7 +159,7 @@ module _ (n : ℕ) (values : List ℤ) (weights : List ℕ) (sound : Sound n val
         (pair : Pair) → pair ≡ job-pair n values weights → sum-lines n sums ++ ratio-lines n sums pair ≡ job-lines n values weights
     job-lines-are pair f = ap (λ p. sum-lines n sums ++ ratio-lines n sums p) f ∙ with-pair
 
--- ---- the float report refuses nothing
+-- ---- the plain report refuses nothing
 
 -- it answers the pair of the job and those of the classes, and leaves the local figures
 pub record Reports (n : ℕ) (values : List ℤ) (weights classes : List ℕ) (report : Report) (left : List Float) : Type 0 where
@@ -168,22 +168,20 @@ pub record Reports (n : ℕ) (values : List ℤ) (weights classes : List ℕ) (r
   pub of-zones : left ≡ local-figures (spread-of (at values) n) (job-locals n values weights)
 
 module _ {n : ℕ} {values : List ℤ} {weights classes : List ℕ} (sound : Sound n values weights) (low : Low n classes) where
-  report-taken :
-      (figures parts : List Float) → length figures ≡ n → length parts ≡ 9 * n → report-refusal n values weights classes figures parts ≡ 0
-  unfolding report-refusal
-  report-taken figures parts e f =
-      sound .classed classes ((length figures, n) ∷ (length parts, 9 * n) ∷ []) (low .classes-fit) (low .low)
-      (rw (eq-eqb (length figures) n e, eq-eqb (length parts) (9 * n) f) refl)
+  plain-taken : (figures : List Float) → length figures ≡ n → plain-refusal n values weights classes figures ≡ 0
+  unfolding plain-refusal
+  plain-taken figures e =
+      sound .classed classes ((length figures, n) ∷ []) (low .classes-fit) (low .low) (rw (eq-eqb (length figures) n e) refl)
 
   pub reports :
-      (figures parts : List Float) {report : Report} {left : List Float} → length figures ≡ n → length parts ≡ 9 * n →
-      pair-in (report .whole) ≡ report-whole n values weights classes figures parts →
-      report .classes ≡ report-classes n values weights classes figures parts →
-      left ≡ report-figures n values weights classes figures parts →
+      (figures : List Float) {report : Report} {left : List Float} → length figures ≡ n →
+      pair-in (report .whole) ≡ plain-whole n values weights classes figures →
+      report .classes ≡ plain-classes n values weights classes figures →
+      left ≡ plain-figures n values weights classes figures →
       Reports n values weights classes report left
-  unfolding report-whole report-classes report-figures
-  reports figures parts e f whole pairs zones =
-      let z = report-taken figures parts e f in record {
+  unfolding plain-whole plain-classes plain-figures
+  reports figures e whole pairs zones =
+      let z = plain-taken figures e in record {
         of-job = whole ∙ worked-when-taken _ _ _ z;
         of-classes = pairs ∙ worked-when-taken _ _ _ z;
         of-zones = zones ∙ worked-when-taken _ _ _ z;

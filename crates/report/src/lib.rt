@@ -10,17 +10,17 @@ ghost use lib.ListN.{length};
 ghost use Rattle.report.specs.Text.{report-text, page-left};
 
 // A page that every report fits. Only its length is promised, so that the list stays small in proofs.
-fn blank() -> [u8; 18304]
-    ensures { λ r. ⌜ 18304 ≡ length r ⌝ }
+fn blank() -> [u8; 16384]
+    ensures { λ r. ⌜ 16384 ≡ length r ⌝ }
 {
-    [0; 18304]
+    [0; 16384]
 }
 
 // Puts the text of an image's report at the front of `page`: the lines of its job, or `refused` and the number. Answers the text's length,
-// which is at most 18,304; where the page has no room for all of it, it is left as it was.
+// which is at most 16,384; where the page has no room for all of it, it is left as it was.
 pub fn report(image: &[u8], page: &mut [u8]) -> usize
     ensures length { λ r. ⌜ r ≡ length (report-text (now (image .entry))) ⌝ }
-    ensures few { λ r. ⌜ r ≤ 18304 ⌝ }
+    ensures few { λ r. ⌜ r ≤ 16384 ⌝ }
     ensures page { λ _. ⌜ now (page .exit) ≡ page-left (now (image .entry)) (now (page .entry)) ⌝ }
 {
     let mut own = blank();

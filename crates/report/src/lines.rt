@@ -14,8 +14,8 @@ ghost use Rattle.report.specs.Steps.{sum-lines, ratio-lines, zone-line, 
 // n S M, then W P G.
 pub fn put_sums(page: &mut [u8], at: usize, n: usize, sums: Sums) -> usize
     requires { ⌜ n ≤ 64 ⌝ }
-    requires { ⌜ Room (now page) at 256 ⌝ }
-    ensures { λ r. ⌜ Put (now (page .entry)) (now (page .exit)) at r 256 (sum-lines n sums) ⌝ }
+    requires { ⌜ Room (now page) at 192 ⌝ }
+    ensures { λ r. ⌜ Put (now (page .entry)) (now (page .exit)) at r 192 (sum-lines n sums) ⌝ }
 {
     let total = sums.total;
     let spread = sums.spread;
@@ -32,8 +32,8 @@ pub fn put_sums(page: &mut [u8], at: usize, n: usize, sums: Sums) -> usize
 pub fn put_ratios(page: &mut [u8], at: usize, n: usize, sums: Sums, pair: Pair) -> usize
     requires { ⌜ Within n sums ⌝ }
     requires { ⌜ PrintablePair pair ⌝ }
-    requires { ⌜ Room (now page) at 384 ⌝ }
-    ensures { λ r. ⌜ Put (now (page .entry)) (now (page .exit)) at r 384 (ratio-lines n sums pair) ⌝ }
+    requires { ⌜ Room (now page) at 352 ⌝ }
+    ensures { λ r. ⌜ Put (now (page .entry)) (now (page .exit)) at r 352 (ratio-lines n sums pair) ⌝ }
 {
     let moran = pair.moran;
     let geary = pair.geary;
@@ -84,8 +84,8 @@ pub fn put_zones(
 fn put_table_row(page: &mut [u8], at: usize, table: &[i64], r: usize) -> usize
     requires { ⌜ length (now table) ≡ 64 ⌝ }
     requires { ⌜ r < 8 ⌝ }
-    requires { ⌜ Room (now page) at 1024 ⌝ }
-    ensures { λ p. ⌜ Put (now (page .entry)) (now (page .exit)) at p 1024 (each (table-line (now (table .entry)) r) (numbered 8)) ⌝ }
+    requires { ⌜ Room (now page) at 768 ⌝ }
+    ensures { λ p. ⌜ Put (now (page .entry)) (now (page .exit)) at p 768 (each (table-line (now (table .entry)) r) (numbered 8)) ⌝ }
 {
     let mut place = at;
     let mut s: usize = 0;
@@ -103,8 +103,8 @@ fn put_table_row(page: &mut [u8], at: usize, table: &[i64], r: usize) -> usize
 // The entries above 0 of the join table, row by row.
 pub fn put_table(page: &mut [u8], at: usize, table: &[i64]) -> usize
     requires { ⌜ length (now table) ≡ 64 ⌝ }
-    requires { ⌜ Room (now page) at 8192 ⌝ }
-    ensures { λ p. ⌜ Put (now (page .entry)) (now (page .exit)) at p 8192
+    requires { ⌜ Room (now page) at 6144 ⌝ }
+    ensures { λ p. ⌜ Put (now (page .entry)) (now (page .exit)) at p 6144
         (each (λ r. each (table-line (now (table .entry)) r) (numbered 8)) (numbered 8)) ⌝ }
 {
     let mut place = at;

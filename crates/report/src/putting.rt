@@ -84,8 +84,8 @@ fn put_start(page: &mut [u8], at: usize, word: &[u8], list: &[i64]) -> usize
 // A line of numbers.
 pub fn put_line(page: &mut [u8], at: usize, word: &[u8], list: &[i64]) -> usize
     requires { ⌜ Short (now word) (now list) ⌝ }
-    requires { ⌜ Room (now page) at 128 ⌝ }
-    ensures { λ r. ⌜ Put (now (page .entry)) (now (page .exit)) at r 128
+    requires { ⌜ Room (now page) at 96 ⌝ }
+    ensures { λ r. ⌜ Put (now (page .entry)) (now (page .exit)) at r 96
         (now (word .entry) ++ (numbers (now (list .entry)) ++ (10 ∷ []))) ⌝ }
 {
     let place = put_start(page, at, word, list);

@@ -12,8 +12,8 @@ ghost use Rattle.report.specs.Steps.{Put, Room, Exact, Held, given-of};
 
 // The line of an image that is refused.
 fn put_refusal(page: &mut [u8], number: u8) -> usize
-    requires { ⌜ Room (now page) 0 128 ⌝ }
-    ensures { λ r. ⌜ Put (now (page .entry)) (now (page .exit)) 0 r 128 (refusal-line number) ⌝ }
+    requires { ⌜ Room (now page) 0 96 ⌝ }
+    ensures { λ r. ⌜ Put (now (page .entry)) (now (page .exit)) 0 r 96 (refusal-line number) ⌝ }
 {
     let list = [number as i64];
     putting::put_line(page, 0, b"refused", &list)
@@ -31,8 +31,8 @@ fn put_read(
     shuffles: &[u8],
 ) -> usize
     requires { ⌜ Held counts (buffers (now values) (now categories) (now weights) (now places) (now bands) (now shuffles)) ⌝ }
-    requires { ⌜ Room (now page) 0 18304 ⌝ }
-    ensures { λ r. ⌜ Put (now (page .entry)) (now (page .exit)) 0 r 18304
+    requires { ⌜ Room (now page) 0 16128 ⌝ }
+    ensures { λ r. ⌜ Put (now (page .entry)) (now (page .exit)) 0 r 16128
         (job-text (counts .values) (lent-job (given-of counts)
         (buffers (now (values .entry)) (now (categories .entry)) (now (weights .entry))
         (now (places .entry)) (now (bands .entry)) (now (shuffles .entry))))) ⌝ }
@@ -67,8 +67,8 @@ fn put_text(
     shuffles: &mut [u8],
 ) -> usize
     requires { ⌜ Exact (buffers (now values) (now categories) (now weights) (now places) (now bands) (now shuffles)) ⌝ }
-    requires { ⌜ Room (now page) 0 18304 ⌝ }
-    ensures { λ r. ⌜ Put (now (page .entry)) (now (page .exit)) 0 r 18304 (report-text (now (image .entry))) ⌝ }
+    requires { ⌜ Room (now page) 0 16128 ⌝ }
+    ensures { λ r. ⌜ Put (now (page .entry)) (now (page .exit)) 0 r 16128 (report-text (now (image .entry))) ⌝ }
 {
     match reader::read(image, values, categories, weights, places, bands, shuffles) {
         Answer::Refused(number) => put_refusal(page, number),
@@ -100,8 +100,8 @@ fn shuffle_room() -> [u8; 31936]
 
 // The text of an image at the front of a page.
 pub fn put_report(page: &mut [u8], image: &[u8]) -> usize
-    requires { ⌜ Room (now page) 0 18304 ⌝ }
-    ensures { λ r. ⌜ Put (now (page .entry)) (now (page .exit)) 0 r 18304 (report-text (now (image .entry))) ⌝ }
+    requires { ⌜ Room (now page) 0 16128 ⌝ }
+    ensures { λ r. ⌜ Put (now (page .entry)) (now (page .exit)) 0 r 16128 (report-text (now (image .entry))) ⌝ }
 {
     let mut values: [i32; 64] = [0; 64];
     let mut categories: [u8; 64] = [0; 64];

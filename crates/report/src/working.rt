@@ -78,8 +78,8 @@ fn put_account(
     requires { ⌜ Sound n (now values) (now weights) ⌝ }
     requires { ⌜ pair ≡ job-pair n (now values) (now weights) ⌝ }
     requires { ⌜ now figures ≡ local-figures (spread-of (Table·at (now values)) n) (job-locals n (now values) (now weights)) ⌝ }
-    requires { ⌜ Room (now page) 0 8832 ⌝ }
-    ensures { λ r. ⌜ Put (now (page .entry)) (now (page .exit)) 0 r 8832
+    requires { ⌜ Room (now page) 0 8736 ⌝ }
+    ensures { λ r. ⌜ Put (now (page .entry)) (now (page .exit)) 0 r 8736
         (job-lines n (now (values .entry)) (now (weights .entry)) ++ local-lines n (now (values .entry)) (now (weights .entry))) ⌝ }
 {
     let mut space: [i64; 64] = [0; 64];
@@ -98,8 +98,8 @@ fn put_account(
 // The pair lines, which need categories.
 fn put_pairs(page: &mut [u8], at: usize, n: usize, categories: &[u8], weights: &[u8]) -> usize
     requires { ⌜ Joinable n (now categories) (now weights) ⌝ }
-    requires { ⌜ Room (now page) at 8192 ⌝ }
-    ensures { λ r. ⌜ Put (now (page .entry)) (now (page .exit)) at r 8192
+    requires { ⌜ Room (now page) at 6144 ⌝ }
+    ensures { λ r. ⌜ Put (now (page .entry)) (now (page .exit)) at r 6144
         (where-given (now (categories .entry)) (pair-lines n (now (categories .entry)) (now (weights .entry)))) ⌝ }
 {
     if categories.len() == 0 {
@@ -157,8 +157,8 @@ fn put_rank(
     shuffles: &[u8],
 ) -> usize
     requires { ⌜ rank-refusal n (now values) (now weights) (now shuffles) ≡ 0 ⌝ }
-    requires { ⌜ Room (now page) at 128 ⌝ }
-    ensures { λ r. ⌜ Put (now (page .entry)) (now (page .exit)) at r 128
+    requires { ⌜ Room (now page) at 96 ⌝ }
+    ensures { λ r. ⌜ Put (now (page .entry)) (now (page .exit)) at r 96
         (where-given (now (shuffles .entry)) (rank-line n (now (values .entry)) (now (weights .entry)) (now (shuffles .entry)))) ⌝ }
 {
     if shuffles.len() == 0 {
@@ -184,13 +184,6 @@ fn class_room() -> [u8; 4096]
     [0; 4096]
 }
 
-// 576 places for local figures by class, which no line prints.
-fn part_room() -> [f64; 576]
-    ensures { λ r. ⌜ 576 ≡ length r ⌝ }
-{
-    [0.0; 576]
-}
-
 // The lines of a job.
 pub fn put_job(
     page: &mut [u8],
@@ -203,27 +196,18 @@ pub fn put_job(
     shuffles: &[u8],
 ) -> usize
     requires { ⌜ SoundLists n (now values) (now categories) (now weights) (now places) (now bands) (now shuffles) ⌝ }
-    requires { ⌜ Room (now page) 0 18304 ⌝ }
-    ensures { λ r. ⌜ Put (now (page .entry)) (now (page .exit)) 0 r 18304
+    requires { ⌜ Room (now page) 0 16128 ⌝ }
+    ensures { λ r. ⌜ Put (now (page .entry)) (now (page .exit)) 0 r 16128
         (job-text n (lists (now (values .entry)) (now (categories .entry)) (now (weights .entry))
         (now (places .entry)) (now (bands .entry)) (now (shuffles .entry)))) ⌝ }
 {
     let pairs = n * n;
-    let parts = 9 * n;
     let mut class_space = class_room();
     let mut figure_space: [f64; 64] = [0.0; 64];
-    let mut part_space = part_room();
     let classes = &mut class_space[..pairs];
     let figures = &mut figure_space[..n];
     class_pairs(n, places, bands, classes);
-    let report = coefficients::float_report(
-        n,
-        values,
-        weights,
-        classes,
-        figures,
-        &mut part_space[..parts],
-    );
+    let report = coefficients::plain_report(n, values, weights, classes, figures);
     let whole = report.whole;
     let of_classes = report.classes;
     match whole {

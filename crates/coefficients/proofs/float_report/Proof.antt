@@ -1,105 +1,30 @@
--- `float_report` meets its contract: its own lists are judged, then the class account judges and works, then the figures are formed.
--- Assumes nothing.
-use mathlib.Core.Path.{_≡_, refl, sym, ap, _∙_}
+-- `float_report` meets its contract: its own lists are judged, then the rest is judged and worked. Assumes nothing.
+use mathlib.Core.Path.{_≡_, sym, ap, _∙_}
 use mathlib.Core.List.{List, [], _∷_}
-use Prim.Native.Nat.{ℕ, _*_, _≤_}
+use Prim.Native.Nat.{ℕ, _*_}
 use native.Mathlib.Omega.{arith}
+use lib.Ieee.{Float}
 use lib.IntN.{ℤ}
-use lib.ListN.{length}
-use lib.Seq.{length-take-le}
-use Rattle.whole.specs.Rules.{first-broken, size-rules}
+use lib.ListN.{length, take}
+use lib.Seq.{take-all}
+use Rattle.whole.specs.Rules.{unless-refused}
 use Rattle.whole.specs.Table.{at}
-use Rattle.whole.proofs.Lists.{front, front-le, front-length}
-use Rattle.whole.proofs.Rules.{Sizes, sizes-hold, fits, worked-when-taken}
+use Rattle.whole.proofs.Rules.{Sizes, sizes-hold, fits, kept-when-refused}
 use Rattle.account.specs.Measures.{spread-of}
-use Rattle.account.specs.Classes.{class-sums, class-locals, class-rules, class-refusal}
-use Rattle.account.proofs.ClassTheorems.{class-sums-length, class-locals-length}
+use Rattle.account.specs.Classes.{class-locals}
+use Rattle.account.proofs.ClassTheorems.{class-locals-length}
 use Rattle.coefficients.specs.Coefficients.{local-figures}
-use Rattle.coefficients.specs.FloatReport.{report-refusal}
-use Rattle.coefficients.specs.Steps.{Reportable}
-use Rattle.coefficients.specs.declared.Answer.the-variants.{Reported}
-use Rattle.coefficients.specs.declared.Pair.{Pair}
-use Rattle.coefficients.specs.declared.Report.{Report}
-use Rattle.coefficients.proofs.Answered.{refused, reported, pairs-are, lent-first, then-account}
-use Rattle.coefficients.proofs.Job.{reportable}
+use Rattle.coefficients.specs.FloatReport.{report-refusal, report-whole, report-classes, report-figures, report-parts}
+use Rattle.coefficients.specs.Steps.{rest-refusal}
+use Rattle.coefficients.proofs.Answered.{refused, reports-same, lent-misfits, sizes-number, rest-number}
 use borrow.Author.Needs.{needs}
 use Rattle.coefficients.proofs.float_report.Statement.{statement}
 use Rattle.coefficients.proofs.float_report.Tie as tie
 
--- the same by other names
-reportable-same :
-    {n : ℕ} {values : List ℤ} {weights : List ℕ} {rows rows′ numerators numerators′ : List ℤ} → rows′ ≡ rows → numerators′ ≡ numerators →
-    Reportable n values weights rows numerators → Reportable n values weights rows′ numerators′
-reportable-same e f r = rw (e, f) r
-
-report-same :
-    {pair : Pair} {pairs pairs′ : List Pair} → pairs ≡ pairs′ →
-    _≡_ {A = Report} (record { whole = Reported pair; classes = pairs }) (record { whole = Reported pair; classes = pairs′ })
-report-same e = rw e refl
-
--- the two lists of floats fit
-abbrev start : tie.After-judge-lent → tie.Start
-start c = c .before .before .before .before .before
-
-abbrev lengths : tie.Start → List (ℕ × ℕ)
-lengths s = (length (s .args .figures .now), s .args .n) ∷ (length (s .args .parts .now), 9 * s .args .n) ∷ []
-
-none : (c : tie.Else1) → first-broken (size-rules (start (c .before) .args .n) (lengths (start (c .before)))) ≡ 0
-none c = sym (c .before .judge-lent .ensures) ∙ c .if1 .left
-
-sized : (c : tie.Else1) → Sizes (start (c .before) .args .n) (lengths (start (c .before)))
-sized c = sizes-hold _ (lengths (start (c .before))) (none c)
-
-lists-fit :
-    (c : tie.Else1) →
-    let a = start (c .before) .args in
-    (length (a .figures .now) ≡ a .n) × (length (a .parts .now) ≡ 9 * a .n)
-lists-fit c =
-    let a = start (c .before) .args in
-    let first = fits (length (a .figures .now)) (a .n) ((length (a .parts .now), 9 * a .n) ∷ []) (sized c .fitting) in
-    (first .0, fits (length (a .parts .now)) (9 * a .n) [] (first .1) .0)
-
-judge-lent-requires : tie.Need-judge-lent-requires
-judge-lent-requires c κs = tt
-
-refused-requires : tie.Need-refused-requires
-refused-requires c κs = tt
-
-returns : tie.Need-returns
-returns c =
-    let b = c .before .before in
-    let some = c .before .if1 .taken in
-    refused _ _ _ _ _ _ _ _ (c .refused .ensures) (lent-first _ _ _ _ _ _ _ (b .judge-lent .ensures) some) some
-
-mul-places : tie.Need-mul-places
-mul-places c = omega (arith, sized c .zones)
-
-slice-aggregate-class-account : tie.Need-slice-aggregate-class-account
-slice-aggregate-class-account c = search needs
-
--- the array has room for the local numerators of nine classes
-room : (c : tie.Else1) → 9 * start (c .before) .args .n ≤ 576
-room c = omega (arith, sized c .zones)
-
-array-borrow-prefix-numerators : tie.Need-array-borrow-prefix-numerators
-array-borrow-prefix-numerators c = room (c .before)
-
-slice-aggregate-class-account-2 : tie.Need-slice-aggregate-class-account-2
-slice-aggregate-class-account-2 c = sym (length-take-le _ _ (room (c .before .before)))
-
-class-account-requires : tie.Need-class-account-requires
-class-account-requires c κs = tt
-
-refused-requires-2 : tie.Need-refused-requires-2
-refused-requires-2 c κs = tt
-
--- what the class account found, and what it left where it refused nothing
-module _ (c : tie.After-class-account) where
-  abbrev judged : tie.Else1
-  judged = c .before .before .before
-
+-- what was judged first
+module _ (c : tie.After-judge-lent) where
   abbrev s : tie.Start
-  s = start (judged .before)
+  s = c .before .before .before .before .before
 
   abbrev n : ℕ
   n = s .args .n
@@ -113,71 +38,72 @@ module _ (c : tie.After-class-account) where
   abbrev classes : List ℕ
   classes = s .args .classes .now
 
+  abbrev figures : List Float
+  figures = s .args .figures .now
+
+  abbrev parts : List Float
+  parts = s .args .parts .now
+
+  abbrev lent : List (ℕ × ℕ)
+  lent = (length figures, n) ∷ (length parts, 9 * n) ∷ []
+
   abbrev refusal : ℕ
-  refusal = class-refusal 27 n values weights classes 27 (9 * n)
+  refusal = report-refusal n values weights classes figures parts
 
-  found : c .class-account .result ≡ refusal
-  found =
-      c .class-account .ensures .0 ∙ ap (class-refusal 27 n values weights classes 27) (length-take-le _ _ (room judged))
+  -- its number is the call's
+  number-is : (c .judge-lent .result ≡ 0 → ⊥) → c .judge-lent .result ≡ refusal
+  unfolding report-refusal
+  number-is f = sizes-number n values weights classes lent lent _ (lent-misfits n values weights classes lent) (c .judge-lent .ensures) f
 
-  reports : refusal ≡ report-refusal n values weights classes (s .args .figures .now) (s .args .parts .now)
-  reports = then-account n values weights classes (s .args .figures .now) (s .args .parts .now) (none judged)
+  -- where there is none, the two lists fit, and the number is that of the rest
+  module _ (z : c .judge-lent .result ≡ 0) where
+    sized : Sizes n lent
+    sized = sizes-hold n lent (sym (c .judge-lent .ensures) ∙ z)
 
-  abbrev numerators : List ℤ
-  numerators = class-locals n values weights classes
+    lists-fit : (length figures ≡ n) × (length parts ≡ 9 * n)
+    lists-fit =
+        let first = fits (length figures) n ((length parts, 9 * n) ∷ []) (sized .fitting) in
+        (first .0, fits (length parts) (9 * n) [] (first .1) .0)
 
-  as-long : length numerators ≡ 9 * n
-  as-long = class-locals-length n values weights classes
+    rest-is : rest-refusal n values weights classes ≡ refusal
+    unfolding report-refusal
+    rest-is = rest-number n values weights classes lent (sized .fitting)
 
-  -- the two lists that it is lent here
-  abbrev own : List (ℕ × ℕ)
-  own = (27, 27) ∷ (9 * n, 9 * n) ∷ []
+    -- all of the local numerators of the classes were wanted
+    parts-are :
+        {left : List Float} →
+        left ≡ unless-refused (rest-refusal n values weights classes)
+        (local-figures (spread-of (at values) n) (take (length parts) (class-locals n values weights classes))) parts →
+        left ≡ report-parts n values weights classes figures parts
+    unfolding report-parts
+    parts-are e =
+        let numerators = class-locals n values weights classes in
+        let worked : List ℤ → List Float = λ l. local-figures (spread-of (at values) n) l in
+        let all : take (length parts) numerators ≡ numerators =
+        take-all (length parts) numerators (omega (arith, lists-fit .1, class-locals-length n values weights classes)) in
+        e
+        ∙ ap (λ k. unless-refused k (worked (take (length parts) numerators)) parts) rest-is
+        ∙ ap (λ l. unless-refused refusal (worked l) parts) all
 
-  module _ (z : c .class-account .result ≡ 0) where
-    taken : first-broken (class-rules n values weights classes own) ≡ 0
-    unfolding class-refusal
-    taken = sym found ∙ z
+judge-lent-requires : tie.Need-judge-lent-requires
+judge-lent-requires c κs = tt
 
-    rows-left : c .class-account .last .1 .1 .1 .1 .0 ≡ class-sums n values weights classes
-    rows-left = c .class-account .ensures .1 .0 ∙ worked-when-taken _ _ _ (sym (c .class-account .ensures .0) ∙ z)
+refused-requires : tie.Need-refused-requires
+refused-requires c κs = tt
 
-    numerators-left : c .class-account .last .1 .1 .1 .1 .1 .0 ≡ numerators
-    numerators-left = c .class-account .ensures .1 .1 ∙ worked-when-taken _ _ _ (sym (c .class-account .ensures .0) ∙ z)
+returns : tie.Need-returns
+unfolding report-whole report-classes report-figures report-parts
+returns c =
+    let b = c .before .before in
+    let some = c .before .if1 .taken in
+    let p = refused (refusal b) (n b) (values b) (weights b) (classes b) (figures b) _ _ (c .refused .ensures) (number-is b some) some in
+    (p .number, (p .whole, (p .pairs, (p .locals, sym (kept-when-refused _ _ _ (λ z. some (number-is b some ∙ z)))))))
 
-returns-2 : tie.Need-returns-2
-returns-2 c =
-    let t = c .before in
-    let b = t .before .before .before in
-    refused _ _ _ _ _ _ _ _ (c .refused2 .ensures) (found b ∙ reports b) (t .if2 .taken)
-
-slice-aggregate-report-job : tie.Need-slice-aggregate-report-job
-slice-aggregate-report-job c =
-    let e = c .before in
-    let b = e .before .before .before in
-    sym (ap length (rows-left b (e .if2 .left)) ∙ class-sums-length (n b) (values b) (weights b) (classes b))
-
-array-share-prefix-numerators : tie.Need-array-share-prefix-numerators
-array-share-prefix-numerators c =
-    let e = c .before in
-    let b = e .before .before .before in
-    front-le {A = ℤ} _ _ (numerators b) _ (numerators-left b (e .if2 .left)) (as-long b)
-
-slice-aggregate-report-job-2 : tie.Need-slice-aggregate-report-job-2
-slice-aggregate-report-job-2 c =
+report-sized-requires : tie.Need-report-sized-requires
+report-sized-requires c κs =
     let e = c .before .before in
-    let b = e .before .before .before in
-    front-length {A = ℤ} _ _ (numerators b) _ (numerators-left b (e .if2 .left)) (as-long b)
-
-report-job-requires : tie.Need-report-job-requires
-report-job-requires c κs =
-    let e = c .before .before .before .before in
-    let b = e .before .before .before in
-    let z = e .if2 .left in
-    let held = front {A = ℤ} _ _ (numerators b) _ (numerators-left b z) (as-long b) in
-    let lists = lists-fit (judged b) in (
-      reportable-same (rows-left b z) held (reportable (n b) (values b) (weights b) (classes b) (own b) (taken b z)),
-      (lists .0, lists .1 ∙ sym (ap length held ∙ as-long b)),
-    )
+    let fit = lists-fit (e .before) (e .if1 .left) in
+    (sized (e .before) (e .if1 .left) .zones, (fit .0, omega (arith, fit .1)))
 
 same-length : tie.Need-same-length
 same-length c = search needs
@@ -185,18 +111,15 @@ same-length c = search needs
 same-length-2 : tie.Need-same-length-2
 same-length-2 c = search needs
 
-returns-3 : tie.Need-returns-3
-returns-3 c =
+returns-2 : tie.Need-returns-2
+unfolding report-whole report-classes report-figures
+returns-2 c =
     let done = c .before .before .before .before in
-    let e = done .before .before .before .before .before in
-    let b = e .before .before .before in
-    let z = e .if2 .left in
-    let said = done .report-job .ensures in
-    let held = front {A = ℤ} _ _ (numerators b) _ (numerators-left b z) (as-long b) in
-    reported _ _ _ _ _ _ _ _ _ (sym (reports b) ∙ sym (found b) ∙ z)
-    (said .0 ∙ report-same (pairs-are (n b) (values b) (weights b) (classes b) _ (rows-left b z)))
-    (said .1 .0)
-    (said .1 .1 ∙ ap (local-figures (spread-of (at (values b)) (n b))) held)
+    let e = done .before .before .before in
+    let b = e .before in
+    let z = e .if1 .left in
+    let p = reports-same (rest-is b z) (done .report-sized .ensures .0) in
+    (p .number, (p .whole, (p .pairs, (p .locals, parts-are b z (done .report-sized .ensures .1)))))
 
 pub float-report-spec : {M : Type 1} → statement M
 float-report-spec =
@@ -205,17 +128,7 @@ float-report-spec =
     judge-lent-requires
     refused-requires
     returns
-    mul-places
-    slice-aggregate-class-account
-    array-borrow-prefix-numerators
-    slice-aggregate-class-account-2
-    class-account-requires
-    refused-requires-2
-    returns-2
-    slice-aggregate-report-job
-    array-share-prefix-numerators
-    slice-aggregate-report-job-2
-    report-job-requires
+    report-sized-requires
     same-length
     same-length-2
-    returns-3)
+    returns-2)

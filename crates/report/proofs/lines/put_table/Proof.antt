@@ -11,7 +11,7 @@ use Rattle.report.proofs.lines.put_table.Tie as tie
 
 abbrev Inv-loop : tie.InvT-loop
 Inv-loop page₀ at table place₀ r₀ page place r =
-    (r ≤ 8) × Put page₀ page at place (1024 * r) (each (λ row. each (table-line table row) (numbered 8)) (take r (numbered 8)))
+    (r ≤ 8) × Put page₀ page at place (768 * r) (each (λ row. each (table-line table row) (numbered 8)) (take r (numbered 8)))
 
 abbrev μ-loop : tie.MeasureT-loop
 μ-loop page₀ at table place₀ r₀ page place r = 8 - r
@@ -36,7 +36,7 @@ loop-again c =
     let l = b .before .before .before in
     let table = l .before .before .args .table .now in (
       omega arith,
-      put-numbered-next (λ row. each (table-line table row) (numbered 8)) {size = 1024} 8 (l .loop .r) (omega arith) (l .loop .inv .1)
+      put-numbered-next (λ row. each (table-line table row) (numbered 8)) {size = 768} 8 (l .loop .r) (omega arith) (l .loop .inv .1)
           (b .put-table-row .ensures),
     )
 
@@ -47,7 +47,7 @@ returns : tie.Need-returns Inv-loop μ-loop
 returns c =
     let l = c .before .loop in
     let table = c .before .before .before .args .table .now in
-    put-numbered-all (λ row. each (table-line table row) (numbered 8)) 1024 8 (l .r) (omega arith) (l .inv .1)
+    put-numbered-all (λ row. each (table-line table row) (numbered 8)) 768 8 (l .r) (omega arith) (l .inv .1)
 
 pub put-table-spec : {M : Type 1} → statement M
 put-table-spec =

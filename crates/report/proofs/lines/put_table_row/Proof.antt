@@ -19,7 +19,7 @@ use Rattle.report.proofs.lines.put_table_row.Tie as tie
 
 abbrev Inv-loop : tie.InvT-loop
 Inv-loop page₀ at table r place₀ s₀ t9 page place s =
-    (s ≤ 8) × Put page₀ page at place (128 * s) (each (table-line table r) (take s (numbered 8)))
+    (s ≤ 8) × Put page₀ page at place (96 * s) (each (table-line table r) (take s (numbered 8)))
 
 abbrev μ-loop : tie.MeasureT-loop
 μ-loop page₀ at table r place₀ s₀ t9 page place s = 8 - s
@@ -67,7 +67,7 @@ turn :
     (c : tie.Joined1 Inv-loop μ-loop) →
     let l = c .before .before .before in
     let a = l .before .before .args in
-    Put (l .loop .page) (c .if1 .page) (l .loop .place) (c .if1 .place) 128 (table-line (a .table .now) (a .r) (l .loop .s))
+    Put (l .loop .page) (c .if1 .page) (l .loop .place) (c .if1 .place) 96 (table-line (a .table .now) (a .r) (l .loop .s))
 turn c =
     let l = c .before .before .before in
     let a = l .before .before .args in
@@ -82,7 +82,7 @@ turn c =
 loop-again : tie.Need-loop-again Inv-loop μ-loop
 loop-again c =
     let l = c .before .before .before .loop in
-    (omega arith, put-numbered-next (table-line _ _) {size = 128} 8 (l .s) (omega arith) (l .inv .1) (turn c))
+    (omega arith, put-numbered-next (table-line _ _) {size = 96} 8 (l .s) (omega arith) (l .inv .1) (turn c))
 
 same-length : tie.Need-same-length Inv-loop μ-loop
 same-length c = put-length (c .before .loop .inv .1)
@@ -90,7 +90,7 @@ same-length c = put-length (c .before .loop .inv .1)
 returns : tie.Need-returns Inv-loop μ-loop
 returns c =
     let l = c .before .loop in
-    put-numbered-all (table-line _ _) 128 8 (l .s) (omega arith) (l .inv .1)
+    put-numbered-all (table-line _ _) 96 8 (l .s) (omega arith) (l .inv .1)
 
 pub put-table-row-spec : {M : Type 1} → statement M
 put-table-row-spec =

@@ -17,28 +17,19 @@ use Rattle.report.proofs.working.put_job.Tie as tie
 mul-pairs : tie.Need-mul-pairs
 mul-pairs c = search needs
 
-mul-parts : tie.Need-mul-parts
-mul-parts c = search needs
-
 class-room-requires : tie.Need-class-room-requires
 class-room-requires c κs = search needs
 
-part-room-requires : tie.Need-part-room-requires
-part-room-requires c κs = search needs
-
--- the arrays have room for the classes of n × n pairs, and for the local figures in nine classes
-module _ (c : tie.After-part-room) where
+-- the array has room for the classes of n × n pairs
+module _ (c : tie.After-class-room) where
   abbrev begun : tie.Start
-  begun = c .before .before .before .before .before .before .before
+  begun = c .before .before .before .before .before .before
 
   abbrev zones : ℕ
   zones = begun .args .n
 
-  class-places : zones * zones ≤ length (c .before .class-room .result)
-  class-places = omega (arith, few zones (begun .pre .0 .job .zones), c .before .class-room .ensures)
-
-  part-places : 9 * zones ≤ length (c .part-room .result)
-  part-places = omega (arith, begun .pre .0 .job .zones, c .part-room .ensures)
+  class-places : zones * zones ≤ length (c .class-room .result)
+  class-places = omega (arith, few zones (begun .pre .0 .job .zones), c .class-room .ensures)
 
 array-borrow-prefix-class-space : tie.Need-array-borrow-prefix-class-space
 array-borrow-prefix-class-space c = class-places c
@@ -57,16 +48,8 @@ class-pairs-requires c κs =
     let r = c .before .before .before in
     record { room-fits = length-take-le _ _ (class-places r); banded = begun r .pre .0 .banded }
 
-array-borrow-prefix-part-space : tie.Need-array-borrow-prefix-part-space
-array-borrow-prefix-part-space c = search needs
-
-slice-aggregate-float-report : tie.Need-slice-aggregate-float-report
-slice-aggregate-float-report c =
-    let rooms = c .before .before .before .before .before .before .before .before .before in
-    sym (length-take-le _ _ (part-places rooms))
-
-float-report-requires : tie.Need-float-report-requires
-float-report-requires c κs = search needs
+plain-report-requires : tie.Need-plain-report-requires
+plain-report-requires c κs = search needs
 
 enum-told : tie.Need-enum-told
 enum-told c = search needs
@@ -74,10 +57,10 @@ enum-told c = search needs
 enum-known-whole : tie.Need-enum-known-whole
 enum-known-whole c = search needs
 
--- what the float report has answered and left
-module _ (c : tie.After-float-report) where
-  abbrev rooms : tie.After-part-room
-  rooms = c .before .before .before .before .before .before .before .before .before .before
+-- what the plain report has answered and left
+module _ (c : tie.After-plain-report) where
+  abbrev rooms : tie.After-class-room
+  rooms = c .before .before .before .before .before .before .before .before .before
 
   abbrev start : tie.Start
   start = begun rooms
@@ -92,7 +75,7 @@ module _ (c : tie.After-float-report) where
   weights = start .args .weights .now
 
   abbrev pairs-classed : tie.After-class-pairs
-  pairs-classed = c .before .before .before .before .before .before
+  pairs-classed = c .before .before .before .before .before
 
   abbrev classes : List ℕ
   classes = pairs-classed .class-pairs .last .1 .1 .1 .0
@@ -103,18 +86,17 @@ module _ (c : tie.After-float-report) where
   classed : Classed n (start .args .places .now) (start .args .bands .now) classes
   classed = pairs-classed .class-pairs .ensures
 
-  said : Reports n values weights classes (c .float-report .result) (c .float-report .last .1 .1 .1 .1 .0)
+  said : Reports n values weights classes (c .plain-report .result) (c .plain-report .last .1 .1 .1 .1 .0)
   said =
-      let told = c .float-report .ensures in
+      let told = c .plain-report .ensures in
       let few-zones = length-take-le _ _ (sound .zones) in
-      let few-parts = length-take-le _ _ (part-places rooms) in
-      reports sound (classed .within) _ _ few-zones few-parts (told .1 .0) (told .1 .1 .0) (told .1 .1 .1 .0)
+      reports sound (classed .within) _ few-zones (told .1 .0) (told .1 .1 .0) (told .1 .1 .1)
 
--- back from each call to the float report
-abbrev from-whole : tie.After-whole → tie.After-float-report
-from-whole c = c .before .before .before .before .before .before
+-- back from each call to the plain report
+abbrev from-whole : tie.After-whole → tie.After-plain-report
+from-whole c = c .before .before .before .before .before
 
-abbrev from-account : tie.After-put-account → tie.After-float-report
+abbrev from-account : tie.After-put-account → tie.After-plain-report
 from-account c = from-whole (c .before .before .before .before)
 
 abbrev from-pairs : tie.After-put-pairs → tie.After-put-account
@@ -167,7 +149,7 @@ put-rank-requires c κs =
 
 returns : tie.Need-returns
 returns c =
-    let b = c .before .before .before .before .before .before .before .before in
+    let b = c .before .before .before .before .before .before .before in
     absurd (never-refused (said b .of-job) (c .before .before .enum-told .given .1))
 
 same-length : tie.Need-same-length
@@ -192,17 +174,13 @@ put-job-spec =
     tie.close
     (tie.spec
     mul-pairs
-    mul-parts
     class-room-requires
-    part-room-requires
     array-borrow-prefix-class-space
     slice-aggregate-classes
     array-borrow-prefix-figure-space
     slice-aggregate-figures
     class-pairs-requires
-    array-borrow-prefix-part-space
-    slice-aggregate-float-report
-    float-report-requires
+    plain-report-requires
     enum-told
     enum-known-whole
     put-account-requires
