@@ -22,7 +22,7 @@ use Rattle.account.specs.Measures.{weight-of, spread-of}
 use Rattle.account.specs.Refusals.{job-rules, job-lengths, call-rules, account-rules, account-refusal}
 use Rattle.account.specs.Classes.{class-rules, class-refusal}
 use Rattle.account.specs.Rank.{rank-rules, rank-refusal}
-use Rattle.account.specs.Steps.{Sized, Weighted, Job}
+use Rattle.account.specs.Steps.{Sized, Weighted, Job, ClassJob}
 
 -- ---- what a rule that holds tells
 pub near : (limit : ℕ) (numbers : List ℤ) (n : ℕ) → length numbers ≡ n → any-beyond limit numbers ≡ false → Sized limit numbers n
@@ -188,6 +188,12 @@ classed n values weights classes lent e =
       low = λ k h. none-above 8 classes (c .1) k (omega (arith, l .0));
       lent-fit = l .1;
     }
+
+-- its work asks for no more
+pub class-job :
+    {n : ℕ} {values : List ℤ} {weights classes : List ℕ} {lent : List (ℕ × ℕ)} → Classed n values weights classes lent →
+    ClassJob values weights classes n
+class-job c = record { job = c .good .job; count = c .classes-fit; low = c .low }
 
 -- and of the class account's refusal
 pub record ClassAccepted (room n : ℕ) (values : List ℤ) (weights classes : List ℕ) (rows locals : ℕ) : Type 0 where

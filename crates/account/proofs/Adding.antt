@@ -1,6 +1,5 @@
--- How the measures add, for any weights: equal weights and deviations give equal sums, the local numerators add up to P, weights that are
--- shared out among parts give sums that add up, and W and M are not below 0.
--- Assumes nothing.
+-- How the measures add, for any weights: equal deviations give equal sums, the local numerators add up to P, weights that are shared out
+-- among parts give sums that add up, and W and M are not below 0. Assumes nothing.
 use mathlib.Core.Path.{_≡_, refl, sym, ap, _∙_}
 use mathlib.Core.Bool.{Bool, true, false, cond}
 use Prim.Native.Nat.{ℕ, _<_}
@@ -14,29 +13,13 @@ use Rattle.whole.proofs.Sum.{sum-cong, sum-scale, sum-swap, sum-pick}
 use Rattle.whole.proofs.SumSize.{sum-above}
 use Rattle.account.specs.Measures.{spread-of, row-of, pairs-of, weight-of, cross-of, squares-of, local-of}
 
--- ---- weights that agree, and deviations that agree, give the same sums
-module _ (f g : ℕ → ℕ → ℕ) (n : ℕ) (same : (i j : ℕ) → i < n → j < n → f i j ≡ g i j) where
-  pairs-cong : (h : ℕ → ℕ → ℤ) → pairs-of f h n ≡ pairs-of g h n
-  unfolding pairs-of row-of
-  pairs-cong h = sum-cong _ _ n (λ i p. sum-cong _ _ n (λ j q. ap (λ v. pos v *ℤ h i j) (same i j p q)))
-
-  pub weight-cong : weight-of f n ≡ weight-of g n
-  unfolding weight-of
-  weight-cong = pairs-cong (λ i j. pos 1)
-
-  pub cross-cong : (d : ℕ → ℤ) → cross-of f d n ≡ cross-of g d n
-  unfolding cross-of
-  cross-cong d = pairs-cong (λ i j. d i *ℤ d j)
-
-  pub squares-cong : (x : ℕ → ℤ) → squares-of f x n ≡ squares-of g x n
-  unfolding squares-of
-  squares-cong x = pairs-cong (λ i j. square (x i -ℤ x j))
-
-  pub local-cong : (d e : ℕ → ℤ) → ((i : ℕ) → i < n → d i ≡ e i) → (i : ℕ) → i < n → local-of f d n i ≡ local-of g e n i
-  unfolding local-of row-of
-  local-cong d e alike i p =
-      ap (λ z. z *ℤ sum (λ j. pos (f i j) *ℤ d j) n) (alike i p)
-      ∙ ap (λ z. e i *ℤ z) (sum-cong _ _ n (λ j q. ap (λ v. pos v *ℤ d j) (same i j p q) ∙ ap (λ z. pos (g i j) *ℤ z) (alike j q)))
+-- ---- deviations that agree give the same sums
+pub local-alike :
+    (f : ℕ → ℕ → ℕ) (n : ℕ) (d e : ℕ → ℤ) → ((i : ℕ) → i < n → d i ≡ e i) → (i : ℕ) → i < n → local-of f d n i ≡ local-of f e n i
+unfolding local-of row-of
+local-alike f n d e alike i p =
+    ap (λ z. z *ℤ sum (λ j. pos (f i j) *ℤ d j) n) (alike i p)
+    ∙ ap (λ z. e i *ℤ z) (sum-cong _ _ n (λ j q. ap (λ z. pos (f i j) *ℤ z) (alike j q)))
 
 pub cross-alike : (f : ℕ → ℕ → ℕ) (n : ℕ) (d e : ℕ → ℤ) → ((i : ℕ) → i < n → d i ≡ e i) → cross-of f d n ≡ cross-of f e n
 unfolding cross-of pairs-of row-of

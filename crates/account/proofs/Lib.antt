@@ -6,6 +6,7 @@ pub mod Reading
 pub mod Running
 pub mod Locals
 pub mod ByClass
+pub mod ZoneByZone
 pub mod Shuffled
 pub mod Tallied
 pub mod Accepted

@@ -1,19 +1,20 @@
 -- The deviations and the local numerators as the code holds them in lists, and what is known of the sums that are told. Assumes nothing.
-use mathlib.Core.Path.{_≡_, refl, _∙_}
+use mathlib.Core.Path.{_≡_, _∙_}
 use mathlib.Core.List.{List}
 use Prim.Native.Nat.{ℕ, _≤_, _<_}
 use native.Mathlib.Nat as N
 use lib.IntN.{ℤ, pos, natAbs}
 use lib.ListN.{length}
+use mir.Syntax.{w64}
 use Rattle.whole.specs.Sum.{sum}
 use Rattle.whole.specs.Table.{table, at, pair-at}
-use Rattle.whole.proofs.Machine.{Is, told}
+use Rattle.whole.proofs.Machine.{Is, told, rd, r64}
 use Rattle.whole.proofs.Sum.{sum-cong}
 use Rattle.whole.proofs.Table.{table-length, table-at, table-held, table-cong}
 use Rattle.account.specs.Measures.{total-of, deviation-of, spread-of, weight-of, cross-of, squares-of, local-of}
 use Rattle.account.specs.Answers.{job-locals}
 use Rattle.account.specs.Steps.{Sized, Valued, Weighted, Job}
-use Rattle.account.proofs.Adding.{local-cong, locals-sum}
+use Rattle.account.proofs.Adding.{local-alike, locals-sum}
 use Rattle.account.proofs.Reading.{table-sized, weight-le}
 use Rattle.account.proofs.Running.{total-runs}
 use Rattle.account.proofs.Sizes.{deviation-size, spread-of-size, weight-size, squares-size, local-size, cross-size}
@@ -51,6 +52,14 @@ pub deviations-sized :
 deviations-sized values n d v e =
     table-sized 12800000 n (deviation-of (at values) n) d e (deviation-size (at values) n (v .zones) (v .near .size))
 
+-- as the machine reads one
+pub deviation-is :
+    (values : List ℤ) (n : ℕ) (d : List ℤ) → Valued values n → d ≡ table (deviation-of (at values) n) n →
+    (i : ℕ) → i < n → Is (r64 (at d i)) (deviation-of (at values) n i) 12800000
+deviation-is values n d v e i h =
+    let small = deviation-size (at values) n (v .zones) (v .near .size) i h in
+    rd w64 (told (deviation-of (at values) n i) 12800000 (table-held (deviation-of (at values) n) n (pos 0) d e i h) small) tt
+
 module _ (values : List ℤ) (weights : List ℕ) (n : ℕ) (r : Job values weights n) where
   -- worked from the list of deviations
   pub locals-are :
@@ -60,7 +69,7 @@ module _ (values : List ℤ) (weights : List ℕ) (n : ℕ) (r : Job values weig
   locals-are d out e q =
       let f = pair-at weights n in
       let deviation = deviation-of (at values) n in
-      q ∙ table-cong _ _ n (pos 0) (local-cong f f n (λ i j p q. refl) (at d) deviation (table-held deviation n (pos 0) d e))
+      q ∙ table-cong _ _ n (pos 0) (local-alike f n (at d) deviation (table-held deviation n (pos 0) d e))
 
   module _ (out : List ℤ) (q : out ≡ job-locals n values weights) where
     pub locals-sized : Sized 94371840000000000 out n

@@ -1,18 +1,25 @@
 -- From the lists that the code reads to the measures. Assumes nothing.
-use mathlib.Core.Path.{_≡_, sym, ap, _∙_}
+use mathlib.Core.Path.{_≡_, refl, sym, ap, _∙_, subst}
+use mathlib.Core.Bool.{Bool, true, false, not}
 use mathlib.Core.List.{List}
 use Prim.Native.Nat.{ℕ, _+_, _*_, _≤_, _<_}
 use native.Mathlib.Nat as N
 use native.Mathlib.Omega.{arith}
+use borrow.Author.Tests.{ne-eqb}
+use lib.Dec.{T, ltb, ltb→lt}
 use lib.IntN.{ℤ, pos, natAbs, _-ℤ_}
 use lib.ListN.{length, getD}
 use mir.Syntax.{w32}
-use Rattle.whole.specs.Integer.{square}
+use Rattle.whole.specs.Integer.{square, is-zero}
+use Rattle.whole.specs.Search.{any-above}
 use Rattle.whole.specs.Sum.{sum}
 use Rattle.whole.specs.Table.{table, at, pair-at}
 use Rattle.whole.proofs.Lists.{within}
 use Rattle.whole.proofs.Machine.{Is, val, told, rd, r32}
-use Rattle.whole.proofs.Sum.{sum-cong, sum-rows}
+use Rattle.whole.proofs.Search.{none-above, some-witness}
+use Rattle.whole.proofs.Size.{zero-of-size}
+use Rattle.whole.proofs.Sum.{sum-cong, sum-none, sum-rows}
+use Rattle.whole.proofs.SumSize.{terms-zero}
 use Rattle.whole.proofs.Table.{table-length, table-held}
 use Rattle.account.specs.Measures.{row-of, pairs-of, weight-of}
 use Rattle.account.specs.Steps.{Sized, Valued, Weighted}
@@ -58,3 +65,25 @@ module _ (weights : List ℕ) (n : ℕ) (w : Weighted weights n) where
   flat-weight =
       sum-rows (λ k. pos (getD weights k 0)) n n
       ∙ sum-cong _ _ n (λ i p. sum-cong _ _ n (λ j q. ap pos (sym (N.mul-one (getD weights (i * n + j) 0)))))
+
+  -- and W is 0 exactly where none is above 0
+  pub weightless : is-zero (weight-of (pair-at weights n) n) ≡ not (any-above 0 weights)
+  unfolding any-above
+  weightless = go (any-above 0 weights) refl
+    where
+      above : (k : ℕ) → k < n * n → pos (getD weights k 0) ≡ pos (natAbs (pos (getD weights k 0)))
+      above k h = refl
+
+      go : (b : Bool) → any-above 0 weights ≡ b → is-zero (weight-of (pair-at weights n) n) ≡ not b
+      go false e =
+          let none : (k : ℕ) → k < n * n → pos (getD weights k 0) ≡ pos 0 = λ k h.
+          ap pos (let light = none-above 0 weights e k (omega (arith, w .count)) in omega arith) in
+          ap is-zero (sym flat-weight ∙ sum-cong _ _ (n * n) none ∙ sum-none (n * n))
+      go true e =
+          let found = some-witness (λ k. ltb 0 (getD weights k 0)) (length weights) e in
+          let heavy = ltb→lt 0 (getD weights (found .0) 0) (subst T (sym (found .2)) tt) in
+          ne-eqb (natAbs (weight-of (pair-at weights n) n)) 0
+          (λ z. let zero = terms-zero (λ k. pos (getD weights k 0)) (n * n) above (flat-weight ∙ zero-of-size _ z) (found .0)
+          (omega (arith, found .1, w .count)) in
+          let size : getD weights (found .0) 0 ≡ 0 = ap natAbs zero in
+          omega (arith, heavy))

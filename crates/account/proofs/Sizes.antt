@@ -35,10 +35,6 @@ module _ (x : ℕ → ℤ) (n : ℕ) (zones : n ≤ 64) (near : (k : ℕ) → k 
       let e = size---le (x i) (x j) 100000 100000 (near i h) (near j k) in
       size-*-le (x i -ℤ x j) (x i -ℤ x j) 200000 200000 e e
 
-  -- zone j to the first m zones
-  pub before-size : (j m : ℕ) → j < n → m ≤ j → natAbs (sum (λ i. square (x i -ℤ x j)) m) ≤ 2560000000000
-  before-size j m h k = omega (arith, sum-size (λ i. square (x i -ℤ x j)) m 40000000000 (λ i p. square-size i j (omega arith) h))
-
   -- the pairs of the first m zones
   pub spread-size : (m : ℕ) → m ≤ n → natAbs (sum (λ j. sum (λ i. square (x i -ℤ x j)) j) m) ≤ 80640000000000
   spread-size m h =

@@ -2,14 +2,16 @@
 use mathlib.Core.Path.{_≡_}
 use mathlib.Core.Bool.{cond}
 use mathlib.Core.List.{List, [], _∷_}
-use Prim.Native.Nat.{ℕ, _*_, _≤_, _<_}
+use Prim.Native.Nat.{ℕ, zero, suc, _+_, _*_, _≤_, _<_}
 use lib.Dec.{eqb}
-use lib.IntN.{ℤ, natAbs}
+use lib.IntN.{ℤ, pos, natAbs, _+ℤ_, _-ℤ_}
 use lib.ListN.{length, getD}
+use Rattle.whole.specs.Integer.{square}
 use Rattle.whole.specs.Rules.{unless-refused}
-use Rattle.whole.specs.Table.{table, at, pair-at}
-use Rattle.account.specs.Measures.{cross-of}
-use Rattle.account.specs.Classes.{class-row-of, class-locals, class-refusal}
+use Rattle.whole.specs.Sum.{sum}
+use Rattle.whole.specs.Table.{table, table-rows, at, pair-at}
+use Rattle.account.specs.Measures.{deviation-of, row-of, cross-of}
+use Rattle.account.specs.Classes.{class-weight, class-row-of, class-local-of, sum-at, class-locals, class-refusal}
 use Rattle.account.specs.Rank.{shuffled}
 use Rattle.account.specs.declared.ClassRow.{ClassRow}
 use Rattle.account.specs.declared.rows.Worked.{Worked}
@@ -35,9 +37,41 @@ pub record Job (values : List ℤ) (weights : List ℕ) (n : ℕ) : Type 0 where
   pub valued : Valued values n
   pub weighted : Weighted weights n
 
--- the list of the weights of class k: where the p-th pair is of another class, 0
-unfoldable pub weights-in : List ℕ → List ℕ → ℕ → List ℕ
-weights-in weights classes k = table (λ p. cond (eqb (getD classes p 0) k) (getD weights p 0) 0) (length weights)
+-- both, with the classes of the pairs, each at most 8
+pub record ClassJob (values : List ℤ) (weights classes : List ℕ) (n : ℕ) : Type 0 where
+  pub job : Job values weights n
+  pub count : length classes ≡ n * n
+  pub low : (k : ℕ) → k < n * n → getD classes k 0 ≤ 8
+
+-- ---- the sums of the classes, zone by zone
+
+-- the 27 sums with these three added to W, P and G of class k
+unfoldable pub row-added : List ℤ → ℕ → ℤ → ℤ → ℤ → List ℤ
+row-added rows k weight cross squares =
+    let row : ClassRow = record { weight = weight; cross = cross; squares = squares } in
+    table-rows (λ q place. at rows (q * 3 + place) +ℤ cond (eqb k q) (sum-at row place) (pos 0)) 9 3
+
+-- what a weight w(i,j) is multiplied by in each of the three sums of zone i
+abbrev pub counted : ℕ → List ℤ → ℕ → ℕ → ℕ → ℤ
+counted n values zero i j = pos 1
+counted n values (suc zero) i j = deviation-of (at values) n j
+counted n values (suc (suc place)) i j = square (at values i -ℤ at values j)
+
+-- the sum over the pairs of zone i that are of class k
+unfoldable pub zone-part : ℕ → List ℤ → List ℕ → List ℕ → ℕ → ℕ → ℕ → ℤ
+zone-part n values weights classes i k place = row-of (class-weight weights classes n k) (counted n values place) i n
+
+-- what zone i adds to W, P and G of class k: to P its local numerator
+abbrev pub zone-sum : ℕ → List ℤ → List ℕ → List ℕ → ℕ → ℕ → ℕ → ℤ
+zone-sum n values weights classes k zero i = zone-part n values weights classes i k 0
+zone-sum n values weights classes k (suc zero) i = class-local-of n values weights classes k i
+zone-sum n values weights classes k (suc (suc place)) i = zone-part n values weights classes i k 2
+
+-- the rows and the local numerators of the first zones of each class k, `done k` of them
+pub record Zoned (n : ℕ) (values : List ℤ) (weights classes : List ℕ) (done : ℕ → ℕ) (rows locals : List ℤ) : Type 0 where
+  pub sums : rows ≡ table-rows (λ k place. sum (zone-sum n values weights classes k place) (done k)) 9 3
+  pub count : length locals ≡ 9 * n
+  pub numerators : (k i : ℕ) → k < 9 → i < done k → at locals (k * n + i) ≡ class-local-of n values weights classes k i
 
 -- ---- the shuffles
 

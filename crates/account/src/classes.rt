@@ -1,108 +1,112 @@
-// The class account's work on a job that was judged and accepted: class by class, the sums over the pairs of that class alone.
-use crate::ClassRow;
+// The class account's work on a job that was judged and accepted: one pass over its pairs, each added to the sums of its own class.
 use crate::deviations;
-use crate::working;
+use crate::differences;
 ghost use mathlib.Core.Path.{_≡_};
-ghost use Prim.Native.Nat.{_*_};
+ghost use Prim.Native.Nat.{_*_, _+_, _≤_, _<_};
+ghost use lib.IntN.{pos, natAbs};
 ghost use lib.ListN.{length};
-ghost use Rattle.whole.specs.Table.{table, at};
+ghost use Rattle.whole.specs.Table.{table, table-rows, at};
 ghost use Rattle.account.specs.Measures.{deviation-of};
-ghost use Rattle.account.specs.Classes.{class-row-of, class-local-of, sum-at, class-sums, class-locals};
-ghost use Rattle.account.specs.Steps.{Job, weights-in};
+ghost use Rattle.account.specs.Classes.{class-sums, class-locals};
+ghost use Rattle.account.specs.Steps.{Sized, ClassJob, row-added, zone-part, Zoned};
 
-// The weights of the pairs of class k, and 0 for every other pair.
-pub fn choose(weights: &[u8], classes: &[u8], k: u8, own: &mut [u8])
-    requires { ⌜ length (now classes) ≡ length (now weights) ⌝ }
-    requires { ⌜ length (now own) ≡ length (now weights) ⌝ }
-    ensures { λ _. ⌜ now (own .exit) ≡ weights-in (now (weights .entry)) (now (classes .entry)) k ⌝ }
+// Adds to W, P and G of class k. A local numerator is the largest number that is added, and 64 of them fit.
+pub fn add_row(rows: &mut [i64], k: usize, weight: i64, cross: i64, squares: i64)
+    requires { ⌜ Sized 6039797760000000000 (now rows) 27 ⌝ }
+    requires { ⌜ k < 9 ⌝ }
+    requires { ⌜ natAbs weight ≤ 94371840000000000 ⌝ }
+    requires { ⌜ natAbs cross ≤ 94371840000000000 ⌝ }
+    requires { ⌜ natAbs squares ≤ 94371840000000000 ⌝ }
+    ensures { λ _. ⌜ now (rows .exit) ≡ row-added (now (rows .entry)) k weight cross squares ⌝ }
 {
-    let mut p: usize = 0;
-    while p < weights.len() {
-        if classes[p] == k {
-            own[p] = weights[p];
-        } else {
-            own[p] = 0;
-        }
-        p += 1;
+    let place = k * 3;
+    let weighed = rows[place];
+    let crossed = rows[place + 1];
+    let squared = rows[place + 2];
+    rows[place] = weighed + weight;
+    rows[place + 1] = crossed + cross;
+    rows[place + 2] = squared + squares;
+}
+
+// Adds the pairs of zone i to the three sums of their classes: the weight of each, the weight times d(j), and the weight times
+// (x(i) - x(j)) squared.
+pub fn add_pairs(
+    n: usize,
+    values: &[i32],
+    d: &[i64],
+    weights: &[u8],
+    classes: &[u8],
+    i: usize,
+    parts: &mut [i64],
+)
+    requires { ⌜ ClassJob (now values) (now weights) (now classes) n ⌝ }
+    requires { ⌜ now d ≡ table (deviation-of (at (now values)) n) n ⌝ }
+    requires { ⌜ i < n ⌝ }
+    requires { ⌜ now parts ≡ table-rows (λ k place. pos 0) 9 3 ⌝ }
+    ensures { λ _. ⌜ now (parts .exit)
+        ≡ table-rows (zone-part n (now (values .entry)) (now (weights .entry)) (now (classes .entry)) i) 9 3 ⌝ }
+{
+    let row = i * n;
+    let a = values[i];
+    let mut j: usize = 0;
+    while j < n {
+        let pair = row + j;
+        let k = classes[pair] as usize;
+        let weight = weights[pair] as i64;
+        let deviation = d[j];
+        let b = values[j];
+        let square = differences::squared_difference(a, b);
+        add_row(parts, k, weight, weight * deviation, weight * square);
+        j += 1;
     }
 }
 
-// W, P and G of class k, with its local numerators in `locals`. A pair of another class weighs nothing; d is the whole job's.
-pub fn class_row(
+// Adds zone i to the three sums of each class, and puts its local numerators, of which P is the sum, into their places.
+pub fn add_zone(
     n: usize,
     values: &[i32],
     d: &[i64],
     weights: &[u8],
     classes: &[u8],
-    k: u8,
-    locals: &mut [i64],
-) -> ClassRow
-    requires { ⌜ Job (now values) (now weights) n ⌝ }
-    requires { ⌜ now d ≡ table (deviation-of (at (now values)) n) n ⌝ }
-    requires { ⌜ length (now classes) ≡ n * n ⌝ }
-    requires { ⌜ length (now locals) ≡ n ⌝ }
-    ensures { λ r. ⌜ r ≡ class-row-of n (now (values .entry)) (now (weights .entry)) (now (classes .entry)) k ⌝ }
-    ensures { λ _. ⌜ now (locals .exit)
-        ≡ table (class-local-of n (now (values .entry)) (now (weights .entry)) (now (classes .entry)) k) n ⌝ }
-{
-    let pairs = weights.len();
-    let mut own: [u8; 4096] = [0; 4096];
-    choose(weights, classes, k, &mut own[..pairs]);
-    working::pair_sums(n, values, d, &own[..pairs], locals)
-}
-
-// W, P and G into their three places.
-pub fn put_row(row: ClassRow, places: &mut [i64])
-    requires { ⌜ length (now places) ≡ 3 ⌝ }
-    ensures { λ _. ⌜ now (places .exit) ≡ table (sum-at row) 3 ⌝ }
-{
-    let weight = row.weight;
-    let cross = row.cross;
-    let squares = row.squares;
-    places[0] = weight;
-    places[1] = cross;
-    places[2] = squares;
-}
-
-// The rows of the nine classes, and their local numerators.
-pub fn fill_classes(
-    n: usize,
-    values: &[i32],
-    d: &[i64],
-    weights: &[u8],
-    classes: &[u8],
+    i: usize,
     rows: &mut [i64],
     locals: &mut [i64],
 )
-    requires { ⌜ Job (now values) (now weights) n ⌝ }
+    requires { ⌜ ClassJob (now values) (now weights) (now classes) n ⌝ }
     requires { ⌜ now d ≡ table (deviation-of (at (now values)) n) n ⌝ }
-    requires { ⌜ length (now classes) ≡ n * n ⌝ }
-    requires { ⌜ length (now rows) ≡ 27 ⌝ }
-    requires { ⌜ length (now locals) ≡ 9 * n ⌝ }
-    ensures { λ _. ⌜ now (rows .exit) ≡ class-sums n (now (values .entry)) (now (weights .entry)) (now (classes .entry)) ⌝ }
-    ensures { λ _. ⌜ now (locals .exit) ≡ class-locals n (now (values .entry)) (now (weights .entry)) (now (classes .entry)) ⌝ }
+    requires { ⌜ i < n ⌝ }
+    requires { ⌜ Zoned n (now values) (now weights) (now classes) (λ k. i) (now rows) (now locals) ⌝ }
+    ensures { λ _. ⌜ Zoned n (now (values .entry)) (now (weights .entry)) (now (classes .entry))
+        (λ k. i + 1) (now (rows .exit)) (now (locals .exit)) ⌝ }
 {
+    let mut parts: [i64; 27] = [0; 27];
+    add_pairs(n, values, d, weights, classes, i, &mut parts);
+    let deviation = d[i];
     let mut k: usize = 0;
     while k < 9 {
-        let first = k * n;
-        let end = first + n;
-        let row = class_row(
-            n,
-            values,
-            d,
-            weights,
-            classes,
-            k as u8,
-            &mut locals[first..end],
-        );
         let place = k * 3;
-        let after = place + 3;
-        put_row(row, &mut rows[place..after]);
+        let weight = parts[place];
+        let local = deviation * parts[place + 1];
+        let squares = parts[place + 2];
+        add_row(rows, k, weight, local, squares);
+        locals[k * n + i] = local;
         k += 1;
     }
 }
 
-// The class account of an accepted job: d is worked once, for all nine classes.
+// Sets the 27 sums to 0.
+pub fn clear(rows: &mut [i64])
+    requires { ⌜ length (now rows) ≡ 27 ⌝ }
+    ensures { λ _. ⌜ now (rows .exit) ≡ table-rows (λ k place. pos 0) 9 3 ⌝ }
+{
+    let mut place: usize = 0;
+    while place < 27 {
+        rows[place] = 0;
+        place += 1;
+    }
+}
+
+// The class account of an accepted job, zone by zone: d is worked once, for all of them.
 pub fn work_classes(
     n: usize,
     values: &[i32],
@@ -111,8 +115,7 @@ pub fn work_classes(
     rows: &mut [i64],
     locals: &mut [i64],
 )
-    requires { ⌜ Job (now values) (now weights) n ⌝ }
-    requires { ⌜ length (now classes) ≡ n * n ⌝ }
+    requires { ⌜ ClassJob (now values) (now weights) (now classes) n ⌝ }
     requires { ⌜ length (now rows) ≡ 27 ⌝ }
     requires { ⌜ length (now locals) ≡ 9 * n ⌝ }
     ensures { λ _. ⌜ now (rows .exit) ≡ class-sums n (now (values .entry)) (now (weights .entry)) (now (classes .entry)) ⌝ }
@@ -120,5 +123,10 @@ pub fn work_classes(
 {
     let mut d: [i64; 64] = [0; 64];
     deviations::deviations(n, values, &mut d[..n]);
-    fill_classes(n, values, &d[..n], weights, classes, rows, locals);
+    clear(rows);
+    let mut i: usize = 0;
+    while i < n {
+        add_zone(n, values, &d[..n], weights, classes, i, rows, locals);
+        i += 1;
+    }
 }

@@ -1,4 +1,5 @@
 // Squared differences of values: M over the pairs i < j, G over the ordered pairs with their weights.
+use crate::deviations;
 ghost use mathlib.Core.Path.{_≡_};
 ghost use Prim.Native.Nat.{_≤_, _<_};
 ghost use lib.IntN.{natAbs, _-ℤ_};
@@ -18,35 +19,30 @@ pub fn squared_difference(a: i32, b: i32) -> i64
     difference * difference
 }
 
-// The squared differences of zone j to the zones before it.
-pub fn squares_before(n: usize, values: &[i32], j: usize) -> i64
+// The sum of the squares of the values.
+pub fn square_sum(n: usize, values: &[i32]) -> i64
     requires { ⌜ Valued (now values) n ⌝ }
-    requires { ⌜ j < n ⌝ }
-    ensures { λ r. ⌜ r ≡ sum (λ i. square (at (now (values .entry)) i -ℤ at (now (values .entry)) j)) j ⌝ }
+    ensures { λ r. ⌜ r ≡ sum (λ i. square (at (now (values .entry)) i)) n ⌝ }
 {
-    let b = values[j];
     let mut acc: i64 = 0;
     let mut i: usize = 0;
-    while i < j {
-        let a = values[i];
-        acc += squared_difference(a, b);
+    while i < n {
+        let x = values[i] as i64;
+        acc += x * x;
         i += 1;
     }
     acc
 }
 
-// M: each pair once, by its later zone.
+// M, without a walk over the pairs: n times the sum of the squares, less the square of the sum.
 pub fn spread(n: usize, values: &[i32]) -> i64
     requires { ⌜ Valued (now values) n ⌝ }
     ensures { λ r. ⌜ r ≡ spread-of (at (now (values .entry))) n ⌝ }
 {
-    let mut acc: i64 = 0;
-    let mut j: usize = 0;
-    while j < n {
-        acc += squares_before(n, values, j);
-        j += 1;
-    }
-    acc
+    let total = deviations::total(n, values);
+    let squares = square_sum(n, values);
+    let count = n as i64;
+    count * squares - total * total
 }
 
 // The weighted squared differences of zone i.

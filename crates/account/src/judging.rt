@@ -1,14 +1,32 @@
 // The judges: each answers the number of the first broken rule, 0 where none is broken, and stores nothing.
 use crate::differences;
-use crate::working;
 ghost use mathlib.Core.Path.{_≡_};
 ghost use mathlib.Core.List.{[], _∷_};
 ghost use Prim.Native.Nat.{_*_, _≤_};
 ghost use lib.ListN.{length};
 ghost use Rattle.whole.specs.Rules.{first-broken, size-rules};
-ghost use Rattle.account.specs.Refusals.{job-rules, job-lengths, call-rules, job-refusal};
+ghost use Rattle.account.specs.Refusals.{values-refusal, job-rules, job-lengths, call-rules, job-refusal};
 ghost use Rattle.account.specs.Classes.{class-refusal};
 ghost use Rattle.account.specs.Rank.{rank-refusal};
+
+// 1, 2 and 3 of values alone.
+pub fn judge_values(n: usize, values: &[i32]) -> u8
+    ensures { λ r. ⌜ r ≡ values-refusal n (now (values .entry)) ⌝ }
+{
+    if n < 2 {
+        return 1;
+    }
+    if n > 64 {
+        return 1;
+    }
+    if values.len() != n {
+        return 2;
+    }
+    if judges::any_beyond(100000, values) {
+        return 3;
+    }
+    0
+}
 
 // 3 to 7, of a job whose sizes are good.
 pub fn judge_job(n: usize, values: &[i32], weights: &[u8]) -> u8
@@ -26,7 +44,7 @@ pub fn judge_job(n: usize, values: &[i32], weights: &[u8]) -> u8
     if judges::any_on_diagonal(n, weights) {
         return 5;
     }
-    if working::weight_sum(n, weights) == 0 {
+    if !judges::any_above(0, weights) {
         return 6;
     }
     if differences::spread(n, values) == 0 {

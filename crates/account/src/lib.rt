@@ -15,7 +15,7 @@ pub use judging::judge;
 ghost use mathlib.Core.Path.{_≡_};
 ghost use lib.ListN.{length};
 ghost use Rattle.account.specs.Refusals.{account-refusal};
-ghost use Rattle.account.specs.Answers.{number-of, figures-of, account-figures, account-locals};
+ghost use Rattle.account.specs.Answers.{number-of, figures-of, values-spread, account-figures, account-locals};
 ghost use Rattle.account.specs.Classes.{class-refusal, class-account-sums, class-account-rows, class-account-locals};
 ghost use Rattle.account.specs.Rank.{rank-refusal, rank-counts, counts-of};
 ghost use Rattle.account.specs.Rank as rank;
@@ -74,6 +74,16 @@ pub fn account(n: usize, values: &[i32], weights: &[u8], locals: &mut [i64]) -> 
         return Answer::Refused(refusal);
     }
     Answer::Accounted(working::job_sums(n, values, weights, locals))
+}
+
+// M alone, of n values; 0 where there are not n of them, 2 to 64, or one is beyond 100,000 in size.
+pub fn spread(n: usize, values: &[i32]) -> i64
+    ensures { λ r. ⌜ r ≡ values-spread n (now (values .entry)) ⌝ }
+{
+    if judging::judge_values(n, values) != 0 {
+        return 0;
+    }
+    differences::spread(n, values)
 }
 
 // Works the class account of the job, whose pairs have the classes lent: `rows` has 27 places for W, P and G of class 0, of class 1, ..,

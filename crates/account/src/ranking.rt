@@ -14,9 +14,15 @@ pub fn cross_sum(n: usize, weights: &[u8], d: &[i64]) -> i64
     requires { ⌜ Sized 12800000 (now d) n ⌝ }
     ensures { λ r. ⌜ r ≡ cross-held (now (weights .entry)) n (now (d .entry)) ⌝ }
 {
-    let mut locals: [i64; 64] = [0; 64];
-    deviations::local_numerators(n, weights, d, &mut locals[..n]);
-    deviations::sum_of(n, &locals[..n])
+    let mut acc: i64 = 0;
+    let mut i: usize = 0;
+    while i < n {
+        let neighbours = deviations::neighbour_sum(n, weights, d, i);
+        let deviation = d[i];
+        acc += deviation * neighbours;
+        i += 1;
+    }
+    acc
 }
 
 // The P of shuffle r, from the job's deviations.

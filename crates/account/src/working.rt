@@ -10,18 +10,18 @@ ghost use Rattle.account.specs.Measures.{deviation-of, weight-of};
 ghost use Rattle.account.specs.Answers.{five, class-row, job-figures, job-locals};
 ghost use Rattle.account.specs.Steps.{Weighted, Job};
 
-// W.
+// W, in 32 bits, so that the compiler can add several weights at a time.
 pub fn weight_sum(n: usize, weights: &[u8]) -> i64
     requires { ⌜ Weighted (now weights) n ⌝ }
     ensures { λ r. ⌜ r ≡ weight-of (pair-at (now (weights .entry)) n) n ⌝ }
 {
-    let mut acc: i64 = 0;
+    let mut acc: u32 = 0;
     let mut k: usize = 0;
     while k < weights.len() {
-        acc += weights[k] as i64;
+        acc += weights[k] as u32;
         k += 1;
     }
-    acc
+    acc as i64
 }
 
 // W, P and G for weights of any kind, with the local numerators in `locals`. The deviations d are those of the whole job.

@@ -4,7 +4,7 @@ use Prim.Native.Nat.{ℕ}
 use lib.ListN.{length}
 use Rattle.whole.proofs.Rules.{kept-when-refused, worked-when-taken}
 use Rattle.account.specs.Classes.{class-refusal}
-use Rattle.account.proofs.Accepted.{class-accepted}
+use Rattle.account.proofs.Accepted.{class-job, class-accepted}
 use borrow.Author.Needs.{needs}
 use Rattle.account.proofs.class_account.Statement.{statement}
 use Rattle.account.proofs.class_account.Tie as tie
@@ -31,7 +31,7 @@ returns c =
 work-classes-requires : tie.Need-work-classes-requires
 work-classes-requires c κs =
     let g = class-accepted _ _ _ _ _ _ _ (taken (c .before .before)) in
-    (g .whole .good .job, (g .whole .classes-fit, (g .rows-fit, g .locals-fit)))
+    (class-job (g .whole), (g .rows-fit, g .locals-fit))
 
 same-length : tie.Need-same-length
 same-length c = search needs

@@ -1,6 +1,9 @@
--- `work_classes` meets its contract: the deviations are worked into a local array, whose first n places are lent. Assumes nothing.
-use mathlib.Core.Path.{_≡_, sym}
+-- `work_classes` meets its contract: the deviations are worked into a local array, whose first n places are lent. The loop's invariant: the
+-- zones passed are in the rows and in the local numerators. Assumes nothing.
+use mathlib.Core.Path.{_≡_, sym, _∙_}
 use mathlib.Core.List.{List}
+use Prim.Native.Nat.{_-_, _≤_}
+use native.Mathlib.Omega.{arith}
 use lib.IntN.{ℤ}
 use lib.ListN.{length}
 use lib.Seq.{length-take-le}
@@ -8,61 +11,109 @@ use Rattle.whole.specs.Table.{table, at}
 use Rattle.whole.proofs.Lists.{front, front-le, front-length}
 use Rattle.whole.proofs.Table.{table-length}
 use Rattle.account.specs.Measures.{deviation-of}
-use borrow.Author.Needs.{needs}
+use Rattle.account.specs.Steps.{Zoned}
+use Rattle.account.proofs.ZoneByZone.{zoned-length, no-zones, all-zones}
 use Rattle.account.proofs.classes.work_classes.Statement.{statement}
 use Rattle.account.proofs.classes.work_classes.Tie as tie
 
--- the deviations of the job, as the array's front holds them
-module _ (c : tie.After-deviations) where
-  abbrev a : tie.Start
-  a = c .before .before .before .before
+abbrev Inv-loop : tie.InvT-loop
+Inv-loop n values weights classes rows₀ locals₀ d i₀ rows locals i = (i ≤ n) × Zoned n values weights classes (λ k. i) rows locals
+
+abbrev μ-loop : tie.MeasureT-loop
+μ-loop n values weights classes rows₀ locals₀ d i₀ rows locals i = n - i
+
+-- a turn: the deviations of the job, as the array's front holds them
+module _ (t : tie.In-loop Inv-loop μ-loop) where
+  abbrev worked : tie.After-deviations Inv-loop μ-loop
+  worked = t .before .before .before .before .before .before
+
+  abbrev start : tie.Start Inv-loop μ-loop
+  start = worked .before .before .before .before
 
   abbrev expected : List ℤ
-  expected = table (deviation-of (at (a .args .values .now)) (a .args .n)) (a .args .n)
+  expected = table (deviation-of (at (start .args .values .now)) (start .args .n)) (start .args .n)
 
-  as-long : length expected ≡ a .args .n
-  as-long = table-length (deviation-of (at (a .args .values .now)) (a .args .n)) (a .args .n)
+  as-long : length expected ≡ start .args .n
+  as-long = table-length (deviation-of (at (start .args .values .now)) (start .args .n)) (start .args .n)
 
-array-borrow-prefix-d : tie.Need-array-borrow-prefix-d
-array-borrow-prefix-d c = c .before .before .pre .0 .valued .zones
+-- the turn that a call ends
+abbrev turn : tie.After-locals Inv-loop μ-loop → tie.In-loop Inv-loop μ-loop
+turn c = c .before .before .before .before .before .before
 
-slice-aggregate-deviations : tie.Need-slice-aggregate-deviations
-slice-aggregate-deviations c = sym (length-take-le _ _ (c .before .before .before .pre .0 .valued .zones))
+array-borrow-prefix-d : tie.Need-array-borrow-prefix-d Inv-loop μ-loop
+array-borrow-prefix-d c = c .before .before .pre .0 .job .valued .zones
 
-deviations-requires : tie.Need-deviations-requires
-deviations-requires c κs = let v = c .before .before .before .pre .0 .valued in (v, length-take-le _ _ (v .zones))
+slice-aggregate-deviations : tie.Need-slice-aggregate-deviations Inv-loop μ-loop
+slice-aggregate-deviations c = sym (length-take-le _ _ (c .before .before .before .pre .0 .job .valued .zones))
 
-array-share-prefix-d : tie.Need-array-share-prefix-d
-array-share-prefix-d c = let b = c .before in front-le {A = ℤ} _ _ (expected b) _ (b .deviations .ensures) (as-long b)
+deviations-requires : tie.Need-deviations-requires Inv-loop μ-loop
+deviations-requires c κs = let v = c .before .before .before .pre .0 .job .valued in (v, length-take-le _ _ (v .zones))
 
-slice-aggregate-fill-classes : tie.Need-slice-aggregate-fill-classes
-slice-aggregate-fill-classes c = let b = c .before .before in front-length {A = ℤ} _ _ (expected b) _ (b .deviations .ensures) (as-long b)
+clear-requires : tie.Need-clear-requires Inv-loop μ-loop
+clear-requires c κs = c .before .before .before .before .before .before .pre .1 .0
 
-fill-classes-requires : tie.Need-fill-classes-requires
-fill-classes-requires c κs =
-    let b = c .before .before .before .before in
-    let p = a b .pre in
-    (p .0, (front {A = ℤ} _ _ (expected b) _ (b .deviations .ensures) (as-long b), p .1))
+loop-holds : tie.Need-loop-holds Inv-loop μ-loop
+loop-holds c =
+    let s = c .before .before .before .before .before .before .before .before in
+    (omega arith, no-zones _ _ _ _ _ (s .args .locals .now) (c .before .clear .ensures) (s .pre .1 .1))
 
-same-length : tie.Need-same-length
-same-length c = search needs
+array-share-prefix-d : tie.Need-array-share-prefix-d Inv-loop μ-loop
+array-share-prefix-d c = front-le {A = ℤ} _ _ (expected c) _ (worked c .deviations .ensures) (as-long c)
 
-same-length-2 : tie.Need-same-length-2
-same-length-2 c = search needs
+slice-aggregate-add-zone : tie.Need-slice-aggregate-add-zone Inv-loop μ-loop
+slice-aggregate-add-zone c =
+    let t = c .before in
+    front-length {A = ℤ} _ _ (expected t) _ (worked t .deviations .ensures) (as-long t)
 
-returns : tie.Need-returns
-returns c = c .before .before .fill-classes .ensures
+add-zone-requires : tie.Need-add-zone-requires Inv-loop μ-loop
+add-zone-requires c κs =
+    let t = c .before .before .before in
+    let d = front {A = ℤ} _ _ (expected t) _ (worked t .deviations .ensures) (as-long t) in
+    (start t .pre .0, (d, (t .loop-test .taken, t .before .loop .inv .1)))
+
+add-i : tie.Need-add-i Inv-loop μ-loop
+add-i c = let t = turn c in omega (arith, t .loop-test .taken, start t .pre .0 .job .valued .zones)
+
+loop-less : tie.Need-loop-less Inv-loop μ-loop
+loop-less c = omega (arith, turn c .loop-test .taken)
+
+loop-again : tie.Need-loop-again Inv-loop μ-loop
+loop-again c = (omega (arith, turn c .loop-test .taken), c .before .before .add-zone .ensures)
+
+same-length : tie.Need-same-length Inv-loop μ-loop
+same-length c =
+    let s = c .before .before .before .before .before .before .before .before .before .before in
+    zoned-length (c .before .loop .inv .1) ∙ sym (s .pre .1 .0)
+
+same-length-2 : tie.Need-same-length-2 Inv-loop μ-loop
+same-length-2 c =
+    let s = c .before .before .before .before .before .before .before .before .before .before in
+    c .before .loop .inv .1 .count ∙ sym (s .pre .1 .1)
+
+returns : tie.Need-returns Inv-loop μ-loop
+returns c =
+    let s = c .before .before .before .before .before .before .before .before .before .before .args in
+    let b = c .before .loop in
+    let all : b .i ≡ s .n = omega (arith, b .inv .0) in
+    all-zones (s .n) (s .values .now) (s .weights .now) (s .classes .now) (b .i) (b .rows) (b .locals) all (b .inv .1)
 
 pub work-classes-spec : {M : Type 1} → statement M
 work-classes-spec =
     tie.close
     (tie.spec
+    Inv-loop
+    μ-loop
     array-borrow-prefix-d
     slice-aggregate-deviations
     deviations-requires
+    clear-requires
+    loop-holds
     array-share-prefix-d
-    slice-aggregate-fill-classes
-    fill-classes-requires
+    slice-aggregate-add-zone
+    add-zone-requires
+    add-i
+    loop-less
+    loop-again
     same-length
     same-length-2
     returns)

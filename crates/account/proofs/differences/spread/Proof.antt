@@ -1,73 +1,80 @@
--- `spread` meets its contract. The loop's invariant: the accumulator's bits are those of the sum over the zones passed. Assumes nothing.
-use mathlib.Core.Path.{_≡_, ap}
-use Prim.Native.Nat.{_+_, _-_, _≤_}
-use native.Mathlib.Omega.{arith}
+-- `spread` meets its contract: the squared differences over the pairs are n times the sum of the squares, less the square of the sum.
+-- Assumes nothing.
+use mathlib.Core.Path.{_≡_, sym, _∙_}
+use Prim.Native.Nat.{ℕ}
 use native.Mathlib.Nat as N
-use lib.IntN.{_+ℤ_, _-ℤ_}
+use lib.IntN.{ℤ, pos, _-ℤ_, _*ℤ_}
 use mir.Syntax.{w64}
-use mir.Val.{toZ, ofZ}
+use mir.Val.{toZ}
 use Rattle.whole.specs.Integer.{square}
 use Rattle.whole.specs.Sum.{sum}
-use Rattle.whole.proofs.Accumulate.{acc-none, acc-more, acc-done}
-use Rattle.whole.proofs.Machine.{Is, told, rd, fit, r64}
 use Rattle.whole.specs.Table.{at}
-use Rattle.account.specs.Measures.{spread-of}
-use Rattle.account.proofs.Running.{before-runs, spread-runs}
+use Rattle.whole.proofs.Machine.{Is, nat, told, rd, is--, is-*, fit, fits-le, r64}
+use Rattle.whole.proofs.Pairs.{pairs-sum}
+use Rattle.account.specs.Measures.{total-of, spread-of}
+use Rattle.account.proofs.Running.{total-runs, square-runs}
 use Rattle.account.proofs.differences.spread.Statement.{statement}
 use Rattle.account.proofs.differences.spread.Tie as tie
 
-abbrev Inv-loop : tie.InvT-loop
-Inv-loop n values acc₀ j₀ acc j = (j ≤ n) × (acc ≡ ofZ w64 (sum (λ j. sum (λ i. square (at values i -ℤ at values j)) j) j))
+module _ (c : tie.After-square-sum) where
+  abbrev s : tie.Start
+  s = c .before .before
 
-abbrev μ-loop : tie.MeasureT-loop
-μ-loop n values acc₀ j₀ acc j = n - j
+  abbrev n : ℕ
+  n = s .args .n
 
--- a turn adds what one zone more has with the zones before it
-turn :
-    (c : tie.After-squares-before Inv-loop μ-loop) →
-    let b = c .before .before in
-    let x = at (b .before .args .values .now) in
-    Is (toZ w64 (b .loop .acc) +ℤ r64 (c .squares-before .result))
-    (sum (λ j. sum (λ i. square (x i -ℤ x j)) j) (b .loop .j + 1)) 80640000000000
-turn c =
-    let b = c .before .before in
-    let a = b .before in
-    let run = before-runs _ _ (a .pre) (b .loop .j) (omega arith) in
-    acc-more (spread-runs _ _ (a .pre)) (b .loop .j) (b .loop .acc) (omega arith) (b .loop .inv .1)
-    (rd w64 (told _ 2560000000000 (c .squares-before .ensures) (run .bound (b .loop .j) (N.le-refl (b .loop .j)))) tt)
+  abbrev x : ℕ → ℤ
+  x = at (s .args .values .now)
 
-loop-holds : tie.Need-loop-holds Inv-loop μ-loop
-loop-holds c = (omega arith, acc-none w64 _)
+  total-is : Is (r64 (c .before .total .result)) (sum x n) 6400000
+  unfolding total-of
+  total-is = rd w64 (told _ 6400000 (c .before .total .ensures) (total-runs _ _ (s .pre) .bound n (N.le-refl n))) tt
 
-squares-before-requires : tie.Need-squares-before-requires Inv-loop μ-loop
-squares-before-requires c κs = (c .before .before .pre, omega arith)
+  squares-are : Is (r64 (c .square-sum .result)) (sum (λ i. square (x i)) n) 640000000000
+  squares-are = rd w64 (told _ 640000000000 (c .square-sum .ensures) (square-runs _ _ (s .pre) .bound n (N.le-refl n))) tt
 
-add-acc : tie.Need-add-acc Inv-loop μ-loop
-add-acc c = fit w64 (turn c) tt
+  -- n times the squares, the square of the sum, and what is left
+  first : Is (toZ w64 n *ℤ r64 (c .square-sum .result)) (pos n *ℤ sum (λ i. square (x i)) n) 40960000000000
+  first = is-* (nat w64 n 64 (s .pre .zones) tt) squares-are
 
-add-j : tie.Need-add-j Inv-loop μ-loop
-add-j c = omega arith
+  second : Is (r64 (c .before .total .result) *ℤ r64 (c .before .total .result)) (square (sum x n)) 40960000000000
+  second = is-* total-is total-is
 
-loop-less : tie.Need-loop-less Inv-loop μ-loop
-loop-less c = omega arith
+  difference :
+      Is (r64 (toZ w64 n *ℤ r64 (c .square-sum .result)) -ℤ r64 (r64 (c .before .total .result) *ℤ r64 (c .before .total .result)))
+      (pos n *ℤ sum (λ i. square (x i)) n -ℤ square (sum x n)) 81920000000000
+  difference = is-- (rd w64 first tt) (rd w64 second tt)
 
-loop-again : tie.Need-loop-again Inv-loop μ-loop
-loop-again c = (omega arith, ap (ofZ w64) (turn c .same))
+total-requires : tie.Need-total-requires
+total-requires c κs = c .pre
 
-returns : tie.Need-returns Inv-loop μ-loop
+square-sum-requires : tie.Need-square-sum-requires
+square-sum-requires c κs = c .before .pre
+
+cast-count : tie.Need-cast-count
+cast-count c = fits-le w64 _ 64 (s c .pre .zones) tt
+
+mul-result : tie.Need-mul-result
+mul-result c = fit w64 (first c) tt
+
+mul-result-2 : tie.Need-mul-result-2
+mul-result-2 c = fit w64 (second c) tt
+
+sub-result : tie.Need-sub-result
+sub-result c = fit w64 (difference c) tt
+
+returns : tie.Need-returns
 unfolding spread-of
-returns c = let b = c .before in acc-done (spread-runs _ _ (b .before .pre)) (b .loop .j) (b .loop .acc) (omega arith) (b .loop .inv .1)
+returns c = rd w64 (difference c) tt .same ∙ sym (pairs-sum (x c) (n c))
 
 pub spread-spec : {M : Type 1} → statement M
 spread-spec =
     tie.close
     (tie.spec
-    Inv-loop
-    μ-loop
-    loop-holds
-    squares-before-requires
-    add-acc
-    add-j
-    loop-less
-    loop-again
+    total-requires
+    square-sum-requires
+    cast-count
+    mul-result
+    mul-result-2
+    sub-result
     returns)

@@ -1,6 +1,6 @@
 -- `judge_job` meets its contract: at each return the tests on the way fix the first rule that is broken. Assumes nothing.
-use mathlib.Core.Path.{_≡_, refl, sym, _∙_}
-use mathlib.Core.Bool.{true, false}
+use mathlib.Core.Path.{_≡_, refl, sym, ap, _∙_}
+use mathlib.Core.Bool.{true, false, not}
 use native.Mathlib.Nat as N
 use mir.Syntax.{w64}
 use Rattle.whole.specs.Integer.{is-zero}
@@ -10,8 +10,7 @@ use Rattle.whole.specs.Search.{any-beyond, any-above, any-on-diagonal}
 use Rattle.account.specs.Measures.{weight-of, spread-of}
 use Rattle.account.specs.Refusals.{job-rules}
 use Rattle.account.specs.Steps.{Valued, Weighted}
-use Rattle.account.proofs.Sizes.{weight-size}
-use Rattle.account.proofs.Reading.{weight-le}
+use Rattle.account.proofs.Reading.{weightless}
 use Rattle.account.proofs.Running.{spread-runs}
 use Rattle.account.proofs.Accepted.{near, weighted}
 use borrow.Author.Needs.{needs}
@@ -31,12 +30,6 @@ holds5 :
     any-on-diagonal (a .n) (a .weights .now) ≡ false
 holds5 c = sym (c .before .any-on-diagonal .ensures) ∙ c .if3 .left
 
-holds6 :
-    (c : tie.Else4) →
-    let a = c .before .before .before .before .before .before .before .before .before .args in
-    is-zero (weight-of (pair-at (a .weights .now) (a .n)) (a .n)) ≡ false
-holds6 c = zero-no w64 (c .before .weight-sum .ensures) (c .if4 .left)
-
 -- and the lists that the sums are taken of
 good-weights : (c : tie.Else2) → let a = c .before .before .before .before .before .args in Weighted (a .weights .now) (a .n)
 good-weights c = let a = c .before .before .before .before .before in weighted _ _ (a .pre .0) (a .pre .1 .1) (holds4 c)
@@ -44,13 +37,21 @@ good-weights c = let a = c .before .before .before .before .before in weighted _
 good-values : (c : tie.Else1) → let a = c .before .before .before .args in Valued (a .values .now) (a .n)
 good-values c = let a = c .before .before .before in record { zones = a .pre .0; near = near 100000 _ _ (a .pre .1 .0) (holds3 c) }
 
+holds6 :
+    (c : tie.Else4) →
+    let a = c .before .before .before .before .before .before .before .before .before .args in
+    is-zero (weight-of (pair-at (a .weights .now) (a .n)) (a .n)) ≡ false
+holds6 c =
+    let w = good-weights (c .before .before .before .before) in
+    weightless _ _ w ∙ ap not (sym (c .before .any-above2 .ensures)) ∙ c .if4 .left
+
 breaks6 :
     (c : tie.Then4) →
     let a = c .before .before .before .before .before .before .before .before .before .args in
     is-zero (weight-of (pair-at (a .weights .now) (a .n)) (a .n)) ≡ true
 breaks6 c =
     let w = good-weights (c .before .before .before .before) in
-    zero-yes w64 (told _ 36864 (c .before .weight-sum .ensures) (weight-size _ _ (w .zones) (weight-le _ _ w))) tt (c .if4 .taken)
+    weightless _ _ w ∙ ap not (sym (c .before .any-above2 .ensures)) ∙ c .if4 .taken
 
 breaks7 :
     (c : tie.Then5) →
@@ -90,8 +91,8 @@ returns-3 c =
     rw (holds3 (c .before .before .before .before), holds4 (c .before .before), sym (c .before .any-on-diagonal .ensures) ∙ c .if3 .taken)
     refl
 
-weight-sum-requires : tie.Need-weight-sum-requires
-weight-sum-requires c κs = good-weights (c .before .before)
+any-above-requires-2 : tie.Need-any-above-requires-2
+any-above-requires-2 c κs = search needs
 
 returns-4 : tie.Need-returns-4
 unfolding job-rules
@@ -141,7 +142,7 @@ judge-job-spec =
     returns-2
     any-on-diagonal-requires
     returns-3
-    weight-sum-requires
+    any-above-requires-2
     returns-4
     spread-requires
     returns-5

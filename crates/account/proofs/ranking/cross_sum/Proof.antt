@@ -1,76 +1,97 @@
--- `cross_sum` meets its contract: the local numerators are worked into a local array, whose first n places are lent, and added up.
+-- `cross_sum` meets its contract. The loop's invariant: the accumulator's bits are those of the sum of the local numerators passed.
 -- Assumes nothing.
-use mathlib.Core.Path.{_≡_, sym, _∙_}
-use Prim.Native.Nat.{ℕ}
-use lib.IntN.{ℤ}
-use lib.ListN.{length}
-use lib.Seq.{length-take-le}
+use mathlib.Core.Path.{_≡_, ap, _∙_}
+use Prim.Native.Nat.{_+_, _-_, _≤_}
+use native.Mathlib.Nat as N
+use native.Mathlib.Omega.{arith}
+use lib.IntN.{_+ℤ_, _*ℤ_}
 use mir.Syntax.{w64}
-use Rattle.whole.specs.Table.{table, at, pair-at}
-use Rattle.whole.proofs.Lists.{front, front-le, front-length}
-use Rattle.whole.proofs.Machine.{rd}
-use Rattle.whole.proofs.Table.{table-length}
-use Rattle.account.specs.Measures.{local-of}
-use Rattle.account.proofs.Locals.{numerators-sized, numerators-cross, deviations-cross-told}
+use mir.Val.{toZ, ofZ}
+use Rattle.whole.specs.Sum.{sum}
+use Rattle.whole.specs.Table.{at, pair-at}
+use Rattle.whole.proofs.Accumulate.{acc-none, acc-more, acc-done}
+use Rattle.whole.proofs.Machine.{Is, val, told, rd, is-*, fit, r64}
+use Rattle.account.specs.Measures.{row-of, local-of}
+use Rattle.account.proofs.Adding.{locals-sum}
+use Rattle.account.proofs.Running.{neighbours-run, cross-runs}
 use Rattle.account.proofs.ranking.cross_sum.Statement.{statement}
 use Rattle.account.proofs.ranking.cross_sum.Tie as tie
 
--- the local numerators, as the array's front holds them
-module _ (c : tie.After-local-numerators) where
-  abbrev a : tie.Start
-  a = c .before .before .before
+abbrev Inv-loop : tie.InvT-loop
+Inv-loop n weights d acc₀ i₀ acc i = (i ≤ n) × (acc ≡ ofZ w64 (sum (local-of (pair-at weights n) (at d) n) i))
 
-  abbrev n : ℕ
-  n = a .args .n
+abbrev μ-loop : tie.MeasureT-loop
+μ-loop n weights d acc₀ i₀ acc i = n - i
 
-  abbrev local : ℕ → ℤ
-  local = local-of (pair-at (a .args .weights .now) n) (at (a .args .d .now)) n
+-- d(i) times the weighted neighbours, and a turn, which adds that
+module _ (c : tie.After-deviation Inv-loop μ-loop) where
+  abbrev b : tie.At-loop Inv-loop μ-loop
+  b = c .before .before .before
 
-  as-long : length (table local n) ≡ n
-  as-long = table-length local n
+  abbrev a : tie.Start Inv-loop μ-loop
+  a = b .before .before
 
-array-borrow-prefix-locals : tie.Need-array-borrow-prefix-locals
-array-borrow-prefix-locals c = c .before .pre .0 .zones
+  local :
+      Is (r64 (at (a .args .d .now) (b .loop .i)) *ℤ r64 (c .before .neighbour-sum .result))
+      (local-of (pair-at (a .args .weights .now) (a .args .n)) (at (a .args .d .now)) (a .args .n) (b .loop .i)) 94371840000000000
+  unfolding local-of row-of
+  local =
+      let run = neighbours-run _ _ (a .pre .0) _ (b .loop .i) (a .pre .1) (omega arith) in
+      is-* (rd w64 (val (at (a .args .d .now) (b .loop .i)) 12800000 (a .pre .1 .size (b .loop .i) (omega arith))) tt)
+      (rd w64 (told _ 7372800000 (c .before .neighbour-sum .ensures) (run .bound (a .args .n) (N.le-refl (a .args .n)))) tt)
 
-slice-aggregate-local-numerators : tie.Need-slice-aggregate-local-numerators
-slice-aggregate-local-numerators c = sym (length-take-le _ _ (c .before .before .pre .0 .zones))
+  turn :
+      Is (toZ w64 (b .loop .acc) +ℤ r64 (r64 (at (a .args .d .now) (b .loop .i)) *ℤ r64 (c .before .neighbour-sum .result)))
+      (sum (local-of (pair-at (a .args .weights .now) (a .args .n)) (at (a .args .d .now)) (a .args .n)) (b .loop .i + 1))
+      6039797760000000000
+  turn = acc-more (cross-runs _ _ (a .pre .0) _ (a .pre .1)) (b .loop .i) (b .loop .acc) (omega arith) (b .loop .inv .1) (rd w64 local tt)
 
-local-numerators-requires : tie.Need-local-numerators-requires
-local-numerators-requires c κs =
-    let a = c .before .before in
-    (a .pre .0, (a .pre .1, length-take-le _ _ (a .pre .0 .zones)))
+loop-holds : tie.Need-loop-holds Inv-loop μ-loop
+loop-holds c = (omega arith, acc-none w64 _)
 
-array-share-prefix-locals : tie.Need-array-share-prefix-locals
-array-share-prefix-locals c = let b = c .before in front-le {A = ℤ} _ _ (table (local b) (n b)) _ (b .local-numerators .ensures) (as-long b)
+neighbour-sum-requires : tie.Need-neighbour-sum-requires Inv-loop μ-loop
+neighbour-sum-requires c κs = let a = c .before .before .before in (a .pre .0, (a .pre .1, omega arith))
 
-slice-aggregate-sum-of : tie.Need-slice-aggregate-sum-of
-slice-aggregate-sum-of c =
-    let b = c .before .before in
-    front-length {A = ℤ} _ _ (table (local b) (n b)) _ (b .local-numerators .ensures) (as-long b)
+mul-deviation : tie.Need-mul-deviation Inv-loop μ-loop
+mul-deviation c = omega arith
 
-sum-of-requires : tie.Need-sum-of-requires
-sum-of-requires c κs =
-    let b = c .before .before in
-    let w = a b .pre in
-    let l = front {A = ℤ} _ _ (table (local b) (n b)) _ (b .local-numerators .ensures) (as-long b) in
-    (w .0 .zones, numerators-sized _ _ (w .0) (at (a b .args .d .now)) (w .1 .size) _ l)
+shared-slice-copy-out-deviation : tie.Need-shared-slice-copy-out-deviation Inv-loop μ-loop
+shared-slice-copy-out-deviation c = omega arith
 
-returns : tie.Need-returns
+mul-acc : tie.Need-mul-acc Inv-loop μ-loop
+mul-acc c = fit w64 (local c) tt
+
+add-acc : tie.Need-add-acc Inv-loop μ-loop
+add-acc c = fit w64 (turn c) tt
+
+add-i : tie.Need-add-i Inv-loop μ-loop
+add-i c = omega arith
+
+loop-less : tie.Need-loop-less Inv-loop μ-loop
+loop-less c = omega arith
+
+loop-again : tie.Need-loop-again Inv-loop μ-loop
+loop-again c = (omega arith, ap (ofZ w64) (turn c .same))
+
+returns : tie.Need-returns Inv-loop μ-loop
 returns c =
-    let b = c .before .before .before in
-    let w = a b .pre in
-    let l = front {A = ℤ} _ _ (table (local b) (n b)) _ (b .local-numerators .ensures) (as-long b) in
-    let e = c .sum-of .ensures ∙ numerators-cross (pair-at (a b .args .weights .now) (n b)) (n b) (at (a b .args .d .now)) _ l in
-    rd w64 (deviations-cross-told _ _ (w .0) (at (a b .args .d .now)) (w .1 .size) e) tt .same
+    let b = c .before in
+    let p = b .before .before .pre in
+    acc-done (cross-runs _ _ (p .0) _ (p .1)) (b .loop .i) (b .loop .acc) (omega arith) (b .loop .inv .1) ∙ locals-sum _ _ _
 
 pub cross-sum-spec : {M : Type 1} → statement M
 cross-sum-spec =
     tie.close
     (tie.spec
-    array-borrow-prefix-locals
-    slice-aggregate-local-numerators
-    local-numerators-requires
-    array-share-prefix-locals
-    slice-aggregate-sum-of
-    sum-of-requires
+    Inv-loop
+    μ-loop
+    loop-holds
+    neighbour-sum-requires
+    mul-deviation
+    shared-slice-copy-out-deviation
+    mul-acc
+    add-acc
+    add-i
+    loop-less
+    loop-again
     returns)

@@ -10,7 +10,7 @@ use Rattle.whole.proofs.Rules.{kept-when-refused, worked-when-taken}
 use Rattle.account.specs.Classes.{class-row-of, class-sums, class-locals, class-refusal, row-at}
 use Rattle.account.specs.Steps.{nine-of, Packed}
 use Rattle.account.specs.declared.rows.Worked.{Worked}
-use Rattle.account.proofs.Accepted.{class-accepted}
+use Rattle.account.proofs.Accepted.{class-job, class-accepted}
 use Rattle.account.proofs.rows.work_rows.Statement.{statement}
 use Rattle.account.proofs.rows.work_rows.Tie as tie
 
@@ -72,7 +72,7 @@ slice-aggregate-work-classes c = search needs
 work-classes-requires : tie.Need-work-classes-requires
 work-classes-requires c κs =
     let g = class-accepted _ _ _ _ _ _ _ (none (c .before .before)) in
-    (g .whole .good .job, (g .whole .classes-fit, (refl, g .locals-fit)))
+    (class-job (g .whole), (refl, g .locals-fit))
 
 pack-rows-requires-2 : tie.Need-pack-rows-requires-2
 pack-rows-requires-2 c κs = search needs

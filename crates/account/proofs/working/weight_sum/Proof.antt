@@ -1,64 +1,86 @@
--- `weight_sum` meets its contract. The loop's invariant: the accumulator's bits are those of the sum of the weights passed.
--- Assumes nothing.
-use mathlib.Core.Path.{_≡_, ap, _∙_}
-use Prim.Native.Nat.{_+_, _-_, _≤_}
+-- `weight_sum` meets its contract. The loop's invariant: the accumulator is the sum of the weights passed. Assumes nothing.
+use mathlib.Core.Path.{_≡_, sym, ap, _∙_}
+use Prim.Native.Nat.{ℕ, _+_, _*_, _-_, _≤_}
 use native.Mathlib.Omega.{arith}
-use lib.IntN.{pos, _+ℤ_}
+use lib.IntN.{ℤ, pos, _+ℤ_}
 use lib.ListN.{length, getD}
 use mir.Syntax.{w64}
-use mir.Val.{toZ, ofZ}
 use Rattle.whole.specs.Sum.{sum}
-use Rattle.whole.proofs.Accumulate.{acc-none, acc-more, acc-done}
-use Rattle.whole.proofs.Machine.{Is, nat, fit, fits-le}
+use Rattle.whole.proofs.Lists.{few}
+use Rattle.whole.proofs.Machine.{nat, fits-le}
+use Rattle.whole.proofs.Sum.{sum-zero, sum-more}
 use Rattle.account.proofs.Reading.{flat-weight}
-use Rattle.account.proofs.Running.{weight-runs}
 use Rattle.account.proofs.working.weight_sum.Statement.{statement}
 use Rattle.account.proofs.working.weight_sum.Tie as tie
 
 abbrev Inv-loop : tie.InvT-loop
-Inv-loop n weights acc₀ k₀ acc k = (k ≤ length weights) × (acc ≡ ofZ w64 (sum (λ t. pos (getD weights t 0)) k))
+Inv-loop n weights acc₀ k₀ acc k =
+    (k ≤ length weights) × ((pos acc ≡ sum (λ t. pos (getD weights t 0)) k) × (acc ≤ 9 * k))
 
 abbrev μ-loop : tie.MeasureT-loop
 μ-loop n weights acc₀ k₀ acc k = length weights - k
 
--- a turn adds one weight more
-turn :
-    (c : tie.After-shared-slice-known Inv-loop μ-loop) →
-    let b = c .before .before in
-    let w = b .before .args .weights .now in
-    Is (toZ w64 (b .loop .acc) +ℤ toZ w64 (getD w (b .loop .k) 0)) (sum (λ k. pos (getD w k 0)) (b .loop .k + 1)) 36864
-turn c =
-    let b = c .before .before in
-    let a = b .before in
-    acc-more (weight-runs _ _ (a .pre)) (b .loop .k) (b .loop .acc) (omega arith) (b .loop .inv .1)
-    (nat w64 (getD (a .args .weights .now) (b .loop .k) 0) 9 (a .pre .light (b .loop .k) (omega arith)) tt)
+-- at most 4,096 weights, each at most 9
+module _ (c : tie.After-shared-slice-known Inv-loop μ-loop) where
+  abbrev s : tie.Start Inv-loop μ-loop
+  s = c .before .before .before
+
+  abbrev k : ℕ
+  k = c .before .before .loop .k
+
+  light : getD (s .args .weights .now) k 0 ≤ 9
+  light = s .pre .light k (omega (arith, c .before .loop-test .taken, s .pre .count))
+
+  passed : k + 1 ≤ 4096
+  passed = omega (arith, c .before .loop-test .taken, s .pre .count, few (s .args .n) (s .pre .zones))
 
 loop-holds : tie.Need-loop-holds Inv-loop μ-loop
-loop-holds c = (omega arith, acc-none w64 _)
+loop-holds c = (omega arith, (sym (sum-zero _), omega arith))
 
 shared-slice-read-acc : tie.Need-shared-slice-read-acc Inv-loop μ-loop
-shared-slice-read-acc c = omega arith
+shared-slice-read-acc c = c .before .loop-test .taken
 
 cast-acc : tie.Need-cast-acc Inv-loop μ-loop
-cast-acc c = let b = c .before .before in fits-le w64 _ 9 (b .before .pre .light (b .loop .k) (omega arith)) tt
+cast-acc c = omega (arith, light c)
 
 add-acc : tie.Need-add-acc Inv-loop μ-loop
-add-acc c = fit w64 (turn c) tt
+add-acc c = omega (arith, light c, passed c, c .before .before .loop .inv .1 .1)
 
 add-k : tie.Need-add-k Inv-loop μ-loop
-add-k c = omega arith
+add-k c = omega (arith, passed c)
 
 loop-less : tie.Need-loop-less Inv-loop μ-loop
-loop-less c = omega arith
+loop-less c = omega (arith, c .before .loop-test .taken)
 
 loop-again : tie.Need-loop-again Inv-loop μ-loop
-loop-again c = (omega arith, ap (ofZ w64) (turn c .same))
+loop-again c =
+    let weights = s c .args .weights .now in
+    let so-far = c .before .before .loop .inv .1 in (
+      omega (arith, c .before .loop-test .taken),
+      (
+        ap (λ (z : ℤ). z +ℤ pos (getD weights (k c) 0)) (so-far .0) ∙ sym (sum-more (λ t. pos (getD weights t 0)) (k c)),
+        omega (arith, light c, so-far .1),
+      ),
+    )
+
+-- all of them
+small : (c : tie.After-loop Inv-loop μ-loop) → c .before .loop .acc ≤ 36864
+small c =
+    let s = c .before .before in
+    omega (arith, c .before .loop .inv .0, c .before .loop .inv .1 .1, s .pre .count, few (s .args .n) (s .pre .zones))
+
+cast-result : tie.Need-cast-result Inv-loop μ-loop
+cast-result c = fits-le w64 (pos (c .before .loop .acc)) 36864 (small c) tt
 
 returns : tie.Need-returns Inv-loop μ-loop
 returns c =
-    let b = c .before in
-    let a = b .before in
-    acc-done (weight-runs _ _ (a .pre)) (b .loop .k) (b .loop .acc) (omega arith) (b .loop .inv .1) ∙ flat-weight _ _ (a .pre)
+    let l = c .before .loop in
+    let s = c .before .before in
+    let end : l .k ≡ s .args .n * s .args .n = omega (arith, l .inv .0, s .pre .count, c .loop-test .left) in
+    nat w64 (l .acc) 36864 (small c) tt .same
+    ∙ l .inv .1 .0
+    ∙ ap (sum (λ t. pos (getD (s .args .weights .now) t 0))) end
+    ∙ flat-weight _ _ (s .pre)
 
 pub weight-sum-spec : {M : Type 1} → statement M
 weight-sum-spec =
@@ -73,4 +95,5 @@ weight-sum-spec =
     add-k
     loop-less
     loop-again
+    cast-result
     returns)

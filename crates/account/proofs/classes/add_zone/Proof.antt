@@ -1,0 +1,255 @@
+-- `add_zone` meets its contract. The loop's invariant: zone i is in the sums and the local numerators of the first k classes, the zones
+-- before it in those of all. Assumes nothing.
+use mathlib.Core.Path.{_≡_, refl, sym, ap, _∙_}
+use mathlib.Core.List.{List}
+use Prim.Native.Nat.{ℕ, zero, suc, _+_, _*_, _-_, _≤_, _<_}
+use native.Mathlib.Nat as N
+use native.Mathlib.Omega.{arith}
+use borrow.Author.Tests.{lt-ltb, le-ltb}
+use lib.IntN.{ℤ, _*ℤ_}
+use mir.Syntax.{w64}
+use Rattle.whole.specs.Table.{table, table-rows, at}
+use Rattle.whole.proofs.Machine.{Is, told, rd, is-*, to, fit, r64}
+use Rattle.account.specs.Measures.{local-of}
+use Rattle.account.specs.Classes.{class-local-of, sum-at}
+use Rattle.account.specs.Steps.{zone-part, zone-sum, Zoned}
+use Rattle.account.specs.declared.ClassRow.{ClassRow}
+use Rattle.account.proofs.ByClass.{sums-at}
+use Rattle.account.proofs.Locals.{deviations-sized, deviation-is}
+use Rattle.account.proofs.ZoneByZone.{
+  zones-in,
+  zones-most,
+  zoned-length,
+  same-zones,
+  one-class,
+  part-size,
+  class-local-size,
+  zones-sized,
+  added-small,
+}
+use Rattle.account.proofs.classes.add_zone.Statement.{statement}
+use Rattle.account.proofs.classes.add_zone.Tie as tie
+
+abbrev Inv-loop : tie.InvT-loop
+Inv-loop n values d weights classes i rows₀ locals₀ parts deviation k₀ rows locals k =
+    (k ≤ 9) × Zoned n values weights classes (zones-in i k) rows locals
+
+abbrev μ-loop : tie.MeasureT-loop
+μ-loop n values d weights classes i rows₀ locals₀ parts deviation k₀ rows locals k = 9 - k
+
+-- what the call was lent
+module _ (s : tie.Start Inv-loop μ-loop) where
+  abbrev n : ℕ
+  n = s .args .n
+
+  abbrev i : ℕ
+  i = s .args .i
+
+  abbrev values : List ℤ
+  values = s .args .values .now
+
+  abbrev weights : List ℕ
+  weights = s .args .weights .now
+
+  abbrev classes : List ℕ
+  classes = s .args .classes .now
+
+  zones : n ≤ 64
+  zones = s .pre .0 .job .valued .zones
+
+  inside : i < n
+  inside = s .pre .1 .1 .0
+
+-- a turn: what the pairs of zone i gave of class k, and what is added to its sums
+module _ (t : tie.In-loop Inv-loop μ-loop) where
+  abbrev start : tie.Start Inv-loop μ-loop
+  start = t .before .before .before .before .before .before .before .before
+
+  abbrev k : ℕ
+  k = t .before .loop .k
+
+  low : k < 9
+  low = t .loop-test .taken
+
+  -- the place of zone i among the local numerators
+  local-in : k * n start + i start < 9 * n start
+  local-in = omega (arith, N.mul-le-mul-right (n start) low, inside start)
+
+  abbrev parts : List ℤ
+  parts = t .before .before .before .before .add-pairs .last .1 .1 .1 .1 .1 .1 .0
+
+  part-is :
+      (place p : ℕ) → place ≡ k * 3 + p → p < 3 →
+      Is (r64 (at parts place)) (zone-part (n start) (values start) (weights start) (classes start) (i start) k p) 23040000000000
+  part-is place p e h =
+      let part = zone-part (n start) (values start) (weights start) (classes start) (i start) in
+      let held = ap (at parts) e ∙ sums-at part parts (t .before .before .before .before .add-pairs .ensures) k p low h in
+      let size = part-size (n start) (values start) (weights start) (classes start) (start .pre .0) (i start) k p (inside start) in
+      rd w64 (told (part k p) 23040000000000 held size) tt
+
+  local-is :
+      Is (r64 (at (start .args .d .now) (i start)) *ℤ r64 (at parts (k * 3 + 1)))
+      (class-local-of (n start) (values start) (weights start) (classes start) k (i start)) 94371840000000000
+  unfolding class-local-of local-of zone-part
+  local-is =
+      let v = start .pre .0 .job .valued in
+      let d = deviation-is (values start) (n start) (start .args .d .now) v (start .pre .1 .0) (i start) (inside start) in
+      to 94371840000000000 (is-* d (part-is (k * 3 + 1) 1 refl (omega arith))) refl
+      (class-local-size (n start) (values start) (weights start) (classes start) (start .pre .0) k (i start) (inside start))
+
+  abbrev added : ClassRow
+  added = record {
+    weight = r64 (at parts (k * 3));
+    cross = r64 (r64 (at (start .args .d .now) (i start)) *ℤ r64 (at parts (k * 3 + 1)));
+    squares = r64 (at parts (k * 3 + 2));
+  }
+
+  each : (place : ℕ) → sum-at added place ≡ zone-sum (n start) (values start) (weights start) (classes start) k place (i start)
+  each zero = part-is (k * 3) 0 (omega arith) (omega arith) .same
+  each (suc zero) = rd w64 local-is tt .same
+  each (suc (suc place)) = part-is (k * 3 + 2) 2 refl (omega arith) .same
+
+-- the turn that a store ends
+abbrev turn : tie.After-rows Inv-loop μ-loop → tie.In-loop Inv-loop μ-loop
+turn c = c .before .before .before .before .before .before
+
+slice-aggregate-add-pairs : tie.Need-slice-aggregate-add-pairs Inv-loop μ-loop
+slice-aggregate-add-pairs c = refl
+
+add-pairs-requires : tie.Need-add-pairs-requires Inv-loop μ-loop
+unfolding table table-rows
+add-pairs-requires c κs = let s = c .before .before .before in (s .pre .0, (s .pre .1 .0, (inside s, refl)))
+
+mul-deviation : tie.Need-mul-deviation Inv-loop μ-loop
+mul-deviation c = let s = c .before .before .before .before .before in omega (arith, inside s, zones s)
+
+shared-slice-copy-out-deviation : tie.Need-shared-slice-copy-out-deviation Inv-loop μ-loop
+shared-slice-copy-out-deviation c =
+    let s = c .before .before .before .before .before in
+    omega (arith, inside s, deviations-sized (values s) (n s) (s .args .d .now) (s .pre .0 .job .valued) (s .pre .1 .0) .count)
+
+loop-holds : tie.Need-loop-holds Inv-loop μ-loop
+loop-holds c =
+    let s = c .before .before .before .before .before .before in
+    let none : (k : ℕ) → k < 9 → i s ≡ zones-in (i s) 0 k = λ k p. rw (le-ltb k 0 (omega arith)) refl in
+    (omega arith, same-zones (n s) (values s) (weights s) (classes s) (λ k. i s) (zones-in (i s) 0) _ _ none (s .pre .1 .1 .1))
+
+mul-place : tie.Need-mul-place Inv-loop μ-loop
+mul-place c = omega (arith, low c)
+
+mul-weight : tie.Need-mul-weight Inv-loop μ-loop
+mul-weight c = omega (arith, low c)
+
+array-copy-out-weight : tie.Need-array-copy-out-weight Inv-loop μ-loop
+array-copy-out-weight c = omega (arith, low c)
+
+add-local : tie.Need-add-local Inv-loop μ-loop
+add-local c = omega (arith, low (c .before))
+
+mul-local : tie.Need-mul-local Inv-loop μ-loop
+mul-local c = omega (arith, low (c .before))
+
+array-copy-out-local : tie.Need-array-copy-out-local Inv-loop μ-loop
+array-copy-out-local c = omega (arith, low (c .before))
+
+mul-local-2 : tie.Need-mul-local-2 Inv-loop μ-loop
+mul-local-2 c = fit w64 (local-is (c .before .before)) tt
+
+add-squares : tie.Need-add-squares Inv-loop μ-loop
+add-squares c = omega (arith, low (c .before .before))
+
+mul-squares : tie.Need-mul-squares Inv-loop μ-loop
+mul-squares c = omega (arith, low (c .before .before))
+
+array-copy-out-squares : tie.Need-array-copy-out-squares Inv-loop μ-loop
+array-copy-out-squares c = omega (arith, low (c .before .before))
+
+add-row-requires : tie.Need-add-row-requires Inv-loop μ-loop
+add-row-requires c κs =
+    let t = c .before .before .before .before in
+    let s = start t in
+    let b = t .before .loop in
+    let most : (q : ℕ) → q < 9 → zones-in (i s) (k t) q ≤ n s = λ q p. omega (arith, zones-most (i s) (k t) q, inside s) in
+    let sized = zones-sized (n s) (values s) (weights s) (classes s) (s .pre .0) (zones-in (i s) (k t)) _ _ most (b .inv .1) in
+    let weight = added-small (part-is t (k t * 3) 0 (omega arith) (omega arith)) (omega arith) in
+    let cross = added-small (rd w64 (local-is t) tt) (omega arith) in
+    let squares = added-small (part-is t (k t * 3 + 2) 2 refl (omega arith)) (omega arith) in
+    (sized, (omega (arith, low t), (weight, (cross, squares))))
+
+mul-local-3 : tie.Need-mul-local-3 Inv-loop μ-loop
+mul-local-3 c = let t = turn c in omega (arith, local-in t, zones (start t))
+
+add-local-2 : tie.Need-add-local-2 Inv-loop μ-loop
+add-local-2 c = let t = turn c in omega (arith, local-in t, zones (start t))
+
+mul-local-4 : tie.Need-mul-local-4 Inv-loop μ-loop
+mul-local-4 c = let t = turn c in omega (arith, local-in t, zones (start t))
+
+slice-set-from-local : tie.Need-slice-set-from-local Inv-loop μ-loop
+slice-set-from-local c = let t = turn c in omega (arith, local-in t, t .before .loop .inv .1 .count)
+
+add-k : tie.Need-add-k Inv-loop μ-loop
+add-k c = omega (arith, low (turn c))
+
+loop-less : tie.Need-loop-less Inv-loop μ-loop
+loop-less c = omega (arith, low (turn c))
+
+loop-again : tie.Need-loop-again Inv-loop μ-loop
+loop-again c =
+    let t = turn c in
+    let s = start t in
+    let b = t .before .loop in (
+      omega (arith, low t),
+      one-class (n s) (values s) (weights s) (classes s) (i s) (k t) (added t) (b .rows) _ (b .locals) (inside s) (low t) (b .inv .1)
+          (c .before .add-row .ensures) (each t),
+    )
+
+same-length : tie.Need-same-length Inv-loop μ-loop
+same-length c =
+    let s = c .before .before .before .before .before .before .before .before in
+    zoned-length (c .before .loop .inv .1) ∙ sym (zoned-length (s .pre .1 .1 .1))
+
+same-length-2 : tie.Need-same-length-2 Inv-loop μ-loop
+same-length-2 c =
+    let s = c .before .before .before .before .before .before .before .before in
+    c .before .loop .inv .1 .count ∙ sym (s .pre .1 .1 .1 .count)
+
+returns : tie.Need-returns Inv-loop μ-loop
+returns c =
+    let s = c .before .before .before .before .before .before .before .before in
+    let b = c .before .loop in
+    let all : (k : ℕ) → k < 9 → zones-in (i s) (b .k) k ≡ i s + 1 = λ k p. rw (lt-ltb k (b .k) (omega (arith, b .inv .0))) refl in
+    same-zones (n s) (values s) (weights s) (classes s) (zones-in (i s) (b .k)) (λ k. i s + 1) _ _ all (b .inv .1)
+
+pub add-zone-spec : {M : Type 1} → statement M
+add-zone-spec =
+    tie.close
+    (tie.spec
+    Inv-loop
+    μ-loop
+    slice-aggregate-add-pairs
+    add-pairs-requires
+    mul-deviation
+    shared-slice-copy-out-deviation
+    loop-holds
+    mul-place
+    mul-weight
+    array-copy-out-weight
+    add-local
+    mul-local
+    array-copy-out-local
+    mul-local-2
+    add-squares
+    mul-squares
+    array-copy-out-squares
+    add-row-requires
+    mul-local-3
+    add-local-2
+    mul-local-4
+    slice-set-from-local
+    add-k
+    loop-less
+    loop-again
+    same-length
+    same-length-2
+    returns)
