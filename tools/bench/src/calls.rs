@@ -1,0 +1,214 @@
+//! The proved calls over slices, with the arguments of the independent ones, so that either can be measured.
+//!
+//! Each function of `cases` lends a call its lists and answers a closure that makes the call once.
+
+/// The proved calls.
+pub mod proved {
+    use dca::raw;
+
+    macro_rules! over_slices {
+        ($($name:ident = $call:ident [$($number:ident: $kind:ty),*]
+            [$($input:ident: $in_kind:ty),*] [$($output:ident: $out_kind:ty),*];)*) => {
+            $(#[allow(clippy::too_many_arguments)]
+            pub fn $name($($number: $kind,)* $($input: &[$in_kind],)* $($output: &mut [$out_kind]),*) -> u8 {
+                // SAFETY: each list is told with its length.
+                unsafe {
+                    raw::$call(
+                        $($number,)*
+                        $($input.as_ptr(), $input.len(),)*
+                        $($output.as_mut_ptr(), $output.len()),*
+                    )
+                }
+            })*
+        };
+    }
+
+    over_slices! {
+        account = dca_account [n: usize] [values: i32, weights: u8] [locals: i64, sums: i64];
+        class_account = dca_class_account [n: usize] [values: i32, weights: u8, classes: u8] [rows: i64, locals: i64];
+        float_report = dca_float_report [n: usize] [values: i32, weights: u8, classes: u8]
+            [globals: f64, locals: f64, pairs: f64, has_pair: u8];
+        nearest = dca_nearest [p: i64, q: i64] [] [out: f64];
+        hot_list = dca_hot_list [n: usize] [values: i32, weights: u8] [zones: u8];
+        rank = dca_rank [n: usize] [values: i32, weights: u8, shuffles: u8] [counts: u64];
+        join_table = dca_join_table [n: usize] [categories: u8, weights: u8] [table: i64];
+        gabriel = dca_gabriel [n: usize] [places: i32] [weights: u8];
+        bands = dca_bands [n: usize] [places: i32, bands: u32] [classes: u8];
+        read = dca_read [] [image: u8]
+            [values: i32, categories: u8, weights: u8, places: i32, bands: u32, shuffles: u8, counts: u64];
+        write = dca_write []
+            [values: i32, categories: u8, weights: u8, places: i32, bands: u32, shuffles: u8, counts: u64]
+            [out: u8, length: u64];
+        report = dca_report [] [image: u8] [text: u8, length: u64];
+    }
+}
+
+pub mod cases {
+    use crate::input::Input;
+    use differential::TEXT;
+    use std::hint::black_box;
+
+    pub type Case<'a> = Box<dyn FnMut() + 'a>;
+
+    pub type Account = fn(usize, &[i32], &[u8], &mut [i64], &mut [i64]) -> u8;
+    pub type ClassAccount = fn(usize, &[i32], &[u8], &[u8], &mut [i64], &mut [i64]) -> u8;
+    pub type FloatReport =
+        fn(usize, &[i32], &[u8], &[u8], &mut [f64], &mut [f64], &mut [f64], &mut [u8]) -> u8;
+    pub type Nearest = fn(i64, i64, &mut [f64]) -> u8;
+    pub type HotList = fn(usize, &[i32], &[u8], &mut [u8]) -> u8;
+    pub type Rank = fn(usize, &[i32], &[u8], &[u8], &mut [u64]) -> u8;
+    pub type JoinTable = fn(usize, &[u8], &[u8], &mut [i64]) -> u8;
+    pub type Gabriel = fn(usize, &[i32], &mut [u8]) -> u8;
+    pub type Bands = fn(usize, &[i32], &[u32], &mut [u8]) -> u8;
+    #[rustfmt::skip]
+    pub type Read = fn(
+        &[u8], &mut [i32], &mut [u8], &mut [u8], &mut [i32], &mut [u32], &mut [u8], &mut [u64],
+    ) -> u8;
+    #[rustfmt::skip]
+    pub type Write = fn(
+        &[i32], &[u8], &[u8], &[i32], &[u32], &[u8], &[u64], &mut [u8], &mut [u64],
+    ) -> u8;
+    pub type Report = fn(&[u8], &mut [u8], &mut [u64]) -> u8;
+
+    /// A case: the call on the input, whose lent lists live as long as the closure.
+    macro_rules! case {
+        ($name:ident, $kind:ty, $input:ident, [$($number:expr),*], [$($given:expr),*], [$($lent:ident = $list:expr),*]) => {
+            pub fn $name($input: &Input, call: $kind) -> Case<'_> {
+                $(let mut $lent = $list;)*
+                Box::new(move || {
+                    let number = call(
+                        $(black_box($number),)*
+                        $(black_box(&$given),)*
+                        $(black_box(&mut $lent)),*
+                    );
+                    assert_eq!(number, 0, stringify!($name));
+                })
+            }
+        };
+    }
+
+    case!(
+        account,
+        Account,
+        input,
+        [input.n],
+        [input.values, input.weights],
+        [locals = vec![0; input.n], sums = [0; 5]]
+    );
+    case!(
+        class_account,
+        ClassAccount,
+        input,
+        [input.n],
+        [input.values, input.weights, input.classes],
+        [rows = [0; 27], locals = vec![0; 9 * input.n]]
+    );
+    case!(
+        float_report,
+        FloatReport,
+        input,
+        [input.n],
+        [input.values, input.weights, input.classes],
+        [
+            globals = [0.0; 2],
+            locals = vec![0.0; input.n],
+            pairs = [0.0; 18],
+            has_pair = [0; 9]
+        ]
+    );
+    case!(
+        hot_list,
+        HotList,
+        input,
+        [input.n],
+        [input.values, input.weights],
+        [zones = vec![0; input.n]]
+    );
+    case!(
+        rank,
+        Rank,
+        input,
+        [input.n],
+        [input.values, input.weights, input.shuffles],
+        [counts = [0; 3]]
+    );
+    case!(
+        join_table,
+        JoinTable,
+        input,
+        [input.n],
+        [input.categories, input.weights],
+        [table = [0; 64]]
+    );
+    case!(
+        gabriel,
+        Gabriel,
+        input,
+        [input.n],
+        [input.places],
+        [weights = vec![0; input.n * input.n]]
+    );
+    case!(
+        bands,
+        Bands,
+        input,
+        [input.n],
+        [input.places, input.bands],
+        [classes = vec![0; input.n * input.n]]
+    );
+    case!(
+        read,
+        Read,
+        input,
+        [],
+        [input.image],
+        [
+            values = vec![0; 64],
+            categories = vec![0; 64],
+            weights = vec![0; 4096],
+            places = vec![0; 128],
+            bands = vec![0; 8],
+            shuffles = vec![0; 31_936],
+            counts = [0; 6]
+        ]
+    );
+    case!(
+        report,
+        Report,
+        input,
+        [],
+        [input.image],
+        [text = vec![0; TEXT], length = [0]]
+    );
+
+    pub fn write(input: &Input, call: Write) -> Case<'_> {
+        let lent = input.buffers();
+        let counts = input.counts();
+        let (mut out, mut length) = (vec![0; 44_908], [0]);
+        Box::new(move || {
+            let number = call(
+                black_box(&lent.values),
+                black_box(&lent.categories),
+                black_box(&lent.weights),
+                black_box(&lent.places),
+                black_box(&lent.bands),
+                black_box(&lent.shuffles),
+                black_box(&counts),
+                black_box(&mut out),
+                black_box(&mut length),
+            );
+            assert_eq!(number, 0, "write");
+        })
+    }
+
+    /// All the ratios, one after the other.
+    pub fn nearest(ratios: &[(i64, i64)], call: Nearest) -> Case<'_> {
+        let mut out = [0.0];
+        Box::new(move || {
+            for &(p, q) in ratios {
+                let number = call(black_box(p), black_box(q), black_box(&mut out));
+                assert_eq!(number, 0, "nearest");
+            }
+        })
+    }
+}

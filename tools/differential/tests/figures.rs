@@ -1,0 +1,159 @@
+//! The figures that document 01 and its readings print, by the independent calls.
+
+use differential as own;
+
+fn job(n: usize, joins: &[(usize, usize, u8)]) -> Vec<u8> {
+    let mut weights = vec![0; n * n];
+    for &(from, to, weight) in joins {
+        weights[from * n + to] = weight;
+    }
+    weights
+}
+
+#[test]
+fn line_of_three() {
+    let weights = job(3, &[(0, 1, 1), (1, 0, 1), (1, 2, 1), (2, 1, 1)]);
+    let (mut locals, mut sums) = ([0; 3], [0; 5]);
+    let number = own::account(3, &[1, 2, 6], &weights, &mut locals, &mut sums);
+    assert_eq!(
+        (number, locals, sums),
+        (0, [18, -9, -27], [9, 42, 4, -18, 34])
+    );
+}
+
+#[test]
+fn forewings() {
+    let edges = [(1, 2), (1, 6), (2, 3), (4, 5), (4, 7), (6, 7), (7, 8)];
+    let joins: Vec<_> = edges
+        .iter()
+        .flat_map(|&(a, b)| [(a - 1, b - 1, 1), (b - 1, a - 1, 1)])
+        .collect();
+    let values = [207, 202, 220, 207, 197, 220, 204, 197];
+    let (mut locals, mut sums) = ([0; 8], [0; 5]);
+    let number = own::account(8, &values, &job(8, &joins), &mut locals, &mut sums);
+    assert_eq!((number, sums), (0, [1654, 4572, 14, -9416, 1864]));
+    assert_eq!(locals, [136, -4104, -4028, -200, -156, -2120, -660, 1716]);
+}
+
+#[test]
+fn floats() {
+    let bits = |p, q| {
+        let mut out = [0.0];
+        assert_eq!(own::nearest(p, q, &mut out), 0);
+        out[0].to_bits()
+    };
+    assert_eq!(bits(9007199254740993, 1), 9007199254740992f64.to_bits());
+    assert_eq!(bits(9007199254740995, 1), 9007199254740996f64.to_bits());
+    assert_eq!(bits(-1, 3), 0xBFD5555555555555);
+    assert_eq!(bits(1, 10), 0x3FB999999999999A);
+    assert_eq!(bits(0, 7), 0);
+}
+
+/// Where both numbers have at most 53 digits the machine's own division rounds once.
+#[test]
+fn floats_by_machine() {
+    let mut state = 1u64;
+    let mut drawn = || {
+        state = state
+            .wrapping_mul(6364136223846793005)
+            .wrapping_add(1442695040888963407);
+        ((state >> 11) >> (state >> 8 & 31)) as i64 + 1
+    };
+    for _ in 0..100_000 {
+        let (p, q) = (drawn(), drawn());
+        let mut out = [0.0];
+        assert_eq!(own::nearest(p, q, &mut out), 0);
+        assert_eq!(out[0], p as f64 / q as f64, "{p} / {q}");
+    }
+}
+
+#[test]
+fn shuffles_of_park_and_miller() {
+    let n = 64;
+    let values: Vec<i32> = (0..n as i32).map(|i| i * i).collect();
+    let weights: Vec<u8> = (0..n * n)
+        .map(|p| (p / n, p % n))
+        .map(|(i, j)| if i == j { 0 } else { ((i + 2 * j) % 10) as u8 })
+        .collect();
+    let mut state = 1u64;
+    let mut shuffles = Vec::new();
+    for _ in 0..499 {
+        let mut row: Vec<u8> = (0..n as u8).collect();
+        for i in (1..n).rev() {
+            state = 16_807 * state % 2_147_483_647;
+            row.swap(i, (state % (i as u64 + 1)) as usize);
+        }
+        shuffles.extend(row);
+    }
+    assert_eq!(state, 137_128_920);
+    let (mut locals, mut sums, mut counts) = ([0; 64], [0; 5], [0; 3]);
+    assert_eq!(
+        own::account(n, &values, &weights, &mut locals, &mut sums),
+        0
+    );
+    assert_eq!(
+        sums,
+        [
+            85_344,
+            5_929_018_368,
+            18_144,
+            -1_668_068_720_640,
+            53_453_138_256
+        ]
+    );
+    assert_eq!(own::rank(n, &values, &weights, &shuffles, &mut counts), 0);
+    assert_eq!(counts, [271, 0, 228]);
+}
+
+#[test]
+fn whole_report() {
+    let mut values = [0; 64];
+    values[..4].copy_from_slice(&[1, 1, 3, 3]);
+    let mut categories = [0; 64];
+    categories[..4].copy_from_slice(&[0, 0, 1, 1]);
+    let mut weights = [0; 4096];
+    weights[..16].copy_from_slice(&job(4, &[(0, 1, 3), (1, 0, 3), (1, 2, 1), (2, 1, 1)]));
+    let mut places = [0; 128];
+    places[..8].copy_from_slice(&[0, 0, 1, 0, 3, 0, 9, 9]);
+    let mut bands = [0; 8];
+    bands[..2].copy_from_slice(&[1, 4]);
+    let mut shuffles = [0; 31_936];
+    shuffles[..8].copy_from_slice(&[0, 1, 2, 3, 2, 1, 0, 3]);
+    let (mut image, mut length) = ([0; 44_908], [0]);
+    let counts = [4, 4, 4, 2, 2];
+    let number = own::write(
+        &values,
+        &categories,
+        &weights,
+        &places,
+        &bands,
+        &shuffles,
+        &counts,
+        &mut image,
+        &mut length,
+    );
+    assert_eq!((number, length), (0, [92]));
+
+    let (mut text, mut text_length) = ([0; own::TEXT], [0]);
+    assert_eq!(own::report(&image[..92], &mut text, &mut text_length), 0);
+    let said = std::str::from_utf8(&text[..text_length[0] as usize]).unwrap();
+    let printed = "\
+zones 4 8 16
+joins 8 64 8
+moran 64 128 3FE0000000000000
+geary 96 256 3FD8000000000000
+expected -1 3
+local 0 48 16 4008000000000000
+local 1 32 16 4000000000000000
+local 3 0 16 0000000000000000
+local 2 -16 16 BFF0000000000000
+pair 0 0 6
+pair 0 1 1
+pair 1 0 1
+class 0 0 0 0 - -
+class 1 6 96 0 3FF0000000000000 0000000000000000
+class 2 2 -32 8 BFF0000000000000 3FF8000000000000
+rank 1 1 0
+";
+    assert_eq!(said, printed);
+}
