@@ -19,7 +19,7 @@ use Rattle.shuffles.specs.Shuffles.{shuffle-count, any-lacking, shuffle-refusal
 use Rattle.shuffles.specs.Steps.{Shuffles}
 use Rattle.shuffles.proofs.Theorems.{list-taken}
 use Rattle.account.specs.Measures.{weight-of, spread-of}
-use Rattle.account.specs.Refusals.{job-rules, job-lengths, call-rules, account-rules, account-refusal}
+use Rattle.account.specs.Refusals.{values-refusal, job-rules, job-lengths, call-rules, account-rules, account-refusal}
 use Rattle.account.specs.Classes.{class-rules, class-refusal}
 use Rattle.account.specs.Rank.{rank-rules, rank-refusal}
 use Rattle.account.specs.Steps.{Sized, Weighted, Job, ClassJob}
@@ -138,6 +138,17 @@ module _ (n : ℕ) (values : List ℤ) (weights : List ℕ) (lent : List (ℕ ×
         let sizes = fitted n (length values) (length weights) lent others (c .sizes) fit in
         let later = both-hold besides 0 (job-rules n values weights) (tt, (tt, (tt, (tt, (tt, tt))))) (c .job) e in
         both-hold (job-rules n values weights ++ besides) 0 (size-rules n lengths) (tt, (tt, tt)) sizes later
+
+    -- and the values alone
+    pub values-let-in : values-refusal n values ≡ 0
+    unfolding values-refusal job-rules
+    values-let-in =
+        let f = c .sizes in
+        let lengths : List (ℕ × ℕ) = (length values, n) ∷ [] in
+        let fit : misfits lengths ≡ false = rw (eq-eqb (length values) n (f .values-fit)) refl in
+        both-hold ((any-beyond 100000 values, 3) ∷ []) 0 (size-rules n lengths) (tt, (tt, tt))
+        (sizes-let-in n lengths (record { two = f .two; zones = f .zones; fitting = fit }))
+        (rw (holds (any-beyond 100000 values) 2 _ (c .job) .0) refl)
 
 -- ---- of the account and of the hot list
 pub record Accepted {A : Type 0} (n : ℕ) (values : List ℤ) (weights : List ℕ) (places : List A) : Type 0 where

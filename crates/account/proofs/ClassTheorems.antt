@@ -25,7 +25,7 @@ use Rattle.account.proofs.Accepted.{let-in, account-called, classed, cl
 use Rattle.account.proofs.Adding.{locals-sum, counts-once, weight-parts, cross-parts, squares-parts, local-parts}
 use Rattle.account.proofs.ByClass.{class-le}
 use Rattle.account.proofs.Reading.{weight-le}
-use Rattle.account.proofs.Theorems.{within-limits}
+use Rattle.account.proofs.Theorems.{Sharp, limits-of, within-sizes}
 
 -- ---- the lists by their places
 module _ (n : ℕ) (values : List ℤ) (weights classes : List ℕ) where
@@ -72,15 +72,22 @@ module _ (n : ℕ) (values : List ℤ) (weights classes : List ℕ) (lent : List
   pub zones-in-range : (2 ≤ n) × (n ≤ 64)
   zones-in-range = let a = classed n values weights classes lent taken in (a .two, a .good .job .valued .zones)
 
-  -- every numerator and divisor of a class is at most 6 × 10^18
-  pub class-limits : (k : ℕ) → Limits (class-weight weights classes n k) (at values) n
-  class-limits k =
+  -- every further list fits
+  pub lent-fits : misfits lent ≡ false
+  lent-fits = classed n values weights classes lent taken .lent-fit
+
+  -- how large the measures of a class are; so every numerator and divisor is at most 6 × 10^18
+  pub class-sizes : (k : ℕ) → Sharp (class-weight weights classes n k) (at values) n
+  class-sizes k =
       let a = classed n values weights classes lent taken in
       let job = a .good .job in
-      within-limits (class-weight weights classes n k) (at values) n (job .valued .zones)
+      within-sizes (class-weight weights classes n k) (at values) n (job .valued .zones)
       (λ i j p q. class-le weights classes n k i j 9 (weight-le weights n (job .weighted) i j p q))
       (λ i p. let h = class-le weights classes n k i i 0 (N.le-of-eq (a .good .clear i p)) in omega arith)
       (job .valued .near .size)
+
+  pub class-limits : (k : ℕ) → Limits (class-weight weights classes n k) (at values) n
+  class-limits k = limits-of (class-weight weights classes n k) (at values) n (class-sizes k)
 
   -- each weight counts in one class
   shared :

@@ -21,12 +21,12 @@ use Rattle.whole.proofs.SumSize.{sum-above, terms-zero}
 use Rattle.whole.specs.Table.{at, pair-at}
 use Rattle.account.specs.Measures.{total-of, deviation-of, spread-of, weight-of, cross-of, squares-of, local-of}
 use Rattle.account.specs.Limits.{Limits}
-use Rattle.account.specs.Refusals.{job-rules, job-lengths, call-rules, account-rules, account-refusal}
+use Rattle.account.specs.Refusals.{values-refusal, job-rules, job-lengths, call-rules, account-rules, account-refusal}
 use Rattle.account.specs.Answers.{five, number-of, figures-of, job-figures, job-locals, account-figures, account-locals}
 use Rattle.account.specs.declared.Sums.{Sums}
 use Rattle.account.specs.declared.Answer.{Answer}
 use Rattle.account.specs.declared.Answer.the-variants.{Refused, Accounted}
-use Rattle.account.proofs.Accepted.{fitting, accepted}
+use Rattle.account.proofs.Accepted.{Kept, fitting, accepted, account-called, values-let-in}
 use Rattle.account.proofs.Adding as adding
 use Rattle.account.proofs.Judged.{by-sizes}
 use Rattle.account.proofs.Locals.{locals-cross}
@@ -81,43 +81,68 @@ module _ (x : ℕ → ℤ) (n : ℕ) where
       sum-cong _ _ n (λ j p. sum-cong _ _ j (λ i q. none i j (omega arith) p) ∙ sum-none j)
       ∙ sum-none n
 
--- ---- every numerator and divisor is at most 6 × 10^18, whatever weights of at most 9 are counted off the diagonal
-pub within-limits :
-    (f : ℕ → ℕ → ℕ) (x : ℕ → ℤ) (n : ℕ) → n ≤ 64 →
-    ((i j : ℕ) → i < n → j < n → f i j ≤ 9) →
-    ((i : ℕ) → i < n → f i i ≡ 0) →
-    ((k : ℕ) → k < n → natAbs (x k) ≤ 100000) →
-    Limits f x n
-within-limits f x n zones light clear near =
-    let d = deviation-size x n zones near in
-    let w = weight-sharp f n zones light clear in
-    let m = spread-of-size x n zones near in
-    let g = squares-sharp f n zones light clear x near in
-    let pairs : (n - 1) * n ≤ 4032 = N.mul-le-mul {n₂ = 63} {m₂ = 64} (omega arith) zones in
-    let twice = size-*-le (pos 2) (weight-of f n) 2 36288 (N.le-refl 2) w in
+-- ---- how large the measures are, whatever weights of at most 9 are counted off the diagonal
+pub record Sharp (f : ℕ → ℕ → ℕ) (x : ℕ → ℤ) (n : ℕ) : Type 0 where
+  pub zones : n ≤ 64
+  pub spread : natAbs (spread-of x n) ≤ 80640000000000
+  pub weight : natAbs (weight-of f n) ≤ 36288
+  pub cross : natAbs (cross-of f (deviation-of x n) n) ≤ 5945425920000000000
+  pub squares : natAbs (squares-of f x n) ≤ 1451520000000000
+  pub local : (i : ℕ) → i < n → natAbs (local-of f (deviation-of x n) n i) ≤ 92897280000000000
+
+-- so every numerator and divisor is at most 6 × 10^18
+pub limits-of : (f : ℕ → ℕ → ℕ) (x : ℕ → ℤ) (n : ℕ) → Sharp f x n → Limits f x n
+limits-of f x n s =
+    let m = s .spread in
+    let pairs : (n - 1) * n ≤ 4032 = N.mul-le-mul {n₂ = 63} {m₂ = 64} (omega (arith, s .zones)) (s .zones) in
+    let twice = size-*-le (pos 2) (weight-of f n) 2 36288 (N.le-refl 2) (s .weight) in
     record {
-      moran-numerator = omega (arith, cross-sharp f n zones light clear (deviation-of x n) d);
-      moran-divisor = omega (arith, size-*-le (weight-of f n) (spread-of x n) 36288 80640000000000 w m);
-      geary-numerator = omega (arith, size-*-le (pos ((n - 1) * n)) (squares-of f x n) 4032 1451520000000000 pairs g);
+      moran-numerator = omega (arith, s .cross);
+      moran-divisor = omega (arith, size-*-le (weight-of f n) (spread-of x n) 36288 80640000000000 (s .weight) m);
+      geary-numerator = omega (arith, size-*-le (pos ((n - 1) * n)) (squares-of f x n) 4032 1451520000000000 pairs (s .squares));
       geary-divisor = omega (arith, size-*-le (pos 2 *ℤ weight-of f n) (spread-of x n) 72576 80640000000000 twice m);
-      local-numerator = λ i h. omega (arith, local-sharp f n zones light clear (deviation-of x n) d i h);
+      local-numerator = λ i h. omega (arith, s .local i h);
       local-divisor = omega arith;
     }
 
--- ---- of every accepted job: the limits, and W and M are at least 1
+module _ (f : ℕ → ℕ → ℕ) (x : ℕ → ℤ) (n : ℕ) (zones : n ≤ 64) (light : (i j : ℕ) → i < n → j < n → f i j ≤ 9)
+    (clear : (i : ℕ) → i < n → f i i ≡ 0) (near : (k : ℕ) → k < n → natAbs (x k) ≤ 100000) where
+  pub within-sizes : Sharp f x n
+  within-sizes =
+      let d = deviation-size x n zones near in record {
+        zones = zones;
+        spread = spread-of-size x n zones near;
+        weight = weight-sharp f n zones light clear;
+        cross = cross-sharp f n zones light clear (deviation-of x n) d;
+        squares = squares-sharp f n zones light clear x near;
+        local = local-sharp f n zones light clear (deviation-of x n) d;
+      }
+
+  pub within-limits : Limits f x n
+  within-limits = limits-of f x n within-sizes
+
+-- ---- of every accepted job: the sizes and limits, W and M are at least 1, and its values alone are not refused
 module _ (n : ℕ) (values : List ℤ) (weights : List ℕ) (locals : List ℤ) (taken : account-refusal n values weights locals ≡ 0) where
+  abbrev good : Kept n values weights
+  good = accepted n values weights locals taken .good
+
+  pub accepted-sizes : Sharp (pair-at weights n) (at values) n
+  accepted-sizes =
+      let job = good .job in
+      within-sizes (pair-at weights n) (at values) n (job .valued .zones) (weight-le weights n (job .weighted))
+      (good .clear) (job .valued .near .size)
+
   pub accepted-limits : Limits (pair-at weights n) (at values) n
-  accepted-limits =
-      let a = accepted n values weights locals taken in
-      let v = a .good .job .valued in
-      within-limits (pair-at weights n) (at values) n (v .zones) (weight-le weights n (a .good .job .weighted))
-      (a .good .clear) (v .near .size)
+  accepted-limits = limits-of (pair-at weights n) (at values) n accepted-sizes
 
   pub weight-one : pos 1 ≤ℤ weight-of (pair-at weights n) n
-  weight-one = one-of _ (adding.weight-above (pair-at weights n) n) (accepted n values weights locals taken .good .weighty)
+  weight-one = one-of _ (adding.weight-above (pair-at weights n) n) (good .weighty)
 
   pub spread-one : pos 1 ≤ℤ spread-of (at values) n
-  spread-one = one-of _ (adding.spread-above (at values) n) (accepted n values weights locals taken .good .varied)
+  spread-one = one-of _ (adding.spread-above (at values) n) (good .varied)
+
+  pub values-taken : values-refusal n values ≡ 0
+  values-taken = values-let-in n values weights _ (account-called n values weights locals taken)
 
 -- ---- the refusal is the least number that applies: it applies, and no number below it does
 module _ {A : Type 0} (n : ℕ) (values : List ℤ) (weights : List ℕ) (locals : List A) where

@@ -1,20 +1,18 @@
 -- What the private functions ask of each other; no part of the public promise. Assumes nothing.
 use mathlib.Core.Path.{_≡_}
 use mathlib.Core.Bool.{cond}
-use mathlib.Core.List.{List, [], _∷_}
+use mathlib.Core.List.{List}
 use Prim.Native.Nat.{ℕ, zero, suc, _+_, _*_, _≤_, _<_}
 use lib.Dec.{eqb}
 use lib.IntN.{ℤ, pos, natAbs, _+ℤ_, _-ℤ_}
 use lib.ListN.{length, getD}
 use Rattle.whole.specs.Integer.{square}
-use Rattle.whole.specs.Rules.{unless-refused}
 use Rattle.whole.specs.Sum.{sum}
-use Rattle.whole.specs.Table.{table, table-rows, at, pair-at}
+use Rattle.whole.specs.Table.{table-rows, at, pair-at}
 use Rattle.account.specs.Measures.{deviation-of, row-of, cross-of}
-use Rattle.account.specs.Classes.{class-weight, class-row-of, class-local-of, sum-at, class-locals, class-refusal}
+use Rattle.account.specs.Classes.{class-weight, class-local-of, sum-at}
 use Rattle.account.specs.Rank.{shuffled}
 use Rattle.account.specs.declared.ClassRow.{ClassRow}
-use Rattle.account.specs.declared.rows.Worked.{Worked}
 
 -- n numbers, each at most b in size
 pub record Sized (b : ℕ) (numbers : List ℤ) (n : ℕ) : Type 0 where
@@ -81,17 +79,3 @@ cross-held weights n d = cross-of (pair-at weights n) (at d) n
 
 abbrev pub cross-moved : List ℕ → ℕ → List ℤ → List ℕ → ℕ → ℤ
 cross-moved weights n d shuffles r = cross-of (pair-at weights n) (shuffled (at d) (pair-at shuffles n r)) n
-
--- ---- the nine class rows on their way from the work to the store
-
--- the nine rows in a list
-abbrev pub nine-of : Worked → List ClassRow
-nine-of r = r .row0 ∷ r .row1 ∷ r .row2 ∷ r .row3 ∷ r .row4 ∷ r .row5 ∷ r .row6 ∷ r .row7 ∷ r .row8 ∷ []
-
--- what the work gives of a call that is lent so many rows, and what it leaves of the local numerators: the rows count only where the
--- number is 0
-pub record Packed (n : ℕ) (values : List ℤ) (weights classes : List ℕ) (rows : ℕ) (locals left : List ℤ) (r : Worked) : Type 0 where
-  pub number : r .refusal ≡ class-refusal 9 n values weights classes rows (length locals)
-  pub nine : r .refusal ≡ 0 → nine-of r ≡ table (class-row-of n values weights classes) 9
-  pub numerators :
-      left ≡ unless-refused (class-refusal 9 n values weights classes rows (length locals)) (class-locals n values weights classes) locals

@@ -6,7 +6,6 @@ mod deviations;
 mod differences;
 mod judging;
 mod ranking;
-mod rows;
 mod shuffling;
 mod working;
 
@@ -16,7 +15,7 @@ ghost use mathlib.Core.Path.{_≡_};
 ghost use lib.ListN.{length};
 ghost use Rattle.account.specs.Refusals.{account-refusal};
 ghost use Rattle.account.specs.Answers.{number-of, figures-of, values-spread, account-figures, account-locals};
-ghost use Rattle.account.specs.Classes.{class-refusal, class-account-sums, class-account-rows, class-account-locals};
+ghost use Rattle.account.specs.Classes.{class-refusal, class-account-sums, class-account-locals};
 ghost use Rattle.account.specs.Rank.{rank-refusal, rank-counts, counts-of};
 ghost use Rattle.account.specs.Rank as rank;
 
@@ -110,26 +109,6 @@ pub fn class_account(
     }
     classes::work_classes(n, values, weights, classes, rows, locals);
     0
-}
-
-// The class account with its nine rows as structs: `rows` has 9 places for the rows of class 0, class 1, .. Otherwise as `class_account`.
-pub fn class_rows(
-    n: usize,
-    values: &[i32],
-    weights: &[u8],
-    classes: &[u8],
-    rows: &mut [ClassRow],
-    locals: &mut [i64],
-) -> u8
-    ensures number { λ r. ⌜ r ≡ class-refusal 9 n
-        (now (values .entry)) (now (weights .entry)) (now (classes .entry)) (length (now (rows .entry))) (length (now (locals .entry))) ⌝ }
-    ensures rows { λ _. ⌜ now (rows .exit) ≡ class-account-rows n
-        (now (values .entry)) (now (weights .entry)) (now (classes .entry)) (now (rows .entry)) (now (locals .entry)) ⌝ }
-    ensures numerators { λ _. ⌜ now (locals .exit) ≡ class-account-locals n
-        (now (values .entry)) (now (weights .entry)) (now (classes .entry)) 9 (length (now (rows .entry))) (now (locals .entry)) ⌝ }
-{
-    let worked = rows::work_rows(n, values, weights, classes, rows.len(), locals);
-    rows::put_rows(rows, worked)
 }
 
 // Counts the shuffles whose P is less than, equal to and greater than the job's own, which is not counted itself. `shuffles` has a row

@@ -15,14 +15,15 @@ use Rattle.whole.proofs.Table.{table-cong}
 use Rattle.whole.proofs.Rules.{kept-when-refused, worked-when-taken, beside, sizes-first}
 use Rattle.account.specs.Measures.{spread-of}
 use Rattle.account.specs.Answers.{job-locals}
-use Rattle.account.specs.Classes.{row-at, class-sums, class-rules, class-refusal}
+use Rattle.account.specs.Classes.{row-at, class-sums, class-locals, class-rules, class-refusal}
 use Rattle.account.specs.Refusals.{job-rules, job-lengths, call-rules}
 use Rattle.account.proofs.ClassTheorems.{class-sums-row}
 use Rattle.coefficients.specs.Coefficients.{pair-of, job-pair, class-pair, local-figures}
 use Rattle.coefficients.specs.FloatReport.{number-of, pair-in, no-pair}
-use Rattle.coefficients.specs.Steps.{rest-refusal, Reports}
+use Rattle.coefficients.specs.Steps.{zone-sums, whole-row, rest-refusal, Reports}
 use Rattle.coefficients.specs.declared.Answer.the-variants.{Refused, Reported}
 use Rattle.coefficients.specs.declared.Report.{Report}
+use Rattle.coefficients.proofs.Job.{zones-added, whole-added}
 
 module _ (refusal n : ℕ) (values : List ℤ) (weights classes : List ℕ) (figures : List Float) where
   -- a refusal, and the list as it was
@@ -58,14 +59,24 @@ pub reports-same :
     refusal ≡ other → Reports refusal n values weights classes figures r left → Reports other n values weights classes figures r left
 reports-same e p = rw (← e) p
 
--- ---- the pairs of the rows that the class account left are those of the classes
-pub pairs-are :
-    (n : ℕ) (values : List ℤ) (weights classes : List ℕ) (rows : List ℤ) → rows ≡ class-sums n values weights classes →
-    table (λ k. pair-of n (spread-of (at values) n) (row-at rows k)) 9 ≡ table (class-pair n values weights classes) 9
-unfolding class-pair
-pairs-are n values weights classes rows e =
-    table-cong _ _ 9 no-pair
-    (λ k h. ap (pair-of n (spread-of (at values) n)) (ap (λ (l : List ℤ). row-at l k) e ∙ class-sums-row n values weights classes k h))
+-- ---- what is formed of the rows and the local numerators that the class account left is the job's and the classes'
+module _ (n : ℕ) (values : List ℤ) (weights classes : List ℕ) (rows : List ℤ) (rows-left : rows ≡ class-sums n values weights classes) where
+  pub pairs-are :
+      table (λ k. pair-of n (spread-of (at values) n) (row-at rows k)) 9 ≡ table (class-pair n values weights classes) 9
+  unfolding class-pair
+  pairs-are =
+      table-cong _ _ 9 no-pair
+      (λ k h.
+      ap (pair-of n (spread-of (at values) n)) (ap (λ (l : List ℤ). row-at l k) rows-left ∙ class-sums-row n values weights classes k h))
+
+  module _ (numerators : List ℤ) (left : numerators ≡ class-locals n values weights classes)
+      (taken : rest-refusal n values weights classes ≡ 0) where
+    pub pair-is : pair-of n (spread-of (at values) n) (whole-row n rows (zone-sums n numerators)) ≡ job-pair n values weights
+    unfolding job-pair
+    pair-is = rw (rows-left, left) (ap (pair-of n (spread-of (at values) n)) (whole-added n values weights classes [] taken))
+
+    pub locals-are : zone-sums n numerators ≡ job-locals n values weights
+    locals-are = ap (zone-sums n) left ∙ zones-added n values weights classes [] taken
 
 -- ---- the numbers on the way
 module _ (n : ℕ) (values : List ℤ) (weights classes : List ℕ) (lent : List (ℕ × ℕ)) where

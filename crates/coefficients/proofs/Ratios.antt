@@ -2,10 +2,12 @@
 use mathlib.Core.Path.{_≡_, refl, ap, _∙_}
 use mathlib.Core.Bool.{false}
 use mathlib.Core.List.{List}
-use Prim.Native.Nat.{ℕ, _*_, _-_, _≤_}
+use Prim.Native.Nat.{ℕ, _*_, _-_, _≤_, _<_}
 use native.Mathlib.Nat as N
 use native.Mathlib.Omega.{arith}
 use lib.IntN.{ℤ, pos, natAbs, _*ℤ_}
+use lib.ListN.{length, take}
+use lib.Seq.{length-take-le, getD-take}
 use lib.Signed.{_≤ℤ_}
 use mir.Syntax.{w64}
 use mir.Val.{toZ}
@@ -116,3 +118,11 @@ rows-same e f r = rw (e, f) r
 
 pub numerators-same : {m m′ : ℤ} {l l′ : List ℤ} → m′ ≡ m → l′ ≡ l → Numerators m l → Numerators m′ l′
 numerators-same e f r = rw (e, f) r
+
+-- and the first of some local numerators
+pub numerators-first : {m : ℤ} {l : List ℤ} (count : ℕ) → count ≤ length l → Numerators m l → Numerators m (take count l)
+numerators-first {m} {l} count h r =
+    let as-many : length (take count l) ≡ count = length-take-le count l h in record {
+      few = omega (arith, r .few);
+      each = λ k p. let q : k < count = omega arith in rw (getD-take count l k (pos 0) q) (r .each k (omega arith));
+    }

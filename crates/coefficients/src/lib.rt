@@ -1,4 +1,5 @@
 // The float report of a job under one assignment of classes: a layer above the account, which relies on its promises alone.
+mod adding;
 mod forming;
 mod working;
 

@@ -3,9 +3,8 @@ use crate::Answer;
 use crate::Coefficient;
 use crate::Pair;
 use crate::Report;
+use crate::adding;
 use crate::forming;
-use account::ClassRow;
-use account::Sums;
 ghost use mathlib.Core.Path.{_≡_};
 ghost use mathlib.Core.List.{[], _∷_};
 ghost use Prim.Native.Nat.{_*_, _≤_};
@@ -13,12 +12,10 @@ ghost use lib.ListN.{length, take};
 ghost use Rattle.whole.specs.Rules.{first-broken, size-rules, unless-refused};
 ghost use Rattle.whole.specs.Table.{table, at};
 ghost use Rattle.account.specs.Measures.{spread-of};
-ghost use Rattle.account.specs.Answers.{five, job-figures, job-locals};
 ghost use Rattle.account.specs.Classes.{row-at, class-locals};
-ghost use Rattle.account.specs.Refusals.{account-refusal};
-ghost use Rattle.coefficients.specs.Coefficients.{pair-of, job-pair, local-figures};
+ghost use Rattle.coefficients.specs.Coefficients.{pair-of, local-figures};
 ghost use Rattle.coefficients.specs.FloatReport.{no-pair};
-ghost use Rattle.coefficients.specs.Steps.{Reportable, rest-refusal, Reports};
+ghost use Rattle.coefficients.specs.Steps.{zone-sums, whole-row, Reportable, rest-refusal, Reports};
 ghost use Rattle.coefficients.specs.declared.Answer.the-variants.{Refused, Reported};
 
 // 1 and 2, of n and the two lists of floats.
@@ -55,62 +52,38 @@ pub fn refused(number: u8) -> Report
     }
 }
 
-// The sums of a job that the account accepts, with its local numerators in `numerators`.
-pub fn job_sums(n: usize, values: &[i32], weights: &[u8], numerators: &mut [i64]) -> Sums
-    requires { ⌜ account-refusal n (now values) (now weights) (now numerators) ≡ 0 ⌝ }
-    ensures { λ r. ⌜ five r ≡ job-figures n (now (values .entry)) (now (weights .entry)) ⌝ }
-    ensures { λ _. ⌜ now (numerators .exit) ≡ job-locals n (now (values .entry)) (now (weights .entry)) ⌝ }
-{
-    match account::account(n, values, weights, numerators) {
-        account::Answer::Accounted(sums) => sums,
-        account::Answer::Refused(_) => Sums {
-            total: 0,
-            spread: 0,
-            weight: 0,
-            cross: 0,
-            squares: 0,
-        },
-    }
-}
-
-// The report of an accepted job, whose class account left `rows`, and in `numerators` the local numerators of each class.
+// The report of an accepted job, whose class account left `rows`, and in `numerators` the local numerators of each class. `parts` has
+// places for the figures of the first of them.
 pub fn report_job(
     n: usize,
     values: &[i32],
-    weights: &[u8],
     rows: &[i64],
     numerators: &[i64],
     figures: &mut [f64],
     parts: &mut [f64],
 ) -> Report
-    requires { ⌜ Reportable n (now values) (now weights) (now rows) (now numerators) ⌝ }
+    requires { ⌜ Reportable n (now values) (now rows) (now numerators) ⌝ }
     requires { ⌜ length (now figures) ≡ n ⌝ }
-    requires { ⌜ length (now parts) ≡ length (now numerators) ⌝ }
+    requires { ⌜ length (now parts) ≤ length (now numerators) ⌝ }
     ensures { λ r. ⌜ r ≡ record {
-      whole = Reported (job-pair n (now (values .entry)) (now (weights .entry)));
+      whole = Reported (pair-of n (spread-of (at (now (values .entry))) n)
+          (whole-row n (now (rows .entry)) (zone-sums n (now (numerators .entry)))));
       classes = table (λ k. pair-of n (spread-of (at (now (values .entry))) n) (row-at (now (rows .entry)) k)) 9;
     } ⌝ }
     ensures { λ _. ⌜ now (figures .exit)
-        ≡ local-figures (spread-of (at (now (values .entry))) n) (job-locals n (now (values .entry)) (now (weights .entry))) ⌝ }
-    ensures { λ _. ⌜ now (parts .exit) ≡ local-figures (spread-of (at (now (values .entry))) n) (now (numerators .entry)) ⌝ }
+        ≡ local-figures (spread-of (at (now (values .entry))) n) (zone-sums n (now (numerators .entry))) ⌝ }
+    ensures { λ _. ⌜ now (parts .exit)
+        ≡ local-figures (spread-of (at (now (values .entry))) n) (take (length (now (parts .entry))) (now (numerators .entry))) ⌝ }
 {
-    let mut own: [i64; 64] = [0; 64];
-    let sums = job_sums(n, values, weights, &mut own[..n]);
-    let spread = sums.spread;
-    let weight = sums.weight;
-    let cross = sums.cross;
-    let squares = sums.squares;
-    forming::put_figures(spread, &own[..n], figures);
-    forming::put_figures(spread, numerators, parts);
-    let whole = forming::pair(
-        n,
-        spread,
-        ClassRow {
-            weight: weight,
-            cross: cross,
-            squares: squares,
-        },
-    );
+    let spread = account::spread(n, values);
+    let mut space: [i64; 64] = [0; 64];
+    let own = &mut space[..n];
+    adding::add_zones(n, numerators, own);
+    let row = adding::add_row(n, rows, own);
+    forming::put_figures(spread, own, figures);
+    let wanted = parts.len();
+    forming::put_figures(spread, &numerators[..wanted], parts);
+    let whole = forming::pair(n, spread, row);
     Report {
         whole: Answer::Reported(whole),
         classes: forming::class_pairs(n, spread, rows),
@@ -152,14 +125,5 @@ pub fn report_sized(
     if refusal != 0 {
         return refused(refusal);
     }
-    let wanted = parts.len();
-    report_job(
-        n,
-        values,
-        weights,
-        &rows,
-        &numerators[..wanted],
-        figures,
-        parts,
-    )
+    report_job(n, values, &rows, &numerators[..places], figures, parts)
 }

@@ -11,15 +11,14 @@ use lib.Ieee.{Float}
 use lib.IntN.{ℤ}
 use lib.ListN.{length, getD, set}
 use Rattle.whole.specs.Integer.{is-zero}
-use Rattle.whole.specs.Rules.{Rule, first-broken, misfits, outside, size-rules}
+use Rattle.whole.specs.Rules.{Rule, misfits, outside}
 use Rattle.whole.specs.Search.{any-above}
-use Rattle.whole.specs.Table.{table, at}
+use Rattle.whole.specs.Table.{table}
 use Rattle.whole.proofs.Rules.{kept-when-refused, worked-when-taken, holds, beside, sizes-first}
 use Rattle.whole.proofs.Table.{table-cong, table-held}
 use Rattle.nearest.specs.Answers.{number-of, figures-of, nearest-refusal, nearest-float, nearest-figures}
 use Rattle.nearest.specs.declared.Answer.{Answer}
 use Rattle.nearest.specs.declared.Answer.the-variants.{Refused, Rounded}
-use Rattle.account.specs.Measures.{spread-of}
 use Rattle.account.specs.Classes.{class-rules, class-row-of}
 use Rattle.account.specs.Refusals.{job-rules, job-lengths, call-rules}
 use Rattle.coefficients.specs.Coefficients.{coefficient, pair-of, job-pair, class-pair}
@@ -203,9 +202,12 @@ module _ (n : ℕ) (values : List ℤ) (weights classes : List ℕ) (globals loc
 
           class-is : (k : ℕ) → k < 9 → getD of-classes k no-pair ≡ class-pair n values weights classes k
           unfolding plain-classes
-          class-is k h = table-held (class-pair n values weights classes) 9 no-pair of-classes (in-classes ∙ worked-when-taken _ _ _ taken) k h
+          class-is k h =
+              table-held (class-pair n values weights classes) 9 no-pair of-classes (in-classes ∙ worked-when-taken _ _ _ taken) k h
 
-          weight-told : (k : ℕ) → tells (class-pair n values weights classes k .moran) ≡ cond (is-zero (class-row-of n values weights classes k .weight)) 0 1
+          weight-told :
+              (k : ℕ) →
+              tells (class-pair n values weights classes k .moran) ≡ cond (is-zero (class-row-of n values weights classes k .weight)) 0 1
           unfolding class-pair pair-of coefficient
           weight-told k = tells-weight (is-zero (class-row-of n values weights classes k .weight)) _
 

@@ -1,5 +1,5 @@
--- The ways out of the calls on an image: what is refused below is refused here and leaves every list, and what is answered there is put into
--- the lent lists. Assumes nothing.
+-- The ways out of the calls on an image: what is refused below is refused here and leaves every list, and what is answered there is put
+-- into the lent lists. Assumes nothing.
 use mathlib.Core.Path.{_≡_, refl, sym, ap, _∙_}
 use mathlib.Core.Bool.{false}
 use mathlib.Core.List.{List, [], _∷_}

@@ -1,5 +1,5 @@
--- The two ways out of a call that stands on another: what is refused there is refused here and leaves every list, and what is answered there
--- is put into the lent lists. Assumes nothing.
+-- The two ways out of a call that stands on another: what is refused there is refused here and leaves every list, and what is answered
+-- there is put into the lent lists. Assumes nothing.
 use mathlib.Core.Path.{_≡_, sym, ap, _∙_}
 use mathlib.Core.List.{List}
 use Prim.Native.Nat.{ℕ}

@@ -20,7 +20,9 @@ pub figure-length : (l : List Float) (place : ℕ) (c : Coefficient) → length 
 figure-length l place (Figure x) = length-set l place x
 figure-length l place Weightless = refl
 
-figure-here : (l : List Float) (place : ℕ) (c : Coefficient) → place < length l → float-at (put-figure l place c) place ≡ figure-or (float-at l place) c
+figure-here :
+    (l : List Float) (place : ℕ) (c : Coefficient) → place < length l →
+    float-at (put-figure l place c) place ≡ figure-or (float-at l place) c
 figure-here l place (Figure x) h = getD-set-same l place x (ofBits binary64 0) h
 figure-here l place Weightless h = refl
 
@@ -103,7 +105,8 @@ pub pairs-same :
     (many : ℕ) (f g : ℕ → Pair) (kept : List Float) → ((k : ℕ) → k < many → f k ≡ g k) → pairs-over many f kept ≡ pairs-over many g kept
 unfolding pairs-over
 pairs-same many f g kept h =
-    rows-flat (entry many g kept) many 2 (ofBits binary64 0) (table-rows (entry many f kept) many 2) (rows-length (entry many f kept) many 2)
+    rows-flat (entry many g kept) many 2 (ofBits binary64 0) (table-rows (entry many f kept) many 2)
+    (rows-length (entry many f kept) many 2)
     (λ t p. let s = split many 2 t p in
     ap (float-at (table-rows (entry many f kept) many 2)) (sym (s .whole))
     ∙ rows-at (entry many f kept) many 2 _ _ (ofBits binary64 0) (s .row) (s .column)

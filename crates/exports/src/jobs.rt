@@ -52,7 +52,8 @@ pub extern "C" fn dca_class_account(
     ensures sums { λ _. ⌜ now (rows .exit) ≡ class-account-sums n
         (now (values .entry)) (now (weights .entry)) (now (classes .entry)) (now (rows .entry)) (now («class_locals» .entry)) ⌝ }
     ensures numerators { λ _. ⌜ now («class_locals» .exit) ≡ class-account-locals n
-        (now (values .entry)) (now (weights .entry)) (now (classes .entry)) 27 (length (now (rows .entry))) (now («class_locals» .entry)) ⌝ }
+        (now (values .entry)) (now (weights .entry)) (now (classes .entry)) 27
+        (length (now (rows .entry))) (now («class_locals» .entry)) ⌝ }
 {
     account::class_account(n, values, weights, classes, rows, class_locals)
 }

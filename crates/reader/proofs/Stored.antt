@@ -33,7 +33,7 @@ use Rattle.reader.proofs.Found.{found-read, joinable}
 pub record Room (image : List ℕ) (r : Layout) (lent : Buffers) : Type 0 where
   pub values-there : 2 ≤ length image
   pub values-room : r .values ≤ length (lent .values)
-  pub categories-there : r .«at_categories» + 2 ≤ length image
+  pub categories-there : r .«at_categories» + 2 + r .categories ≤ length image
   pub categories-room : r .categories ≤ length (lent .categories)
   pub joins-there : Joinable image (r .«at_joins» + 2) (r .joins) (r .values)
   pub weights-room : r .values * r .values ≤ length (lent .weights)
@@ -41,7 +41,7 @@ pub record Room (image : List ℕ) (r : Layout) (lent : Buffers) : Type 0 where
   pub places-room : 2 * r .places ≤ length (lent .places)
   pub bands-there : r .«at_bands» + 2 ≤ length image
   pub bands-room : r .bands ≤ length (lent .bands)
-  pub shuffles-there : r .«at_shuffles» + 2 ≤ length image
+  pub shuffles-there : r .«at_shuffles» + 2 + r .shuffles * r .values ≤ length image
   pub shuffles-room : r .shuffles * r .values ≤ length (lent .shuffles)
 
 pub room : (image : List ℕ) (r : Layout) (lent : Buffers) → Storable image r lent → Room image r lent

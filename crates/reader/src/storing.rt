@@ -28,13 +28,14 @@ fn store_words(image: &[u8], at: usize, k: usize, buffer: &mut [u32])
     words::words_in(&image[at..], &mut buffer[..k]);
 }
 
-// The first k bytes.
+// The k bytes from a place on, lent to the last of them, so that they are copied whole.
 fn store_bytes(image: &[u8], at: usize, k: usize, buffer: &mut [u8])
-    requires { ⌜ at ≤ length (now image) ⌝ }
+    requires { ⌜ at + k ≤ length (now image) ⌝ }
     requires { ⌜ k ≤ length (now buffer) ⌝ }
     ensures { λ _. ⌜ now (buffer .exit) ≡ over (bytes k (drop at (now (image .entry)))) (now (buffer .entry)) ⌝ }
 {
-    words::bytes_in(&image[at..], &mut buffer[..k]);
+    let end = at + k;
+    words::bytes_in(&image[at..end], &mut buffer[..k]);
 }
 
 // The table of k joins.

@@ -1,6 +1,6 @@
 -- A list of shuffles: how many it holds, where they stand in it, and the marks of the zones that one names. Assumes nothing.
 use mathlib.Core.Path.{_≡_, refl, sym, ap, _∙_}
-use mathlib.Core.Bool.{Bool, true, false, cond, _||_}
+use mathlib.Core.Bool.{Bool, true, false, not, cond}
 use mathlib.Core.List.{List}
 use Prim.Native.Nat.{ℕ, _+_, _*_, _≤_, _<_, _/_}
 use native.Mathlib.Decide.{ℕ-discrete}
@@ -11,9 +11,9 @@ use lib.Dec.{ltb, eqb}
 use lib.ListN.{length, getD, set}
 use lib.Seq.{getD-set-same, getD-set-other}
 use Rattle.whole.specs.Search.{some}
-use Rattle.whole.proofs.Search.{some-next, some-found}
+use Rattle.whole.proofs.Search.{some-found, some-same}
 use Rattle.shuffles.specs.Shuffles.{shuffle-count}
-use Rattle.shuffles.specs.Steps.{Row, Shuffle, Shuffles}
+use Rattle.shuffles.specs.Steps.{Row, Shuffle, Shuffles, mark-of}
 
 -- ---- how many there are
 pub at-most-499 : (n length : ℕ) → shuffle-count n length ≤ 499
@@ -60,25 +60,22 @@ pub shuffle-there : (shuffles : List ℕ) (n rows r : ℕ) → Shuffles shuffles
 shuffle-there shuffles n rows r w h =
     record { row = row-there shuffles n rows r (w .zones) (w .few) (w .count) h; full = w .full r h }
 
--- ---- marking the zones that a row names: one more number of the row
-module _ (n : ℕ) (row : ℕ → ℕ) (i : ℕ) (named : List Bool) (l : length named ≡ n)
-    (so-far : (k : ℕ) → k < n → getD named k false ≡ some (λ i. eqb (row i) k) i) where
-  -- which names another zone than k, or none
-  other : (k : ℕ) → k < n → (row i ≡ k → ⊥) → getD named k false ≡ some (λ i. eqb (row i) k) (i + 1)
-  other k p f = so-far k p ∙ sym (some-next (λ i. eqb (row i) k) i ∙ rw (ne-eqb (row i) k f) (last (some (λ i. eqb (row i) k) i)))
-    where
-      last : (b : Bool) → (b || false) ≡ b
-      last true = refl
-      last false = refl
-
-  pub marked : row i < n → (k : ℕ) → k < n → getD (set named (row i) true) k false ≡ some (λ i. eqb (row i) k) (i + 1)
+-- ---- marking the numbers that a row names, in marks for all bytes: one more number of the row
+module _ (row : ℕ → ℕ) (i : ℕ) (named : List ℕ)
+    (so-far : (k : ℕ) → k < 256 → getD named k 0 ≡ mark-of (some (λ i. eqb (row i) k) i)) where
+  pub marked : row i < length named → (k : ℕ) → k < 256 → getD (set named (row i) 1) k 0 ≡ mark-of (some (λ i. eqb (row i) k) (i + 1))
   marked h k p = pick (ℕ-discrete (row i) k)
     where
-      pick : Dec (row i ≡ k) → getD (set named (row i) true) k false ≡ some (λ i. eqb (row i) k) (i + 1)
+      pick : Dec (row i ≡ k) → getD (set named (row i) 1) k 0 ≡ mark-of (some (λ i. eqb (row i) k) (i + 1))
       pick (yes e) =
-          rw e (getD-set-same named k true false (omega arith))
-          ∙ some-found (λ i. eqb (row i) k) (i + 1) i (omega arith) (eq-eqb (row i) k e)
-      pick (no e) = getD-set-other named (row i) k true false (λ f. e (sym f)) ∙ other k p e
+          rw e (getD-set-same named k 1 0 (omega arith))
+          ∙ ap mark-of (some-found (λ i. eqb (row i) k) (i + 1) i (omega arith) (eq-eqb (row i) k e))
+      pick (no e) =
+          getD-set-other named (row i) k 1 0 (λ f. e (sym f))
+          ∙ so-far k p
+          ∙ ap mark-of (some-same (λ i. eqb (row i) k) i (ne-eqb (row i) k e))
 
-  pub unmarked : n ≤ row i → (k : ℕ) → k < n → getD named k false ≡ some (λ i. eqb (row i) k) (i + 1)
-  unmarked h k p = other k p (λ e. let z : ⊥ = omega arith in z)
+-- a number that is not marked is not named
+pub unnamed : (b : Bool) → eqb (mark-of b) 0 ≡ not b
+unnamed true = refl
+unnamed false = refl

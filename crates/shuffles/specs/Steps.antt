@@ -1,6 +1,6 @@
 -- What functions ask of a list of shuffles before they read a row of it; no part of the public promise. Assumes nothing.
 use mathlib.Core.Path.{_≡_}
-use mathlib.Core.Bool.{false}
+use mathlib.Core.Bool.{Bool, true, false}
 use mathlib.Core.List.{List}
 use Prim.Native.Nat.{ℕ, _+_, _*_, _≤_, _<_}
 use lib.ListN.{length}
@@ -24,3 +24,8 @@ pub record Shuffles (shuffles : List ℕ) (n rows : ℕ) : Type 0 where
   pub few : rows ≤ 499
   pub count : length shuffles ≡ rows * n
   pub full : (r : ℕ) → r < rows → lacks (pair-at shuffles n r) n ≡ false
+
+-- the mark of a number: 1 where it is named
+abbrev pub mark-of : Bool → ℕ
+mark-of true = 1
+mark-of false = 0

@@ -1,39 +1,36 @@
 // The search through a list of shuffles: whether some row lacks a zone number.
 ghost use mathlib.Core.Path.{_≡_};
-ghost use mathlib.Core.Bool.{false, not};
 ghost use Prim.Native.Nat.{_*_, _≤_};
 ghost use lib.Dec.{eqb};
 ghost use lib.ListN.{length, getD};
 ghost use Rattle.whole.specs.Order.{lacks};
 ghost use Rattle.whole.specs.Search.{some};
 ghost use Rattle.whole.specs.Table.{table, pair-at};
-ghost use Rattle.shuffles.specs.Steps.{Row};
+ghost use Rattle.shuffles.specs.Steps.{Row, mark-of};
 
-// Marks each zone that is named in row r.
-pub fn mark(n: usize, shuffles: &[u8], r: usize, named: &mut [bool])
+// Marks each number that row r names. There is a mark for each byte, so that no number has to be looked at before it is marked.
+pub fn mark(n: usize, shuffles: &[u8], r: usize, named: &mut [u8])
     requires { ⌜ Row (now shuffles) n r ⌝ }
-    requires { ⌜ now named ≡ table (λ k. false) n ⌝ }
-    ensures { λ _. ⌜ now (named .exit) ≡ table (λ k. some (λ i. eqb (pair-at (now (shuffles .entry)) n r i) k) n) n ⌝ }
+    requires { ⌜ now named ≡ table (λ k. 0) 256 ⌝ }
+    ensures { λ _. ⌜ now (named .exit) ≡ table (λ k. mark-of (some (λ i. eqb (pair-at (now (shuffles .entry)) n r i) k) n)) 256 ⌝ }
 {
     let row = r * n;
     let mut i: usize = 0;
     while i < n {
         let zone = shuffles[row + i] as usize;
-        if zone < n {
-            named[zone] = true;
-        }
+        named[zone] = 1;
         i += 1;
     }
 }
 
-// Whether some zone is not marked.
-pub fn any_unmarked(named: &[bool]) -> bool
-    ensures { λ r. ⌜ r ≡ some (λ k. not (getD (now (named .entry)) k false)) (length (now (named .entry))) ⌝ }
+// Whether some number is not marked.
+pub fn any_unmarked(named: &[u8]) -> bool
+    ensures { λ r. ⌜ r ≡ some (λ k. eqb (getD (now (named .entry)) k 0) 0) (length (now (named .entry))) ⌝ }
 {
     let mut found = false;
     let mut k: usize = 0;
     while k < named.len() {
-        if !named[k] {
+        if named[k] == 0 {
             found = true;
         }
         k += 1;
@@ -46,8 +43,8 @@ pub fn lacks_zone(n: usize, shuffles: &[u8], r: usize) -> bool
     requires { ⌜ Row (now shuffles) n r ⌝ }
     ensures { λ found. ⌜ found ≡ lacks (pair-at (now (shuffles .entry)) n r) n ⌝ }
 {
-    let mut named: [bool; 64] = [false; 64];
-    mark(n, shuffles, r, &mut named[..n]);
+    let mut named: [u8; 256] = [0; 256];
+    mark(n, shuffles, r, &mut named);
     any_unmarked(&named[..n])
 }
 

@@ -4,6 +4,7 @@ use mathlib.Core.List.{List, [], _∷_, _++_, append-assoc}
 use Prim.Native.Nat.{ℕ, zero, suc, _+_, _*_, _/_, _%_, _≤_, _<_}
 use native.Mathlib.Nat as N
 use native.Mathlib.Omega.{arith}
+use lib.Arith.{digits-div, digits-mod}
 use lib.ListN.{length, getD, take, drop, length-append, take-append-drop}
 use lib.Seq.{length-take-le}
 use Rattle.whole.specs.Table.{each}
@@ -12,12 +13,25 @@ use Rattle.image.specs.Image.{join-bytes}
 use Rattle.writer.specs.Steps.{one-of, bytes-of}
 use Rattle.whole.proofs.Stores.{front-next, front-all, each-both}
 
--- the row and the column of a place in a table of up to 64 zones are bytes
-pub place-small : (n p : ℕ) → 2 ≤ n → n ≤ 64 → p < n * n → (p / n < 256) × (p % n < 256)
-place-small n p some few h =
-    let row : p / n < n = let some : 0 < n = omega arith in N.div-lt-iff-lt-mul some .1 h in
-    let column : p % n < n = N.mod-lt p (omega arith) in
-    (omega arith, omega arith)
+-- the row and the column that a place is counted by; in a table of up to 64 zones they are bytes
+module _ (n p from to : ℕ) (whole : from * n + to ≡ p) (column : to < n) where
+  row-is : p / n ≡ from
+  row-is = ap (λ q. q / n) (sym whole) ∙ digits-div from column
+
+  column-is : p % n ≡ to
+  column-is = ap (λ q. q % n) (sym whole) ∙ digits-mod from column
+
+  pub place-small : n ≤ 64 → p < n * n → (from < 256) × (to < 256)
+  place-small few h =
+      let row : p / n < n = let some : 0 < n = omega arith in N.div-lt-iff-lt-mul some .1 h in
+      (omega (arith, row-is), omega arith)
+
+  -- the next place is the first of the next row where the row is at its end, and else that of the next column
+  pub next-row : (row place : ℕ) → row ≡ from + 1 → place ≡ 0 → to + 1 ≡ n → (row * n + place ≡ p + 1) × (place < n)
+  next-row row place e f end = rw (e, f) (omega arith, omega arith)
+
+  pub next-column : (row place : ℕ) → row ≡ from → place ≡ to + 1 → (to + 1 ≡ n → ⊥) → (row * n + place ≡ p + 1) × (place < n)
+  next-column row place e f within = rw (e, f) (omega arith, omega arith)
 
 module _ (n : ℕ) where
   -- the joins of a weight, before others
@@ -90,11 +104,16 @@ module _ (n : ℕ) where
           ∙ length-append (joins-before p) (joins-from n p (getD weights p 0 ∷ []))
           ∙ ap (λ k. length (joins-before p) + k) (one-counted p (getD weights p 0))
 
-      pub next-put : bytes-before (p + 1) ≡ bytes-before p ++ bytes-of (p / n) (p % n) (getD weights p 0)
-      next-put =
+      pub next-put :
+          (from to : ℕ) → from * n + to ≡ p → to < n → bytes-before (p + 1) ≡ bytes-before p ++ bytes-of from to (getD weights p 0)
+      next-put from to whole column =
+          let weight = getD weights p 0 in
           ap (each join-bytes) joins-next
-          ∙ each-both join-bytes (joins-before p) (joins-from n p (getD weights p 0 ∷ []))
-          ∙ ap (λ l. bytes-before p ++ l) (one-put p (getD weights p 0))
+          ∙ each-both join-bytes (joins-before p) (joins-from n p (weight ∷ []))
+          ∙ ap (λ l. bytes-before p ++ l)
+          (one-put p weight
+          ∙ ap (λ r. bytes-of r (p % n) weight) (row-is n p from to whole column)
+          ∙ ap (λ c. bytes-of from c weight) (column-is n p from to whole column))
 
     pub all-counted : (p : ℕ) → p ≡ length weights → length (joins-before p) ≡ length (joins-of n weights)
     all-counted p e = ap (λ l. length (joins-of n l)) (front-all weights p e)

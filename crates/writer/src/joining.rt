@@ -77,9 +77,16 @@ pub fn put_joins(out: &mut [u8], at: usize, weights: &[u8], n: usize)
     ensures { λ _. ⌜ now (out .exit) ≡ sets (now (out .entry)) at (each join-bytes (joins-of n (now (weights .entry)))) ⌝ }
 {
     let mut place: usize = at;
+    let mut from: usize = 0;
+    let mut to: usize = 0;
     let mut p: usize = 0;
     while p < weights.len() {
-        place = put_join(out, place, p / n, p % n, weights[p]);
+        place = put_join(out, place, from, to, weights[p]);
+        to += 1;
+        if to == n {
+            from += 1;
+            to = 0;
+        }
         p += 1;
     }
 }

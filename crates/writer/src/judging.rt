@@ -46,7 +46,7 @@ fn judge_categories(before: u8, categories: &[u8], n: usize, k: usize) -> u8
     0
 }
 
-// 5 and 4: the weights of n zones, row by row.
+// 5 and 4: the weights of n zones. Which of them comes first, row by row, is asked only where a search of the table finds one.
 fn judge_weights(before: u8, weights: &[u8], n: usize) -> u8
     requires { ⌜ 2 ≤ n ⌝ }
     requires { ⌜ n ≤ 64 ⌝ }
@@ -56,7 +56,13 @@ fn judge_weights(before: u8, weights: &[u8], n: usize) -> u8
     if before != 0 {
         return before;
     }
-    joining::judge_weights(weights, n)
+    if judges::any_above(9, weights) {
+        return joining::judge_weights(weights, n);
+    }
+    if judges::any_on_diagonal(n, weights) {
+        return joining::judge_weights(weights, n);
+    }
+    0
 }
 
 // 15, 10 and 11: k places of n zones.

@@ -1,6 +1,6 @@
 -- `spread` meets its contract: the squared differences over the pairs are n times the sum of the squares, less the square of the sum.
 -- Assumes nothing.
-use mathlib.Core.Path.{_≡_, sym, _∙_}
+use mathlib.Core.Path.{sym, _∙_}
 use Prim.Native.Nat.{ℕ}
 use native.Mathlib.Nat as N
 use lib.IntN.{ℤ, pos, _-ℤ_, _*ℤ_}

@@ -1,12 +1,14 @@
 -- `report_sized` meets its contract: the class account judges and works, then the figures are formed. Assumes nothing.
 use mathlib.Core.Path.{_≡_, refl, sym, ap, _∙_}
-use mathlib.Core.List.{List, [], _++_}
+use mathlib.Core.List.{List, []}
 use Prim.Native.Nat.{ℕ, _*_, _≤_}
 use native.Mathlib.Omega.{arith}
+use lib.Ieee.{Float}
 use lib.IntN.{ℤ}
-use lib.ListN.{length, take, length-append}
-use lib.Seq.{length-take-le, take-append-le}
+use lib.ListN.{length, take}
+use lib.Seq.{length-take-le}
 use Rattle.whole.specs.Table.{at}
+use Rattle.whole.proofs.Lists.{front, front-le, front-length}
 use Rattle.whole.proofs.Rules.{worked-when-taken, kept-when-refused}
 use Rattle.account.specs.Measures.{spread-of}
 use Rattle.account.specs.Classes.{class-sums, class-locals, class-refusal}
@@ -16,7 +18,7 @@ use Rattle.coefficients.specs.Steps.{Reportable, rest-refusal}
 use Rattle.coefficients.specs.declared.Answer.the-variants.{Reported}
 use Rattle.coefficients.specs.declared.Pair.{Pair}
 use Rattle.coefficients.specs.declared.Report.{Report}
-use Rattle.coefficients.proofs.Answered.{refused, reported, pairs-are, account-number}
+use Rattle.coefficients.proofs.Answered.{refused, reported, pairs-are, pair-is, locals-are, account-number}
 use Rattle.coefficients.proofs.Job.{reportable}
 use borrow.Author.Needs.{needs}
 use Rattle.coefficients.proofs.working.report_sized.Statement.{statement}
@@ -24,22 +26,14 @@ use Rattle.coefficients.proofs.working.report_sized.Tie as tie
 
 -- the same by other names
 reportable-same :
-    {n : ℕ} {values : List ℤ} {weights : List ℕ} {rows rows′ numerators numerators′ : List ℤ} → rows′ ≡ rows → numerators′ ≡ numerators →
-    Reportable n values weights rows numerators → Reportable n values weights rows′ numerators′
+    {n : ℕ} {values rows rows′ numerators numerators′ : List ℤ} → rows′ ≡ rows → numerators′ ≡ numerators →
+    Reportable n values rows numerators → Reportable n values rows′ numerators′
 reportable-same e f r = rw (e, f) r
 
 report-same :
-    {pair : Pair} {pairs pairs′ : List Pair} → pairs ≡ pairs′ →
-    _≡_ {A = Report} (record { whole = Reported pair; classes = pairs }) (record { whole = Reported pair; classes = pairs′ })
-report-same e = rw e refl
-
--- the first entries of an array whose lent front holds t
-module _ {A : Type 0} (part rest t : List A) (k : ℕ) (q : part ≡ t) (h : k ≤ length t) where
-  first-le : k ≤ length (part ++ rest)
-  first-le = omega (arith, length-append part rest, ap length q)
-
-  first-of : take k (part ++ rest) ≡ take k t
-  first-of = take-append-le k part rest (omega (arith, ap length q)) ∙ ap (take k) q
+    {pair pair′ : Pair} {pairs pairs′ : List Pair} → pair ≡ pair′ → pairs ≡ pairs′ →
+    _≡_ {A = Report} (record { whole = Reported pair; classes = pairs }) (record { whole = Reported pair′; classes = pairs′ })
+report-same e f = rw (e, f) refl
 
 mul-places : tie.Need-mul-places
 mul-places c = search needs
@@ -86,8 +80,8 @@ module _ (c : tie.After-class-account) where
   abbrev numerators : List ℤ
   numerators = class-locals n values weights classes
 
-  enough : wanted ≤ length numerators
-  enough = omega (arith, class-locals-length n values weights classes, s .pre .1 .1)
+  as-many : length numerators ≡ 9 * n
+  as-many = class-locals-length n values weights classes
 
   found : c .class-account .result ≡ rest-refusal n values weights classes
   found =
@@ -122,23 +116,23 @@ array-share-prefix-numerators : tie.Need-array-share-prefix-numerators
 array-share-prefix-numerators c =
     let e = c .before in
     let b = e .before .before .before in
-    first-le {A = ℤ} _ _ (numerators b) _ (numerators-left b (e .if1 .left)) (enough b)
+    front-le {A = ℤ} _ _ (numerators b) _ (numerators-left b (e .if1 .left)) (as-many b)
 
 slice-aggregate-report-job-2 : tie.Need-slice-aggregate-report-job-2
 slice-aggregate-report-job-2 c =
     let e = c .before .before in
     let b = e .before .before .before in
-    sym (length-take-le _ _ (first-le {A = ℤ} _ _ (numerators b) _ (numerators-left b (e .if1 .left)) (enough b)))
+    front-length {A = ℤ} _ _ (numerators b) _ (numerators-left b (e .if1 .left)) (as-many b)
 
 report-job-requires : tie.Need-report-job-requires
 report-job-requires c κs =
     let e = c .before .before .before .before in
     let b = e .before .before .before in
     let z = e .if1 .left in
-    let held = first-of {A = ℤ} _ _ (numerators b) (wanted b) (numerators-left b z) (enough b) in
-    let work = reportable (n b) (values b) (weights b) (classes b) [] (taken b z) (wanted b) (s b .pre .1 .1) in (
+    let held = front {A = ℤ} _ _ (numerators b) _ (numerators-left b z) (as-many b) in
+    let work = reportable (n b) (values b) (weights b) (classes b) [] (taken b z) in (
       reportable-same (rows-left b z) held work,
-      (s b .pre .1 .0, sym (ap length held ∙ length-take-le _ _ (enough b))),
+      (s b .pre .1 .0, omega (arith, ap length held, as-many b, s b .pre .1 .1)),
     )
 
 same-length : tie.Need-same-length
@@ -154,11 +148,16 @@ returns-2 c =
     let b = e .before .before .before in
     let z = e .if1 .left in
     let said = done .report-job .ensures in
-    let held = first-of {A = ℤ} _ _ (numerators b) (wanted b) (numerators-left b z) (enough b) in (
+    let held = front {A = ℤ} _ _ (numerators b) _ (numerators-left b z) (as-many b) in
+    let worked : List ℤ → List Float = λ l. local-figures (spread-of (at (values b)) (n b)) l in
+    let rows-are = rows-left b z in (
       reported _ _ _ _ _ _ _ _ (taken b z)
-          (said .0 ∙ report-same (pairs-are (n b) (values b) (weights b) (classes b) _ (rows-left b z)))
-          (said .1 .0),
-      said .1 .1 ∙ ap (local-figures (spread-of (at (values b)) (n b))) held ∙ sym (worked-when-taken _ _ _ (taken b z)),
+          (said .0
+          ∙ report-same
+          (pair-is (n b) (values b) (weights b) (classes b) _ rows-are _ held (taken b z))
+          (pairs-are (n b) (values b) (weights b) (classes b) _ rows-are))
+          (said .1 .0 ∙ ap worked (locals-are (n b) (values b) (weights b) (classes b) _ rows-are _ held (taken b z))),
+      said .1 .1 ∙ ap (λ l. worked (take (wanted b) l)) held ∙ sym (worked-when-taken _ _ _ (taken b z)),
     )
 
 pub report-sized-spec : {M : Type 1} → statement M

@@ -1,5 +1,5 @@
--- `dca_float_report` meets its contract: the sizes are judged with the lists that the float report is not lent, then it judges and works, and
--- its pairs are put. Assumes nothing.
+-- `dca_float_report` meets its contract: the sizes are judged with the lists that the float report is not lent, then it judges and works,
+-- and its pairs are put. Assumes nothing.
 use mathlib.Core.Path.{_≡_, sym, _∙_}
 use native.Mathlib.Omega.{arith}
 use lib.ListN.{length}
@@ -106,7 +106,8 @@ same-length-5 c = search needs
 
 returns-5 : tie.Need-returns-5
 returns-5 c =
-    let b = c .before .before .before .before .before .before .before .before .before .before .before .before .before .before .before .before .before .before in
+    let w = c .before .before .before .before .before .before .before .before .before .before .before .before .before in
+    let b = w .before .before .before .before .before in
     let e = b .before .before in
     let a = start (e .before .before .before) .args in
     let said = b .plain-report .ensures in
@@ -123,7 +124,7 @@ returns-5 c =
     (said .1 .1 .0)
     (said .1 .1 .1)
     _
-    (c .before .before .before .before .before .before .before .before .before .before .before .before .before .whole2 .given .1)
+    (w .whole2 .given .1)
     _
     _
     _

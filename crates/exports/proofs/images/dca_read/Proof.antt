@@ -8,7 +8,8 @@ use Rattle.exports.proofs.images.dca_read.Tie as tie
 returns : tie.Need-returns
 returns c =
     let a = c .before .before .before .before .before .before .before .args in
-    read-by-length (a .image .now) (buffers (a .values .now) (a .categories .now) (a .weights .now) (a .places .now) (a .bands .now) (a .shuffles .now))
+    read-by-length (a .image .now)
+    (buffers (a .values .now) (a .categories .now) (a .weights .now) (a .places .now) (a .bands .now) (a .shuffles .now))
     (a .counts .now)
     (c .if1 .taken)
 
@@ -47,7 +48,8 @@ returns-2 c =
     let b = c .before .before .before .before .before .before .before .before .before .before .before .before .before in
     let e = b .before .before .before .before .before .before .before in
     let a = e .before .before .before .before .before .before .before .args in
-    read-by-refusal (a .image .now) (buffers (a .values .now) (a .categories .now) (a .weights .now) (a .places .now) (a .bands .now) (a .shuffles .now))
+    read-by-refusal (a .image .now)
+    (buffers (a .values .now) (a .categories .now) (a .weights .now) (a .places .now) (a .bands .now) (a .shuffles .now))
     (a .counts .now)
     (e .if1 .left)
     _
@@ -85,7 +87,8 @@ returns-3 c =
     let b = m .before .before .before .before .before .before .before .before .before .before in
     let e = b .before .before .before .before .before .before .before in
     let a = e .before .before .before .before .before .before .before .args in
-    read-by-counts (a .image .now) (buffers (a .values .now) (a .categories .now) (a .weights .now) (a .places .now) (a .bands .now) (a .shuffles .now))
+    read-by-counts (a .image .now)
+    (buffers (a .values .now) (a .categories .now) (a .weights .now) (a .places .now) (a .bands .now) (a .shuffles .now))
     (a .counts .now)
     (e .if1 .left)
     _

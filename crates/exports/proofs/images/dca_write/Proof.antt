@@ -32,7 +32,9 @@ sound : (e : tie.Else2) → first-broken (zone-count-rule (given-by (start (e .b
 sound e = sym (judged (e .before)) ∙ e .if2 .left
 
 -- the writer was given the counts
-given-told : {A : Type 0} (b : tie.After-judge-zone-count) (f : Given → A) → f (b .before .given .result) ≡ f (given-by (start b .args .counts .now))
+given-told :
+    {A : Type 0} (b : tie.After-judge-zone-count) (f : Given → A) →
+    f (b .before .given .result) ≡ f (given-by (start b .args .counts .now))
 given-told b f = ap f (b .before .given .ensures)
 
 returns : tie.Need-returns

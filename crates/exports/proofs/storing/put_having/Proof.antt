@@ -43,12 +43,13 @@ loop-again : tie.Need-loop-again Inv-loop μ-loop
 loop-again c =
     let l = c .before .before .before .loop in
     let s = c .before .before .before .before .before in
-    let inside = c .before .before .loop-test .taken in (
+    let inside = c .before .before .loop-test .taken in
+    let pair-is = there (s .args .t2) (l .k) _ no-pair (omega (arith, inside, s .good .1 .0 .1)) in (
       omega (arith, inside),
       (
         simp length-set (l .inv .1 .0),
         stored (λ i. tells (getD (s .args .t2) i no-pair .moran)) 0 _ (l .has) (l .k) (omega (arith, inside, l .inv .1 .0))
-            (c .having .ensures ∙ ap (λ (pair : Pair). tells (pair .moran)) (there (s .args .t2) (l .k) _ no-pair (omega (arith, inside, s .good .1 .0 .1))))
+            (c .having .ensures ∙ ap (λ (pair : Pair). tells (pair .moran)) pair-is)
             (l .inv .1 .1),
       ),
     )

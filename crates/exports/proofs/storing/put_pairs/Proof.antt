@@ -1,6 +1,6 @@
 -- `put_pairs` meets its contract. The loop's invariant: the pairs passed are put, and the other places are as they were. Assumes nothing.
 use mathlib.Core.Path.{_≡_, sym, ap, _∙_, subst}
-use Prim.Native.Nat.{ℕ, _+_, _*_, _-_}
+use Prim.Native.Nat.{_+_, _*_, _-_}
 use native.Mathlib.Omega.{arith}
 use lib.ListN.{getD}
 use Rattle.coefficients.specs.FloatReport.{no-pair}
@@ -45,7 +45,9 @@ loop-again c =
     let s = t .before .before .before in
     let pair = there (s .args .t2) (l .k) _ no-pair (omega (arith, t .loop-test .taken, s .good .1 .0 .1)) in
     subst (λ v. PutSoFar 9 (λ i. getD (s .args .t2) i no-pair) (s .args .figures .now) v (l .k + 1))
-    (sym (c .before .before .put-pair .ensures ∙ ap (λ (p : Pair). put-figure (put-figure (l .figures) (l .k * 2) (p .moran)) (l .k * 2 + 1) (p .geary)) pair))
+    (sym
+    (c .before .before .put-pair .ensures
+    ∙ ap (λ (p : Pair). put-figure (put-figure (l .figures) (l .k * 2) (p .moran)) (l .k * 2 + 1) (p .geary)) pair))
     (one-put 9 _ _ (l .figures) (l .k) (l .inv) (t .loop-test .taken))
 
 same-length : tie.Need-same-length Inv-loop μ-loop

@@ -1,14 +1,17 @@
 -- `store_bytes` meets its contract: the lent front comes back as the first bytes from the place on. Assumes nothing.
 use mathlib.Core.Path.{sym}
+use native.Mathlib.Omega.{arith}
 use borrow.Author.Needs.{needs}
 use lib.Seq.{length-take-le}
-use Rattle.words.specs.Words.{byte-at}
-use Rattle.reader.proofs.Over.{read-over}
+use Rattle.reader.proofs.Over.{bytes-over}
 use Rattle.reader.proofs.storing.store_bytes.Statement.{statement}
 use Rattle.reader.proofs.storing.store_bytes.Tie as tie
 
+add-end : tie.Need-add-end
+add-end c = omega arith
+
 sub-bytes-in : tie.Need-sub-bytes-in
-sub-bytes-in c = search needs
+sub-bytes-in c = omega arith
 
 part-bytes-in-start : tie.Need-part-bytes-in-start
 part-bytes-in-start c = search needs
@@ -31,13 +34,14 @@ same-length c = search needs
 returns : tie.Need-returns
 returns c =
     let a = c .before .before .before .before .before .before .before in
-    read-over byte-at (a .args .image .now) (a .args .at) (a .args .k) _ (a .args .buffer .now) (a .pre .1)
+    bytes-over (a .args .image .now) (a .args .at) (a .args .k) _ (a .args .buffer .now) (a .pre .0) (a .pre .1)
     (c .before .before .bytes-in .ensures)
 
 pub store-bytes-spec : {M : Type 1} → statement M
 store-bytes-spec =
     tie.close
     (tie.spec
+    add-end
     sub-bytes-in
     part-bytes-in-start
     part-bytes-in-end

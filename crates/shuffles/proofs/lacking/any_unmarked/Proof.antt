@@ -1,18 +1,20 @@
--- `any_unmarked` meets its contract. The loop's invariant: `found` says whether some zone passed is not marked. Assumes nothing.
+-- `any_unmarked` meets its contract. The loop's invariant: `found` says whether some number passed is not marked. Assumes nothing.
 use mathlib.Core.Path.{_≡_, sym, ap, _∙_}
 use mathlib.Core.Logic.{⊎-elim}
-use mathlib.Core.Bool.{Bool, false, not}
+use mathlib.Core.Bool.{Bool}
 use mathlib.Core.List.{List}
 use Prim.Native.Nat.{ℕ, _+_, _-_, _≤_}
 use native.Mathlib.Omega.{arith}
+use borrow.Author.Tests.{eq-eqb, ne-eqb}
+use lib.Dec.{eqb}
 use lib.ListN.{length, getD}
 use Rattle.whole.specs.Search.{some}
 use Rattle.whole.proofs.Search.{some-zero, some-found, some-same}
 use Rattle.shuffles.proofs.lacking.any_unmarked.Statement.{statement}
 use Rattle.shuffles.proofs.lacking.any_unmarked.Tie as tie
 
-abbrev test : List Bool → ℕ → Bool
-test named k = not (getD named k false)
+abbrev test : List ℕ → ℕ → Bool
+test named k = eqb (getD named k 0) 0
 
 abbrev Inv-loop : tie.InvT-loop
 Inv-loop named found₀ k₀ found k = (k ≤ length named) × (found ≡ some (test named) k)
@@ -38,8 +40,8 @@ loop-again c =
     let t = test (b .before .args .named .now) in
     let k = b .loop .k in (
       omega arith,
-      ⊎-elim (λ u. u .1 ∙ some-found t (k + 1) k (omega arith) (u .0 .taken))
-          (λ u. u .1 ∙ b .loop .inv .1 ∙ some-same t k (u .0 .left)) (c .if1 .came),
+      ⊎-elim (λ u. u .1 ∙ some-found t (k + 1) k (omega arith) (eq-eqb _ _ (u .0 .taken)))
+          (λ u. u .1 ∙ b .loop .inv .1 ∙ some-same t k (ne-eqb _ _ (u .0 .left))) (c .if1 .came),
     )
 
 returns : tie.Need-returns Inv-loop μ-loop

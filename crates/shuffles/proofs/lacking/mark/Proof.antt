@@ -1,7 +1,6 @@
--- `mark` meets its contract. The loop's invariant: marked are the zones that the numbers passed name. Assumes nothing.
+-- `mark` meets its contract. The loop's invariant: marked are the numbers passed. Assumes nothing.
 use mathlib.Core.Path.{_≡_, sym, ap, _∙_}
-use mathlib.Core.Bool.{false}
-use mathlib.Core.Logic.{⊎-elim}
+use mathlib.Core.Bool.{Bool}
 use Prim.Native.Nat.{ℕ, _+_, _*_, _-_, _≤_, _<_}
 use native.Mathlib.Omega.{arith}
 use lib.Dec.{eqb}
@@ -9,14 +8,15 @@ use lib.ListN.{length, getD, length-set}
 use Rattle.whole.specs.Search.{some}
 use Rattle.whole.specs.Table.{pair-at}
 use Rattle.whole.proofs.Search.{some-zero}
-use Rattle.whole.proofs.Table.{is-table, table-length, table-at}
-use Rattle.shuffles.proofs.ShuffleList.{row-end, marked, unmarked}
+use Rattle.whole.proofs.Table.{is-table, table-length, table-held}
+use Rattle.shuffles.specs.Steps.{mark-of}
+use Rattle.shuffles.proofs.ShuffleList.{row-end, marked}
 use Rattle.shuffles.proofs.lacking.mark.Statement.{statement}
 use Rattle.shuffles.proofs.lacking.mark.Tie as tie
 
 abbrev Inv-loop : tie.InvT-loop
 Inv-loop n shuffles r named₀ row i₀ named i =
-    (i ≤ n) × ((length named ≡ n) × ((k : ℕ) → k < n → getD named k false ≡ some (λ i. eqb (pair-at shuffles n r i) k) i))
+    (i ≤ n) × ((length named ≡ 256) × ((k : ℕ) → k < 256 → getD named k 0 ≡ mark-of (some (λ i. eqb (pair-at shuffles n r i) k) i)))
 
 abbrev μ-loop : tie.MeasureT-loop
 μ-loop n shuffles r named₀ row i₀ named i = n - i
@@ -28,8 +28,8 @@ loop-holds : tie.Need-loop-holds Inv-loop μ-loop
 loop-holds c = (
   omega arith,
   (
-    ap length (c .pre .1) ∙ table-length (λ k. false) (c .args .n),
-    λ k p. ap (λ l. getD l k false) (c .pre .1) ∙ table-at (λ k. false) (c .args .n) k false p ∙ sym (some-zero _),
+    ap length (c .pre .1) ∙ table-length (λ k. 0) 256,
+    λ k p. table-held (λ k. 0) 256 0 (c .args .named .now) (c .pre .1) k p ∙ ap mark-of (sym (some-zero _)),
   ),
 )
 
@@ -46,7 +46,10 @@ cast-zone c =
     omega (arith, c .shared-slice-known .given (a .r * a .n + b .loop .i))
 
 slice-write-named : tie.Need-slice-write-named Inv-loop μ-loop
-slice-write-named c = omega arith
+slice-write-named c =
+    let b = c .before .before in
+    let a = b .before .args in
+    omega (arith, c .shared-slice-known .given (a .r * a .n + b .loop .i))
 
 add-i : tie.Need-add-i Inv-loop μ-loop
 add-i c = omega arith
@@ -57,27 +60,25 @@ loop-less c = omega arith
 loop-again : tie.Need-loop-again Inv-loop μ-loop
 unfolding pair-at
 loop-again c =
-    let b = c .before .before .before in
+    let b = c .before .before in
     let a = b .before .args in
+    let inv = b .loop .inv .1 in
     let row = pair-at (a .shuffles .now) (a .n) (a .r) in
-    let inv = b .loop .inv .1 in (
-      omega arith,
-      ⊎-elim (λ u. rw (u .1) (simp length-set (inv .0), marked (a .n) row (b .loop .i) (b .loop .named) (inv .0) (inv .1) (u .0 .taken)))
-          (λ u. rw (u .1) (inv .0, unmarked (a .n) row (b .loop .i) (b .loop .named) (inv .0) (inv .1) (u .0 .left))) (c .if1 .came),
-    )
+    let byte = c .shared-slice-known .given (a .r * a .n + b .loop .i) in
+    (omega arith, (simp length-set (inv .0), marked row (b .loop .i) (b .loop .named) (inv .1) (omega arith)))
 
 same-length : tie.Need-same-length Inv-loop μ-loop
 same-length c =
     let b = c .before in
-    let a = b .before in
-    b .loop .inv .1 .0 ∙ sym (ap length (a .pre .1) ∙ table-length (λ k. false) (a .args .n))
+    b .loop .inv .1 .0 ∙ sym (ap length (b .before .pre .1) ∙ table-length (λ k. 0) 256)
 
 returns : tie.Need-returns Inv-loop μ-loop
 returns c =
     let b = c .before in
     let a = b .before .args in
-    is-table (λ k. some (λ i. eqb (pair-at (a .shuffles .now) (a .n) (a .r) i) k) (a .n)) (a .n) false (b .loop .named) (b .loop .inv .1 .0)
-    (λ k p. b .loop .inv .1 .1 k p ∙ ap (some (λ i. eqb (pair-at (a .shuffles .now) (a .n) (a .r) i) k)) (omega arith))
+    let named : ℕ → ℕ → Bool = λ k m. some (λ i. eqb (pair-at (a .shuffles .now) (a .n) (a .r) i) k) m in
+    is-table (λ k. mark-of (named k (a .n))) 256 0 (b .loop .named) (b .loop .inv .1 .0)
+    (λ k p. b .loop .inv .1 .1 k p ∙ ap (λ m. mark-of (named k m)) (omega arith))
 
 pub mark-spec : {M : Type 1} → statement M
 mark-spec =

@@ -48,18 +48,18 @@ use denote.Triple.Walked.{says, needs, Stays, stay-slice, stay-none, walkOf, All
 use denote.Triple.Walked.{Walks, ends-at, walked, walk-meets}
 use denote.Exit.{yes}
 use Rattle.whole.specs.Rules.{unless-refused}
-use Rattle.account.specs.Steps.{nine-of}
+use Rattle.class_rows.specs.Steps.{nine-of}
 use Rattle.account.specs.declared.ClassRow.{ClassRow}
-use Rattle.account.specs.declared.rows.Worked.{Worked}
+use Rattle.class_rows.specs.declared.rows.Worked.{Worked}
 use Rattle.account.proofs.ClassRow as T
 use Rattle.account.proofs.ClassRow.Laws as T′
-use Rattle.account.proofs.rows.Worked as N
-use Rattle.account.proofs.rows.Worked.Laws as N′
-use Rattle.account.proofs.rows.put_rows.Key.{name as #account·rows·put-rows}
-use Rattle.account.proofs.rows.put_rows as put
-use Rattle.account.proofs.rows.put_rows.Statement as stated
-use Rattle.account.proofs.rows.put_rows.Code as code
-use Rattle.account.proofs.rows.put_rows.Code.Mir as pieces
+use Rattle.class_rows.proofs.rows.Worked as N
+use Rattle.class_rows.proofs.rows.Worked.Laws as N′
+use Rattle.class_rows.proofs.rows.put_rows.Key.{name as #class-rows·rows·put-rows}
+use Rattle.class_rows.proofs.rows.put_rows as put
+use Rattle.class_rows.proofs.rows.put_rows.Statement as stated
+use Rattle.class_rows.proofs.rows.put_rows.Code as code
+use Rattle.class_rows.proofs.rows.put_rows.Code.Mir as pieces
 
 abbrev Arg : Type 0
 Arg = RefT (List ClassRow) × (Worked × Unit {0})
@@ -352,5 +352,5 @@ pub put-rows-spec : {M : Type 1} → stated.statement M
 unfolding code.routine tablesOf
 put-rows-spec 𝓤 H 𝓜 𝓖 𝓡 =
     entered 𝓤 H (tripleOf 𝓤 H (𝓖 .A) put.signature (put.spec 𝓤 H (𝓖 .A) (𝓜 .mem) (𝓡 .run)))
-    (tables 𝓤 H 𝓜 𝓡 code.env .C) (tables 𝓤 H 𝓜 𝓡 code.env .Λ) #account·rows·put-rows code.function (code.unfolded 𝓤 H 𝓜 𝓡)
+    (tables 𝓤 H 𝓜 𝓡 code.env .C) (tables 𝓤 H 𝓜 𝓡 code.env .Λ) #class-rows·rows·put-rows code.function (code.unfolded 𝓤 H 𝓜 𝓡)
     (put-meets 𝓤 H (𝓖 .A) (givenOf 𝓤 H 𝓜 𝓖) (𝓜 .mem) (𝓡 .run) (tablesOf 𝓤 H 𝓜 (tables 𝓤 H 𝓜 𝓡 code.env)))

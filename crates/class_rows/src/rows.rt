@@ -1,14 +1,12 @@
 // The class account's nine rows as structs: packed from the list of their sums, and stored into the lent rows last of all.
-use crate::ClassRow;
-use crate::classes;
-use crate::judging;
+use account::ClassRow;
 ghost use mathlib.Core.Path.{_≡_};
 ghost use Prim.Native.Nat.{_<_};
 ghost use lib.ListN.{length};
 ghost use Rattle.whole.specs.Rules.{unless-refused};
 ghost use Rattle.whole.specs.Table.{table};
 ghost use Rattle.account.specs.Classes.{row-at};
-ghost use Rattle.account.specs.Steps.{nine-of, Packed};
+ghost use Rattle.class_rows.specs.Steps.{nine-of, Packed};
 
 // What the work gives: the number of the refusal, 0 where nothing is refused, and the rows of the nine classes, which count only then.
 pub struct Worked {
@@ -58,7 +56,8 @@ pub fn pack_rows(refusal: u8, sums: &[i64; 27]) -> Worked
     }
 }
 
-// Judges the call, whose lent rows are `rows` in number, and where nothing is refused works the sums and the local numerators.
+// Judges the sizes of the call, whose lent rows are `rows` in number; the class account judges the rest, and where nothing is refused
+// works the sums and the local numerators.
 pub fn work_rows(
     n: usize,
     values: &[i32],
@@ -71,12 +70,12 @@ pub fn work_rows(
         (now (values .entry)) (now (weights .entry)) (now (classes .entry)) rows (now (locals .entry)) (now (locals .exit)) r ⌝ }
 {
     let mut sums: [i64; 27] = [0; 27];
-    let refusal = judging::judge_classes(n, values, weights, classes, 9, rows, locals.len());
-    if refusal != 0 {
-        return pack_rows(refusal, &sums);
+    let sizes = judges::judge_sizes(n, values.len(), weights.len(), rows, 9);
+    if sizes != 0 {
+        return pack_rows(sizes, &sums);
     }
-    classes::work_classes(n, values, weights, classes, &mut sums, locals);
-    pack_rows(0, &sums)
+    let number = account::class_account(n, values, weights, classes, &mut sums, locals);
+    pack_rows(number, &sums)
 }
 
 // Stores the nine rows, where nothing is refused; answers the number of the refusal.

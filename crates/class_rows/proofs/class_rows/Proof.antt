@@ -46,26 +46,26 @@ use denote.Signature.{plain, shrSliceOf}
 use denote.Exit.{yes}
 use Rattle.whole.specs.Rules.{unless-refused}
 use Rattle.whole.specs.Table.{table}
 use Rattle.account.specs.Classes.{class-row-of, class-refusal}
-use Rattle.account.specs.Steps.{nine-of, Packed}
+use Rattle.class_rows.specs.Steps.{nine-of, Packed}
 use Rattle.account.specs.declared.ClassRow.{ClassRow}
-use Rattle.account.specs.declared.rows.Worked.{Worked}
-use Rattle.account.proofs.Accepted.{class-accepted}
+use Rattle.class_rows.specs.declared.rows.Worked.{Worked}
 use Rattle.account.proofs.ClassRow as T
-use Rattle.account.proofs.rows.Worked as N
-use Rattle.account.proofs.rows.Worked.Laws as N′
-use Rattle.account.proofs.rows.work_rows as work
-use Rattle.account.proofs.rows.work_rows.Symbol as work-def
-use Rattle.account.proofs.rows.work_rows.Symbol.{name as #account·rows·work-rows}
-use Rattle.account.proofs.rows.work_rows.Met as work-thm
-use Rattle.account.proofs.rows.put_rows as put
-use Rattle.account.proofs.rows.put_rows.Symbol as put-def
-use Rattle.account.proofs.rows.put_rows.Symbol.{name as #account·rows·put-rows}
-use Rattle.account.proofs.rows.put_rows.Met as put-thm
-use Rattle.account.proofs.class_rows.Key.{name as #account·class-rows}
-use Rattle.account.proofs.class_rows as rows
-use Rattle.account.proofs.class_rows.Statement as stated
-use Rattle.account.proofs.class_rows.Code as code
+use Rattle.class_rows.proofs.Numbers.{nine-lent}
+use Rattle.class_rows.proofs.rows.Worked as N
+use Rattle.class_rows.proofs.rows.Worked.Laws as N′
+use Rattle.class_rows.proofs.rows.work_rows as work
+use Rattle.class_rows.proofs.rows.work_rows.Symbol as work-def
+use Rattle.class_rows.proofs.rows.work_rows.Symbol.{name as #class-rows·rows·work-rows}
+use Rattle.class_rows.proofs.rows.work_rows.Met as work-thm
+use Rattle.class_rows.proofs.rows.put_rows as put
+use Rattle.class_rows.proofs.rows.put_rows.Symbol as put-def
+use Rattle.class_rows.proofs.rows.put_rows.Symbol.{name as #class-rows·rows·put-rows}
+use Rattle.class_rows.proofs.rows.put_rows.Met as put-thm
+use Rattle.class_rows.proofs.class_rows.Key.{name as #class-rows·class-rows}
+use Rattle.class_rows.proofs.class_rows as rows
+use Rattle.class_rows.proofs.class_rows.Statement as stated
+use Rattle.class_rows.proofs.class_rows.Code as code
 
 -- n and the lists that are only read are passed on, and nothing of them is had at exit
 abbrev stayed : Stays (rows.ended .signature .params) (rows.ended .kept)
@@ -253,8 +253,8 @@ module _ {M : Type 1} (𝓤 : URA M) (H : Heap 𝓤) (A : Atoms 𝓤) (W : Given
       nothing ! $ fjoin ! $ frame ! $ done !
 
   module _ (C : Calls 𝓤 H) (Λ : Loops 𝓤 H) (fm : FmC 𝓤 H (W .laws) C)
-      (known-work : Triple 𝓤 (C #account·rows·work-rows) (Work 𝓤 H A mem run))
-      (known-put : Triple 𝓤 (C #account·rows·put-rows) (Put 𝓤 H A mem run)) where
+      (known-work : Triple 𝓤 (C #class-rows·rows·work-rows) (Work 𝓤 H A mem run))
+      (known-put : Triple 𝓤 (C #class-rows·rows·put-rows) (Put 𝓤 H A mem run)) where
     walk :
         n < 2 ^ 64 → Room i32 (length (v .now)) → Room u8 (length (w .now)) → Room u8 (length (c .now)) → Room T.the-row (length (y .now)) →
         Room i64 (length (m .now)) →
@@ -306,7 +306,7 @@ module _ {M : Type 1} (𝓤 : URA M) (H : Heap 𝓤) (A : Atoms 𝓤) (W : Given
         move ! (4 ∷ 5 ∷ 0 ∷ []) $
         use3 W (raw (Put 𝓤 H A mem run .pre (to-put r u)))
         (goes-put r u
-        (λ z. class-accepted 9 n (v .now) (w .now) (c .now) (length (y .now)) (length (m .now)) (sym (p .number) ∙ z) .rows-fit)) $
+        (λ z. nine-lent n (v .now) (w .now) (c .now) (length (y .now)) (length (m .now)) (sym (p .number) ∙ z))) $
         -- [what `put_rows` asks; the tokens; the last locals; true; _12; …]
         calls-at ! fm (Put 𝓤 H A mem run) known-put (to-put r u)
         (and-then ! (load ! (from ! (stop !)) (look ! 4 refl)) (and-then ! (load ! (from ! (stop !)) (look ! 14 refl)) (no-more !))) (λ a.
@@ -330,8 +330,8 @@ module _ {M : Type 1} (𝓤 : URA M) (H : Heap 𝓤) (A : Atoms 𝓤) (W : Given
 
 module _ {M : Type 1} (𝓤 : URA M) (H : Heap 𝓤) (A : Atoms 𝓤) (W : Given 𝓤 H A) (mem : Memory → SProp 𝓤) (run : Routine → Fun 𝓤) where
   rows-walks :
-      (C : Calls 𝓤 H) (Λ : Loops 𝓤 H) → FmC 𝓤 H (W .laws) C → Triple 𝓤 (C #account·rows·work-rows) (Work 𝓤 H A mem run) →
-      Triple 𝓤 (C #account·rows·put-rows) (Put 𝓤 H A mem run) →
+      (C : Calls 𝓤 H) (Λ : Loops 𝓤 H) → FmC 𝓤 H (W .laws) C → Triple 𝓤 (C #class-rows·rows·work-rows) (Work 𝓤 H A mem run) →
+      Triple 𝓤 (C #class-rows·rows·put-rows) (Put 𝓤 H A mem run) →
       Walks 𝓤 H A rows.ended stayed (WpFn 𝓤 H C Λ code.function) (rows.clauses 𝓤 H A mem run)
   rows-walks C Λ fm known-work known-put = walked 𝓤 H A rows.ended stayed (rows.clauses 𝓤 H A mem run) (WpFn 𝓤 H C Λ code.function)
       (λ κs. (uint-vals w64, (slice-vals, (slice-vals, (slice-vals, (slice-vals, (slice-vals, tt)))))))
@@ -371,7 +371,7 @@ module _ {M : Type 1} (𝓤 : URA M) (H : Heap 𝓤) (A : Atoms 𝓤) (W : Given
 
 rows-meets :
     {M : Type 1} (𝓤 : URA M) (H : Heap 𝓤) (A : Atoms 𝓤) → Given 𝓤 H A → (mem : Memory → SProp 𝓤) (run : Routine → Fun 𝓤) (𝓣 : Tables 𝓤 H) →
-    Triple 𝓤 (𝓣 .C #account·rows·work-rows) (Work 𝓤 H A mem run) → Triple 𝓤 (𝓣 .C #account·rows·put-rows) (Put 𝓤 H A mem run) →
+    Triple 𝓤 (𝓣 .C #class-rows·rows·work-rows) (Work 𝓤 H A mem run) → Triple 𝓤 (𝓣 .C #class-rows·rows·put-rows) (Put 𝓤 H A mem run) →
     Meets 𝓤 H A rows.signature (WpFn 𝓤 H (𝓣 .C) (𝓣 .Λ) code.function) (rows.spec 𝓤 H A mem run)
 rows-meets 𝓤 H A W mem run 𝓣 known-work known-put =
     walk-meets 𝓤 H A rows.ended stayed W (goes 𝓤 H A W mem run) (rows.clauses 𝓤 H A mem run) (WpFn 𝓤 H (𝓣 .C) (𝓣 .Λ) code.function)
@@ -381,9 +381,11 @@ pub class-rows-spec : {M : Type 1} → stated.statement M
 unfolding code.routine tablesOf
 class-rows-spec 𝓤 H 𝓜 𝓖 𝓡 =
     entered 𝓤 H (tripleOf 𝓤 H (𝓖 .A) rows.signature (rows.spec 𝓤 H (𝓖 .A) (𝓜 .mem) (𝓡 .run)))
-    (tables 𝓤 H 𝓜 𝓡 code.env .C) (tables 𝓤 H 𝓜 𝓡 code.env .Λ) #account·class-rows code.function (code.unfolded 𝓤 H 𝓜 𝓡)
+    (tables 𝓤 H 𝓜 𝓡 code.env .C) (tables 𝓤 H 𝓜 𝓡 code.env .Λ) #class-rows·class-rows code.function (code.unfolded 𝓤 H 𝓜 𝓡)
     (rows-meets 𝓤 H (𝓖 .A) (givenOf 𝓤 H 𝓜 𝓖) (𝓜 .mem) (𝓡 .run) (tablesOf 𝓤 H 𝓜 (tables 𝓤 H 𝓜 𝓡 code.env))
-    (cited 𝓤 H (Work 𝓤 H (𝓖 .A) (𝓜 .mem) (𝓡 .run)) 𝓜 𝓡 code.env #account·rows·work-rows work-def.routine code.calls-account·rows·work-rows
+    (cited 𝓤 H (Work 𝓤 H (𝓖 .A) (𝓜 .mem) (𝓡 .run)) 𝓜 𝓡 code.env #class-rows·rows·work-rows work-def.routine
+    code.calls-class-rows·rows·work-rows
     (work-thm.met 𝓤 H 𝓜 𝓖 𝓡))
-    (cited 𝓤 H (Put 𝓤 H (𝓖 .A) (𝓜 .mem) (𝓡 .run)) 𝓜 𝓡 code.env #account·rows·put-rows put-def.routine code.calls-account·rows·put-rows
+    (cited 𝓤 H (Put 𝓤 H (𝓖 .A) (𝓜 .mem) (𝓡 .run)) 𝓜 𝓡 code.env #class-rows·rows·put-rows put-def.routine
+    code.calls-class-rows·rows·put-rows
     (put-thm.met 𝓤 H 𝓜 𝓖 𝓡)))

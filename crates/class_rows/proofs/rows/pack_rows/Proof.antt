@@ -2,8 +2,8 @@
 use mathlib.Core.Path.{refl}
 use borrow.Author.Needs.{needs}
 use Rattle.whole.specs.Table.{table}
-use Rattle.account.proofs.rows.pack_rows.Statement.{statement}
-use Rattle.account.proofs.rows.pack_rows.Tie as tie
+use Rattle.class_rows.proofs.rows.pack_rows.Statement.{statement}
+use Rattle.class_rows.proofs.rows.pack_rows.Tie as tie
 
 row-of-requires : tie.Need-row-of-requires
 row-of-requires c κs = search needs

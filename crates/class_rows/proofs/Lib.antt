@@ -1,0 +1,2 @@
+-- The number of a call by its sizes and by the class account.
+pub mod Numbers

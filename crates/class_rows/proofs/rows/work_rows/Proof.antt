@@ -1,0 +1,118 @@
+-- `work_rows` meets its contract: the sizes are judged first, then the class account judges and works, and the rows are packed from its
+-- 27 sums. Assumes nothing.
+use mathlib.Core.Path.{_≡_, refl, sym, ap, _∙_}
+use mathlib.Core.List.{List}
+use Prim.Native.Nat.{ℕ}
+use borrow.Author.Needs.{needs}
+use lib.IntN.{ℤ}
+use lib.ListN.{length}
+use Rattle.whole.specs.Rules.{first-broken, size-rules, unless-refused}
+use Rattle.whole.specs.Table.{table, table-rows}
+use Rattle.whole.proofs.Rules.{kept-when-refused, worked-when-taken}
+use Rattle.account.specs.Classes.{class-row-of, class-sums, class-locals, class-refusal, row-at}
+use Rattle.class_rows.specs.Steps.{nine-of, Packed}
+use Rattle.class_rows.specs.declared.rows.Worked.{Worked}
+use Rattle.class_rows.proofs.Numbers.{sized, by-sizes, by-account}
+use Rattle.class_rows.proofs.rows.work_rows.Statement.{statement}
+use Rattle.class_rows.proofs.rows.work_rows.Tie as tie
+
+module _ (n : ℕ) (values : List ℤ) (weights classes : List ℕ) where
+  -- the nine rows that lie in the class sums
+  rows-in : table (row-at (class-sums n values weights classes)) 9 ≡ table (class-row-of n values weights classes) 9
+  unfolding table table-rows class-sums
+  rows-in = refl
+
+  module _ (rows : ℕ) (locals : List ℤ) (r : Worked) where
+    -- the number of the call, and of the class account
+    abbrev nine-number : ℕ
+    nine-number = class-refusal 9 n values weights classes rows (length locals)
+
+    abbrev sums-number : ℕ
+    sums-number = class-refusal 27 n values weights classes 27 (length locals)
+
+    refused :
+        (k : ℕ) → k ≡ nine-number → (k ≡ 0 → ⊥) → r .refusal ≡ k →
+        Packed n values weights classes rows locals locals r
+    refused k e f p = record {
+      number = p ∙ e;
+      nine = λ z. absurd (f (sym p ∙ z));
+      numerators = sym (kept-when-refused _ _ _ (λ z. f (e ∙ z)));
+    }
+
+    answered :
+        (k : ℕ) (before sums left : List ℤ) → sums-number ≡ nine-number → k ≡ sums-number → r .refusal ≡ k →
+        nine-of r ≡ table (row-at sums) 9 → sums ≡ unless-refused sums-number (class-sums n values weights classes) before →
+        left ≡ unless-refused sums-number (class-locals n values weights classes) locals →
+        Packed n values weights classes rows locals left r
+    answered k before sums left same e p q s l = record {
+      number = p ∙ e ∙ same;
+      nine = λ z. q ∙ ap (λ (t : List ℤ). table (row-at t) 9) (s ∙ worked-when-taken _ _ _ (sym e ∙ sym p ∙ z)) ∙ rows-in;
+      numerators = l ∙ ap (λ (m : ℕ). unless-refused m (class-locals n values weights classes) locals) same;
+    }
+
+-- what the sizes gave
+sizes-gave :
+    (c : tie.After-judge-sizes) →
+    let a = c .before .before .before .args in
+    c .judge-sizes .result ≡ first-broken (size-rules (a .n) (sized (a .n) (a .values .now) (a .weights .now) (a .rows)))
+sizes-gave c = c .judge-sizes .ensures
+
+-- where they gave nothing, the number is the class account's
+by-sums :
+    (c : tie.Else1) →
+    let a = c .before .before .before .before .args in
+    class-refusal 27 (a .n) (a .values .now) (a .weights .now) (a .classes .now) 27 (length (a .locals .now))
+    ≡ class-refusal 9 (a .n) (a .values .now) (a .weights .now) (a .classes .now) (a .rows) (length (a .locals .now))
+by-sums c =
+    let a = c .before .before .before .before .args in
+    by-account (a .n) (a .values .now) (a .weights .now) (a .classes .now) (a .rows) (length (a .locals .now))
+    (sym (sizes-gave (c .before)) ∙ c .if1 .left)
+
+judge-sizes-requires : tie.Need-judge-sizes-requires
+judge-sizes-requires c κs = search needs
+
+pack-rows-requires : tie.Need-pack-rows-requires
+pack-rows-requires c κs = search needs
+
+returns : tie.Need-returns
+returns c =
+    let b = c .before .before in
+    let a = b .before .before .before .before .args in
+    refused (a .n) (a .values .now) (a .weights .now) (a .classes .now) (a .rows) (a .locals .now) _ _
+    (by-sizes (a .n) (a .values .now) (a .weights .now) (a .classes .now) (a .rows) (length (a .locals .now)) _ (sizes-gave (b .before))
+    (b .if1 .taken))
+    (b .if1 .taken)
+    (c .pack-rows .ensures .0)
+
+slice-aggregate-class-account : tie.Need-slice-aggregate-class-account
+slice-aggregate-class-account c = search needs
+
+class-account-requires : tie.Need-class-account-requires
+class-account-requires c κs = search needs
+
+pack-rows-requires-2 : tie.Need-pack-rows-requires-2
+pack-rows-requires-2 c κs = search needs
+
+same-length : tie.Need-same-length
+same-length c = search needs
+
+returns-2 : tie.Need-returns-2
+returns-2 c =
+    let w = c .before .before .before .before in
+    let told = w .class-account .ensures in
+    answered _ _ _ _ _ _ _ _ _ _ _ (by-sums (w .before .before .before)) (told .0) (c .pack-rows2 .ensures .0) (c .pack-rows2 .ensures .1)
+    (told .1 .0)
+    (told .1 .1)
+
+pub work-rows-spec : {M : Type 1} → statement M
+work-rows-spec =
+    tie.close
+    (tie.spec
+    judge-sizes-requires
+    pack-rows-requires
+    returns
+    slice-aggregate-class-account
+    class-account-requires
+    pack-rows-requires-2
+    same-length
+    returns-2)
