@@ -1,12 +1,15 @@
 -- The sums that the loops run, from the lists that the code reads: each stays within an i64. Assumes nothing.
+use mathlib.Core.Path.{_≡_}
 use mathlib.Core.List.{List}
 use Prim.Native.Nat.{ℕ, _≤_, _<_}
+use native.Mathlib.Nat as N
 use native.Mathlib.Omega.{arith}
 use lib.IntN.{ℤ, pos, natAbs, _-ℤ_, _*ℤ_}
 use mir.Syntax.{w64}
 use Rattle.whole.specs.Integer.{square}
 use Rattle.whole.specs.Sum.{sum}
 use Rattle.whole.proofs.Accumulate.{Bounded}
+use Rattle.whole.proofs.Machine.{Is, val, told, rd, is-*, r64}
 use Rattle.whole.proofs.Size.{size-*-le}
 use Rattle.whole.proofs.SumSize.{sum-size}
 use Rattle.whole.specs.Table.{at, pair-at}
@@ -42,6 +45,15 @@ module _ (weights : List ℕ) (n : ℕ) (w : Weighted weights n) where
         (λ i j p q. s .size j q) i m h k;
     small = tt;
   }
+
+  -- d(i) times the weighted neighbours, as the machine has them
+  pub local-is :
+      (d : List ℤ) (i : ℕ) → Sized 12800000 d n → i < n → {y : ℤ} → y ≡ row-of (pair-at weights n) (λ i j. at d j) i n →
+      Is (r64 (at d i) *ℤ r64 y) (local-of (pair-at weights n) (at d) n i) 94371840000000000
+  unfolding local-of row-of
+  local-is d i s h e =
+      is-* (rd w64 (val (at d i) 12800000 (s .size i h)) tt)
+      (rd w64 (told _ 7372800000 e (neighbours-run d i s h .bound n (N.le-refl n))) tt)
 
   pub cross-runs : (d : List ℤ) → Sized 12800000 d n → Bounded w64 (local-of (pair-at weights n) (at d) n) n 6039797760000000000
   cross-runs d s = record {

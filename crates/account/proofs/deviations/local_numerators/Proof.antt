@@ -1,16 +1,15 @@
 -- `local_numerators` meets its contract. The loop's invariant: each element passed is its local numerator. Assumes nothing.
 use mathlib.Core.Path.{_≡_}
 use Prim.Native.Nat.{ℕ, _-_, _≤_, _<_}
-use native.Mathlib.Nat as N
 use native.Mathlib.Omega.{arith}
 use lib.IntN.{pos, _*ℤ_}
 use lib.ListN.{length, length-set}
 use mir.Syntax.{w64}
-use Rattle.whole.proofs.Machine.{Is, val, told, rd, is-*, fit, r64}
+use Rattle.whole.proofs.Machine.{Is, rd, fit, r64}
 use Rattle.whole.proofs.Table.{is-table, stored}
 use Rattle.whole.specs.Table.{at, pair-at}
-use Rattle.account.specs.Measures.{row-of, local-of}
-use Rattle.account.proofs.Running.{neighbours-run}
+use Rattle.account.specs.Measures.{local-of}
+use Rattle.account.proofs.Running.{local-is}
 use Rattle.account.proofs.deviations.local_numerators.Statement.{statement}
 use Rattle.account.proofs.deviations.local_numerators.Tie as tie
 
@@ -28,13 +27,10 @@ local :
     let a = b .before .before .args in
     Is (r64 (at (a .d .now) (b .loop .i)) *ℤ r64 (c .before .neighbour-sum .result))
     (local-of (pair-at (a .weights .now) (a .n)) (at (a .d .now)) (a .n) (b .loop .i)) 94371840000000000
-unfolding local-of row-of
 local c =
     let b = c .before .before .before in
-    let a = b .before .before in
-    let run = neighbours-run _ _ (a .pre .0) _ (b .loop .i) (a .pre .1 .0) (omega arith) in
-    is-* (rd w64 (val (at (a .args .d .now) (b .loop .i)) 12800000 (a .pre .1 .0 .size (b .loop .i) (omega arith))) tt)
-    (rd w64 (told _ 7372800000 (c .before .neighbour-sum .ensures) (run .bound (a .args .n) (N.le-refl (a .args .n)))) tt)
+    let p = b .before .before .pre in
+    local-is _ _ (p .0) _ (b .loop .i) (p .1 .0) (omega arith) (c .before .neighbour-sum .ensures)
 
 loop-holds : tie.Need-loop-holds Inv-loop μ-loop
 loop-holds c = (omega arith, (omega arith, λ k p. let z : ⊥ = omega arith in absurd z))

@@ -2,7 +2,6 @@
 -- Assumes nothing.
 use mathlib.Core.Path.{_≡_, ap, _∙_}
 use Prim.Native.Nat.{_+_, _-_, _≤_}
-use native.Mathlib.Nat as N
 use native.Mathlib.Omega.{arith}
 use lib.IntN.{_+ℤ_, _*ℤ_}
 use mir.Syntax.{w64}
@@ -10,10 +9,10 @@ use mir.Val.{toZ, ofZ}
 use Rattle.whole.specs.Sum.{sum}
 use Rattle.whole.specs.Table.{at, pair-at}
 use Rattle.whole.proofs.Accumulate.{acc-none, acc-more, acc-done}
-use Rattle.whole.proofs.Machine.{Is, val, told, rd, is-*, fit, r64}
-use Rattle.account.specs.Measures.{row-of, local-of}
+use Rattle.whole.proofs.Machine.{Is, rd, fit, r64}
+use Rattle.account.specs.Measures.{local-of}
 use Rattle.account.proofs.Adding.{locals-sum}
-use Rattle.account.proofs.Running.{neighbours-run, cross-runs}
+use Rattle.account.proofs.Running.{local-is, cross-runs}
 use Rattle.account.proofs.ranking.cross_sum.Statement.{statement}
 use Rattle.account.proofs.ranking.cross_sum.Tie as tie
 
@@ -34,11 +33,7 @@ module _ (c : tie.After-deviation Inv-loop μ-loop) where
   local :
       Is (r64 (at (a .args .d .now) (b .loop .i)) *ℤ r64 (c .before .neighbour-sum .result))
       (local-of (pair-at (a .args .weights .now) (a .args .n)) (at (a .args .d .now)) (a .args .n) (b .loop .i)) 94371840000000000
-  unfolding local-of row-of
-  local =
-      let run = neighbours-run _ _ (a .pre .0) _ (b .loop .i) (a .pre .1) (omega arith) in
-      is-* (rd w64 (val (at (a .args .d .now) (b .loop .i)) 12800000 (a .pre .1 .size (b .loop .i) (omega arith))) tt)
-      (rd w64 (told _ 7372800000 (c .before .neighbour-sum .ensures) (run .bound (a .args .n) (N.le-refl (a .args .n)))) tt)
+  local = local-is _ _ (a .pre .0) _ (b .loop .i) (a .pre .1) (omega arith) (c .before .neighbour-sum .ensures)
 
   turn :
       Is (toZ w64 (b .loop .acc) +ℤ r64 (r64 (at (a .args .d .now) (b .loop .i)) *ℤ r64 (c .before .neighbour-sum .result)))
