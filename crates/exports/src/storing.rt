@@ -6,7 +6,7 @@ use coefficients::Pair;
 use image::Given;
 ghost use mathlib.Core.Path.{_≡_};
 ghost use mathlib.Core.List.{[], _∷_};
-ghost use Prim.Native.Nat.{_+_, _*_, _≤_, _<_};
+ghost use Prim.Native.Nat.{_+_, _*_, _<_};
 ghost use lib.ListN.{length, getD};
 ghost use Rattle.whole.specs.Table.{table};
 ghost use Rattle.account.specs.Answers.{five};
