@@ -16,24 +16,8 @@ const GIVEN: Given = Given {
     bands: 2,
     shuffles: 2,
 };
-const REPORT: &str = "\
-zones 4 8 16
-joins 8 64 8
-moran 64 128 3FE0000000000000
-geary 96 256 3FD8000000000000
-expected -1 3
-local 0 48 16 4008000000000000
-local 1 32 16 4000000000000000
-local 3 0 16 0000000000000000
-local 2 -16 16 BFF0000000000000
-pair 0 0 6
-pair 0 1 1
-pair 1 0 1
-class 0 0 0 0 - -
-class 1 6 96 0 3FF0000000000000 0000000000000000
-class 2 2 -32 8 BFF0000000000000 3FF8000000000000
-rank 1 1 0
-";
+/// The worked report, which samples/ keeps.
+const REPORT: &str = include_str!("../../../samples/report.report");
 
 /// All weights 1 but those of the diagonal.
 fn complete(n: usize) -> Vec<u8> {

@@ -137,23 +137,5 @@ fn whole_report() {
     let (mut text, mut text_length) = ([0; own::TEXT], [0]);
     assert_eq!(own::report(&image[..92], &mut text, &mut text_length), 0);
     let said = std::str::from_utf8(&text[..text_length[0] as usize]).unwrap();
-    let printed = "\
-zones 4 8 16
-joins 8 64 8
-moran 64 128 3FE0000000000000
-geary 96 256 3FD8000000000000
-expected -1 3
-local 0 48 16 4008000000000000
-local 1 32 16 4000000000000000
-local 3 0 16 0000000000000000
-local 2 -16 16 BFF0000000000000
-pair 0 0 6
-pair 0 1 1
-pair 1 0 1
-class 0 0 0 0 - -
-class 1 6 96 0 3FF0000000000000 0000000000000000
-class 2 2 -32 8 BFF0000000000000 3FF8000000000000
-rank 1 1 0
-";
-    assert_eq!(said, printed);
+    assert_eq!(said, include_str!("../../../samples/report.report"));
 }
