@@ -69,7 +69,7 @@ put-having-requires : tie.Need-put-having-requires
 put-having-requires c κs = search needs
 
 same-length : tie.Need-same-length
-same-length c = c .before .before .before .before .before .before .plain-report .kept .1 .1 .1 .1 .0
+same-length c = search needs
 
 returns-4 : tie.Need-returns-4
 returns-4 c =
@@ -93,16 +93,16 @@ returns-4 c =
     (c .before .whole .given .1)
 
 same-length-2 : tie.Need-same-length-2
-same-length-2 c = c .before .before .before .before .before .before .before .before .before .before .put-pair .kept .0
+same-length-2 c = search needs
 
 same-length-3 : tie.Need-same-length-3
-same-length-3 c = let w = c .before .before .before .before .before .before .before .before .before .before .before .before .before in w .before .before .before .before .before .plain-report .kept .1 .1 .1 .1 .0
+same-length-3 c = search needs
 
 same-length-4 : tie.Need-same-length-4
-same-length-4 c = c .before .before .before .before .before .before .put-pairs .kept .0
+same-length-4 c = search needs
 
 same-length-5 : tie.Need-same-length-5
-same-length-5 c = c .before .before .put-having .kept .0
+same-length-5 c = search needs
 
 returns-5 : tie.Need-returns-5
 returns-5 c =

@@ -26,22 +26,22 @@ put-counts-requires : tie.Need-put-counts-requires
 put-counts-requires c κs = search needs
 
 same-length : tie.Need-same-length
-same-length c = c .before .before .before .before .before .before .before .before .before .before .before .before .before .read .kept .1 .0
+same-length c = search needs
 
 same-length-2 : tie.Need-same-length-2
-same-length-2 c = c .before .before .before .before .before .before .before .before .before .before .before .before .before .read .kept .1 .1 .0
+same-length-2 c = search needs
 
 same-length-3 : tie.Need-same-length-3
-same-length-3 c = c .before .before .before .before .before .before .before .before .before .before .before .before .before .read .kept .1 .1 .1 .0
+same-length-3 c = search needs
 
 same-length-4 : tie.Need-same-length-4
-same-length-4 c = c .before .before .before .before .before .before .before .before .before .before .before .before .before .read .kept .1 .1 .1 .1 .0
+same-length-4 c = search needs
 
 same-length-5 : tie.Need-same-length-5
-same-length-5 c = c .before .before .before .before .before .before .before .before .before .before .before .before .before .read .kept .1 .1 .1 .1 .1 .0
+same-length-5 c = search needs
 
 same-length-6 : tie.Need-same-length-6
-same-length-6 c = c .before .before .before .before .before .before .before .before .before .before .before .before .before .read .kept .1 .1 .1 .1 .1 .1 .0
+same-length-6 c = search needs
 
 returns-2 : tie.Need-returns-2
 returns-2 c =
@@ -61,25 +61,25 @@ returns-2 c =
     (c .before .number .given .1)
 
 same-length-7 : tie.Need-same-length-7
-same-length-7 c = let d = c .before .before .before .before .before .before .before in d .before .before .before .before .before .before .before .before .before .before .read .kept .1 .0
+same-length-7 c = search needs
 
 same-length-8 : tie.Need-same-length-8
-same-length-8 c = let d = c .before .before .before .before .before .before .before in d .before .before .before .before .before .before .before .before .before .before .read .kept .1 .1 .0
+same-length-8 c = search needs
 
 same-length-9 : tie.Need-same-length-9
-same-length-9 c = let d = c .before .before .before .before .before .before .before in d .before .before .before .before .before .before .before .before .before .before .read .kept .1 .1 .1 .0
+same-length-9 c = search needs
 
 same-length-10 : tie.Need-same-length-10
-same-length-10 c = let d = c .before .before .before .before .before .before .before in d .before .before .before .before .before .before .before .before .before .before .read .kept .1 .1 .1 .1 .0
+same-length-10 c = search needs
 
 same-length-11 : tie.Need-same-length-11
-same-length-11 c = let d = c .before .before .before .before .before .before .before in d .before .before .before .before .before .before .before .before .before .before .read .kept .1 .1 .1 .1 .1 .0
+same-length-11 c = search needs
 
 same-length-12 : tie.Need-same-length-12
-same-length-12 c = let d = c .before .before .before .before .before .before .before in d .before .before .before .before .before .before .before .before .before .before .read .kept .1 .1 .1 .1 .1 .1 .0
+same-length-12 c = search needs
 
 same-length-13 : tie.Need-same-length-13
-same-length-13 c = c .before .before .put-counts .kept .1 .0
+same-length-13 c = search needs
 
 returns-3 : tie.Need-returns-3
 returns-3 c =

@@ -93,7 +93,7 @@ put-length-requires : tie.Need-put-length-requires
 put-length-requires c κs = search needs
 
 same-length : tie.Need-same-length
-same-length c = c .before .before .before .before .before .write .kept .1 .1 .1 .1 .1 .1 .1 .0
+same-length c = search needs
 
 returns-4 : tie.Need-returns-4
 returns-4 c =
@@ -118,10 +118,10 @@ returns-4 c =
     (c .before .number .given .1)
 
 same-length-2 : tie.Need-same-length-2
-same-length-2 c = c .before .before .before .before .before .before .before .before .before .write .kept .1 .1 .1 .1 .1 .1 .1 .0
+same-length-2 c = search needs
 
 same-length-3 : tie.Need-same-length-3
-same-length-3 c = c .before .before .put-length .kept .1 .0
+same-length-3 c = search needs
 
 returns-5 : tie.Need-returns-5
 returns-5 c =
