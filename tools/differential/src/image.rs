@@ -160,6 +160,9 @@ impl<'a> Image<'a> {
     }
 }
 
+/// What the six buffers of the reader and of the writer must hold.
+const BUFFER_LENGTHS: [usize; 6] = [ZONES, ZONES, ZONES * ZONES, 2 * ZONES, BANDS, SHUFFLE_BYTES];
+
 #[allow(clippy::too_many_arguments)]
 pub fn read(
     image: &[u8],
@@ -171,14 +174,15 @@ pub fn read(
     shuffles: &mut [u8],
     counts: &mut [u64],
 ) -> u8 {
-    if values.len() != ZONES
-        || categories.len() != ZONES
-        || weights.len() != ZONES * ZONES
-        || places.len() != 2 * ZONES
-        || bands.len() != BANDS
-        || shuffles.len() != SHUFFLE_BYTES
-        || counts.len() != 6
-    {
+    let lengths = [
+        values.len(),
+        categories.len(),
+        weights.len(),
+        places.len(),
+        bands.len(),
+        shuffles.len(),
+    ];
+    if lengths != BUFFER_LENGTHS || counts.len() != 6 {
         return 2;
     }
     let image = match Image::parse(image) {
@@ -355,14 +359,15 @@ pub fn write(
     if !(2..=ZONES as u64).contains(&counts[0]) {
         return 1;
     }
-    if values.len() != ZONES
-        || categories.len() != ZONES
-        || weights.len() != ZONES * ZONES
-        || places.len() != 2 * ZONES
-        || bands.len() != BANDS
-        || shuffles.len() != SHUFFLE_BYTES
-        || length.len() != 1
-    {
+    let lengths = [
+        values.len(),
+        categories.len(),
+        weights.len(),
+        places.len(),
+        bands.len(),
+        shuffles.len(),
+    ];
+    if lengths != BUFFER_LENGTHS || length.len() != 1 {
         return 2;
     }
     let lent = Buffers {
