@@ -11,7 +11,7 @@ ghost use Rattle.account.specs.Classes.{class-sums, class-locals};
 ghost use Rattle.account.specs.Steps.{Sized, ClassJob, row-added, zone-part, Zoned};
 
 // Adds to W, P and G of class k. A local numerator is the largest number that is added, and 64 of them fit.
-pub fn add_row(rows: &mut [i64], k: usize, weight: i64, cross: i64, squares: i64)
+pub(super) fn add_row(rows: &mut [i64], k: usize, weight: i64, cross: i64, squares: i64)
     requires { ⌜ Sized 6039797760000000000 (now rows) 27 ⌝ }
     requires { ⌜ k < 9 ⌝ }
     requires { ⌜ natAbs weight ≤ 94371840000000000 ⌝ }
@@ -30,7 +30,7 @@ pub fn add_row(rows: &mut [i64], k: usize, weight: i64, cross: i64, squares: i64
 
 // Adds the pairs of zone i to the three sums of their classes: the weight of each, the weight times d(j), and the weight times
 // (x(i) - x(j)) squared.
-pub fn add_pairs(
+pub(super) fn add_pairs(
     n: usize,
     values: &[i32],
     d: &[i64],
@@ -62,7 +62,7 @@ pub fn add_pairs(
 }
 
 // Adds zone i to the three sums of each class, and puts its local numerators, of which P is the sum, into their places.
-pub fn add_zone(
+pub(super) fn add_zone(
     n: usize,
     values: &[i32],
     d: &[i64],
@@ -95,7 +95,7 @@ pub fn add_zone(
 }
 
 // Sets the 27 sums to 0.
-pub fn clear(rows: &mut [i64])
+pub(super) fn clear(rows: &mut [i64])
     requires { ⌜ length (now rows) ≡ 27 ⌝ }
     ensures { λ _. ⌜ now (rows .exit) ≡ table-rows (λ k place. pos 0) 9 3 ⌝ }
 {
@@ -107,7 +107,7 @@ pub fn clear(rows: &mut [i64])
 }
 
 // The class account of an accepted job, zone by zone: d is worked once, for all of them.
-pub fn work_classes(
+pub(super) fn work_classes(
     n: usize,
     values: &[i32],
     weights: &[u8],

@@ -8,7 +8,7 @@ ghost use Rattle.account.specs.Measures.{total-of, deviation-of, row-of,
 ghost use Rattle.account.specs.Steps.{Sized, Valued, Weighted};
 
 // S.
-pub fn total(n: usize, values: &[i32]) -> i64
+pub(super) fn total(n: usize, values: &[i32]) -> i64
     requires { ⌜ Valued (now values) n ⌝ }
     ensures { λ r. ⌜ r ≡ total-of (at (now (values .entry))) n ⌝ }
 {
@@ -22,7 +22,7 @@ pub fn total(n: usize, values: &[i32]) -> i64
 }
 
 // The deviations d(i), with their sign.
-pub fn deviations(n: usize, values: &[i32], d: &mut [i64])
+pub(super) fn deviations(n: usize, values: &[i32], d: &mut [i64])
     requires { ⌜ Valued (now values) n ⌝ }
     requires { ⌜ length (now d) ≡ n ⌝ }
     ensures { λ _. ⌜ now (d .exit) ≡ table (deviation-of (at (now (values .entry))) n) n ⌝ }
@@ -39,7 +39,7 @@ pub fn deviations(n: usize, values: &[i32], d: &mut [i64])
 }
 
 // The weighted neighbours of zone i: the sum over j of w(i,j) d(j).
-pub fn neighbour_sum(n: usize, weights: &[u8], d: &[i64], i: usize) -> i64
+pub(super) fn neighbour_sum(n: usize, weights: &[u8], d: &[i64], i: usize) -> i64
     requires { ⌜ Weighted (now weights) n ⌝ }
     requires { ⌜ Sized 12800000 (now d) n ⌝ }
     requires { ⌜ i < n ⌝ }
@@ -58,7 +58,7 @@ pub fn neighbour_sum(n: usize, weights: &[u8], d: &[i64], i: usize) -> i64
 }
 
 // The local numerators L(i).
-pub fn local_numerators(n: usize, weights: &[u8], d: &[i64], locals: &mut [i64])
+pub(super) fn local_numerators(n: usize, weights: &[u8], d: &[i64], locals: &mut [i64])
     requires { ⌜ Weighted (now weights) n ⌝ }
     requires { ⌜ Sized 12800000 (now d) n ⌝ }
     requires { ⌜ length (now locals) ≡ n ⌝ }
@@ -75,7 +75,7 @@ pub fn local_numerators(n: usize, weights: &[u8], d: &[i64], locals: &mut [i64])
 }
 
 // The sum of n local numerators.
-pub fn sum_of(n: usize, locals: &[i64]) -> i64
+pub(super) fn sum_of(n: usize, locals: &[i64]) -> i64
     requires { ⌜ n ≤ 64 ⌝ }
     requires { ⌜ Sized 94371840000000000 (now locals) n ⌝ }
     ensures { λ r. ⌜ r ≡ sum (at (now (locals .entry))) n ⌝ }

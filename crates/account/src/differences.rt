@@ -10,7 +10,7 @@ ghost use Rattle.account.specs.Measures.{spread-of, row-of, squares-of};
 ghost use Rattle.account.specs.Steps.{Valued, Job};
 
 // The squared difference of two values.
-pub fn squared_difference(a: i32, b: i32) -> i64
+pub(super) fn squared_difference(a: i32, b: i32) -> i64
     requires { ⌜ natAbs a ≤ 100000 ⌝ }
     requires { ⌜ natAbs b ≤ 100000 ⌝ }
     ensures { λ r. ⌜ r ≡ square (a -ℤ b) ⌝ }
@@ -20,7 +20,7 @@ pub fn squared_difference(a: i32, b: i32) -> i64
 }
 
 // The sum of the squares of the values.
-pub fn square_sum(n: usize, values: &[i32]) -> i64
+pub(super) fn square_sum(n: usize, values: &[i32]) -> i64
     requires { ⌜ Valued (now values) n ⌝ }
     ensures { λ r. ⌜ r ≡ sum (λ i. square (at (now (values .entry)) i)) n ⌝ }
 {
@@ -35,7 +35,7 @@ pub fn square_sum(n: usize, values: &[i32]) -> i64
 }
 
 // M, without a walk over the pairs: n times the sum of the squares, less the square of the sum.
-pub fn spread(n: usize, values: &[i32]) -> i64
+pub(super) fn spread(n: usize, values: &[i32]) -> i64
     requires { ⌜ Valued (now values) n ⌝ }
     ensures { λ r. ⌜ r ≡ spread-of (at (now (values .entry))) n ⌝ }
 {
@@ -46,7 +46,7 @@ pub fn spread(n: usize, values: &[i32]) -> i64
 }
 
 // The weighted squared differences of zone i.
-pub fn row_squares(n: usize, values: &[i32], weights: &[u8], i: usize) -> i64
+pub(super) fn row_squares(n: usize, values: &[i32], weights: &[u8], i: usize) -> i64
     requires { ⌜ Job (now values) (now weights) n ⌝ }
     requires { ⌜ i < n ⌝ }
     ensures { λ r. ⌜ r ≡ row-of (pair-at (now (weights .entry)) n)
@@ -66,7 +66,7 @@ pub fn row_squares(n: usize, values: &[i32], weights: &[u8], i: usize) -> i64
 }
 
 // G.
-pub fn squares(n: usize, values: &[i32], weights: &[u8]) -> i64
+pub(super) fn squares(n: usize, values: &[i32], weights: &[u8]) -> i64
     requires { ⌜ Job (now values) (now weights) n ⌝ }
     ensures { λ r. ⌜ r ≡ squares-of (pair-at (now (weights .entry)) n) (at (now (values .entry))) n ⌝ }
 {

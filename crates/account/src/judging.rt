@@ -10,7 +10,7 @@ ghost use Rattle.account.specs.Classes.{class-refusal};
 ghost use Rattle.account.specs.Rank.{rank-refusal};
 
 // 1, 2 and 3 of values alone.
-pub fn judge_values(n: usize, values: &[i32]) -> u8
+pub(super) fn judge_values(n: usize, values: &[i32]) -> u8
     ensures { λ r. ⌜ r ≡ values-refusal n (now (values .entry)) ⌝ }
 {
     if n < 2 {
@@ -29,7 +29,7 @@ pub fn judge_values(n: usize, values: &[i32]) -> u8
 }
 
 // 3 to 7, of a job whose sizes are good.
-pub fn judge_job(n: usize, values: &[i32], weights: &[u8]) -> u8
+pub(super) fn judge_job(n: usize, values: &[i32], weights: &[u8]) -> u8
     requires { ⌜ n ≤ 64 ⌝ }
     requires { ⌜ length (now values) ≡ n ⌝ }
     requires { ⌜ length (now weights) ≡ n * n ⌝ }
@@ -54,7 +54,7 @@ pub fn judge_job(n: usize, values: &[i32], weights: &[u8]) -> u8
 }
 
 // 1 to 7: the refusal of the account. What the n lent places hold is not judged, so their number is all that is asked for.
-pub fn judge_account(n: usize, values: &[i32], weights: &[u8], places: usize) -> u8
+pub(super) fn judge_account(n: usize, values: &[i32], weights: &[u8], places: usize) -> u8
     ensures { λ r. ⌜ r ≡ first-broken (call-rules n (now (values .entry)) (now (weights .entry)) ((places, n) ∷ []) []) ⌝ }
 {
     let sizes = judges::judge_sizes(n, values.len(), weights.len(), places, n);
@@ -72,7 +72,7 @@ pub fn judge(n: usize, values: &[i32], weights: &[u8]) -> u8
 }
 
 // 1 and 2 of a class account: n, and the lengths of its five lists, the nine rows in `room` places.
-pub fn judge_class_sizes(
+pub(super) fn judge_class_sizes(
     n: usize,
     values: usize,
     weights: usize,
@@ -101,7 +101,7 @@ pub fn judge_class_sizes(
 }
 
 // 1 to 7, then 9: the class account's refusal.
-pub fn judge_classes(
+pub(super) fn judge_classes(
     n: usize,
     values: &[i32],
     weights: &[u8],
@@ -135,7 +135,7 @@ pub fn judge_classes(
 }
 
 // 1 to 7, then 13: the rank's refusal. The list of shuffles is judged alone; its 2 goes before the job's numbers, its 13 after them.
-pub fn judge_rank(n: usize, values: &[i32], weights: &[u8], shuffles: &[u8]) -> u8
+pub(super) fn judge_rank(n: usize, values: &[i32], weights: &[u8], shuffles: &[u8]) -> u8
     ensures { λ r. ⌜ r ≡ rank-refusal n (now (values .entry)) (now (weights .entry)) (now (shuffles .entry)) ⌝ }
 {
     let sizes = judges::judge_sizes(n, values.len(), weights.len(), n, n);

@@ -9,7 +9,7 @@ ghost use Rattle.account.specs.Rank.{values-cross, shuffle-cross, compar
 ghost use Rattle.account.specs.Steps.{Sized, Weighted, Job, cross-held, cross-moved};
 
 // The P of the deviations d: each row's weighted neighbours are added up first, and multiplied by the row's d once.
-pub fn cross_sum(n: usize, weights: &[u8], d: &[i64]) -> i64
+pub(super) fn cross_sum(n: usize, weights: &[u8], d: &[i64]) -> i64
     requires { ⌜ Weighted (now weights) n ⌝ }
     requires { ⌜ Sized 12800000 (now d) n ⌝ }
     ensures { λ r. ⌜ r ≡ cross-held (now (weights .entry)) n (now (d .entry)) ⌝ }
@@ -26,7 +26,7 @@ pub fn cross_sum(n: usize, weights: &[u8], d: &[i64]) -> i64
 }
 
 // The P of shuffle r, from the job's deviations.
-pub fn shuffle_cross(n: usize, weights: &[u8], d: &[i64], shuffles: &[u8], r: usize) -> i64
+pub(super) fn shuffle_cross(n: usize, weights: &[u8], d: &[i64], shuffles: &[u8], r: usize) -> i64
     requires { ⌜ Weighted (now weights) n ⌝ }
     requires { ⌜ Sized 12800000 (now d) n ⌝ }
     requires { ⌜ Shuffle (now shuffles) n r ⌝ }
@@ -38,7 +38,7 @@ pub fn shuffle_cross(n: usize, weights: &[u8], d: &[i64], shuffles: &[u8], r: us
 }
 
 // How many shuffles have a P less than, equal to, greater than the job's own.
-pub fn tally(n: usize, weights: &[u8], d: &[i64], shuffles: &[u8], rows: usize) -> Counts
+pub(super) fn tally(n: usize, weights: &[u8], d: &[i64], shuffles: &[u8], rows: usize) -> Counts
     requires { ⌜ Weighted (now weights) n ⌝ }
     requires { ⌜ Sized 12800000 (now d) n ⌝ }
     requires { ⌜ Shuffles (now shuffles) n rows ⌝ }
@@ -69,7 +69,13 @@ pub fn tally(n: usize, weights: &[u8], d: &[i64], shuffles: &[u8], rows: usize) 
 }
 
 // The rank of an accepted job.
-pub fn work_rank(n: usize, values: &[i32], weights: &[u8], shuffles: &[u8], rows: usize) -> Counts
+pub(super) fn work_rank(
+    n: usize,
+    values: &[i32],
+    weights: &[u8],
+    shuffles: &[u8],
+    rows: usize,
+) -> Counts
     requires { ⌜ Job (now values) (now weights) n ⌝ }
     requires { ⌜ Shuffles (now shuffles) n rows ⌝ }
     ensures { λ c. ⌜ three c ≡ compared (shuffle-cross n (now (values .entry)) (now (weights .entry)) (now (shuffles .entry)))

@@ -5,7 +5,7 @@ ghost use Rattle.whole.specs.Table.{table, at, pair-at};
 ghost use Rattle.shuffles.specs.Steps.{Shuffle};
 
 // The deviations in shuffle r: zone i takes that of the zone named at place i.
-pub fn shuffle_deviations(n: usize, d: &[i64], shuffles: &[u8], r: usize, moved: &mut [i64])
+pub(super) fn shuffle_deviations(n: usize, d: &[i64], shuffles: &[u8], r: usize, moved: &mut [i64])
     requires { ⌜ length (now d) ≡ n ⌝ }
     requires { ⌜ length (now moved) ≡ n ⌝ }
     requires { ⌜ Shuffle (now shuffles) n r ⌝ }

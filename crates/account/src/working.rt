@@ -11,7 +11,7 @@ ghost use Rattle.account.specs.Answers.{five, class-row, job-figures, jo
 ghost use Rattle.account.specs.Steps.{Weighted, Job};
 
 // W, in 32 bits, so that the compiler can add several weights at a time.
-pub fn weight_sum(n: usize, weights: &[u8]) -> i64
+pub(super) fn weight_sum(n: usize, weights: &[u8]) -> i64
     requires { ⌜ Weighted (now weights) n ⌝ }
     ensures { λ r. ⌜ r ≡ weight-of (pair-at (now (weights .entry)) n) n ⌝ }
 {
@@ -25,7 +25,7 @@ pub fn weight_sum(n: usize, weights: &[u8]) -> i64
 }
 
 // W, P and G for weights of any kind, with the local numerators in `locals`. The deviations d are those of the whole job.
-pub fn pair_sums(
+pub(super) fn pair_sums(
     n: usize,
     values: &[i32],
     d: &[i64],
@@ -50,7 +50,7 @@ pub fn pair_sums(
 }
 
 // The five sums of the job, with its local numerators in `locals`.
-pub fn job_sums(n: usize, values: &[i32], weights: &[u8], locals: &mut [i64]) -> Sums
+pub(super) fn job_sums(n: usize, values: &[i32], weights: &[u8], locals: &mut [i64]) -> Sums
     requires { ⌜ Job (now values) (now weights) n ⌝ }
     requires { ⌜ length (now locals) ≡ n ⌝ }
     ensures { λ r. ⌜ five r ≡ job-figures n (now (values .entry)) (now (weights .entry)) ⌝ }

@@ -23,7 +23,7 @@ pub struct Worked {
 }
 
 // The row of class k, from the three sums in its places.
-pub fn row_of(sums: &[i64; 27], k: usize) -> ClassRow
+pub(super) fn row_of(sums: &[i64; 27], k: usize) -> ClassRow
     requires { ⌜ k < 9 ⌝ }
     ensures { λ r. ⌜ r ≡ row-at (now (sums .entry)) k ⌝ }
 {
@@ -39,7 +39,7 @@ pub fn row_of(sums: &[i64; 27], k: usize) -> ClassRow
 }
 
 // The nine rows, beside the number of the refusal.
-pub fn pack_rows(refusal: u8, sums: &[i64; 27]) -> Worked
+pub(super) fn pack_rows(refusal: u8, sums: &[i64; 27]) -> Worked
     ensures { λ r. ⌜ (r .refusal ≡ refusal) × (nine-of r ≡ table (row-at (now (sums .entry))) 9) ⌝ }
 {
     Worked {
@@ -58,7 +58,7 @@ pub fn pack_rows(refusal: u8, sums: &[i64; 27]) -> Worked
 
 // Judges the sizes of the call, whose lent rows are `rows` in number; the class account judges the rest, and where nothing is refused
 // works the sums and the local numerators.
-pub fn work_rows(
+pub(super) fn work_rows(
     n: usize,
     values: &[i32],
     weights: &[u8],
@@ -79,7 +79,7 @@ pub fn work_rows(
 }
 
 // Stores the nine rows, where nothing is refused; answers the number of the refusal.
-pub fn put_rows(rows: &mut [ClassRow], worked: Worked) -> u8
+pub(super) fn put_rows(rows: &mut [ClassRow], worked: Worked) -> u8
     requires { ⌜ (worked .refusal ≡ 0 → length (now rows) ≡ 9) ⌝ }
     ensures { λ r. ⌜ (r ≡ worked .refusal) × (now (rows .exit) ≡ unless-refused (worked .refusal) (nine-of worked) (now (rows .entry))) ⌝ }
 {

@@ -6,7 +6,7 @@ ghost use Rattle.whole.specs.Sum.{sum};
 ghost use Rattle.coefficients.specs.Steps.{apart, Addends, ZoneParts, zone-sums, RowParts, whole-row};
 
 // The sum of `many` numbers of a list that stand `stride` apart, from `place` on.
-pub fn sum_apart(numbers: &[i64], place: usize, stride: usize, many: usize) -> i64
+pub(super) fn sum_apart(numbers: &[i64], place: usize, stride: usize, many: usize) -> i64
     requires { ⌜ Addends (now numbers) place stride many ⌝ }
     ensures { λ r. ⌜ r ≡ sum (apart (now (numbers .entry)) place stride) many ⌝ }
 {
@@ -20,7 +20,7 @@ pub fn sum_apart(numbers: &[i64], place: usize, stride: usize, many: usize) -> i
 }
 
 // The local numerators of the job, from those of its classes.
-pub fn add_zones(n: usize, numerators: &[i64], own: &mut [i64])
+pub(super) fn add_zones(n: usize, numerators: &[i64], own: &mut [i64])
     requires { ⌜ ZoneParts n (now numerators) ⌝ }
     requires { ⌜ length (now own) ≡ n ⌝ }
     ensures { λ _. ⌜ now (own .exit) ≡ zone-sums n (now (numerators .entry)) ⌝ }
@@ -34,7 +34,7 @@ pub fn add_zones(n: usize, numerators: &[i64], own: &mut [i64])
 }
 
 // W, P and G of the job, from the rows of its classes and its own local numerators.
-pub fn add_row(n: usize, rows: &[i64], own: &[i64]) -> ClassRow
+pub(super) fn add_row(n: usize, rows: &[i64], own: &[i64]) -> ClassRow
     requires { ⌜ RowParts n (now rows) (now own) ⌝ }
     ensures { λ r. ⌜ r ≡ whole-row n (now (rows .entry)) (now (own .entry)) ⌝ }
 {

@@ -13,7 +13,7 @@ ghost use Rattle.coefficients.specs.Coefficients.{pair-of, local-figures
 ghost use Rattle.coefficients.specs.Steps.{Ratio, Formable, FormableRows, Numerators};
 
 // The nearest float to p over q. No refusal can come, so its arm gives a float that nobody meets.
-pub fn ratio(p: i64, q: i64) -> f64
+pub(super) fn ratio(p: i64, q: i64) -> f64
     requires { ⌜ Ratio p q ⌝ }
     ensures { λ r. ⌜ r ≡ nearest-float p q ⌝ }
 {
@@ -24,7 +24,7 @@ pub fn ratio(p: i64, q: i64) -> f64
 }
 
 // Moran and Geary of the sums of a job or of a class.
-pub fn pair(n: usize, spread: i64, row: ClassRow) -> Pair
+pub(super) fn pair(n: usize, spread: i64, row: ClassRow) -> Pair
     requires { ⌜ Formable n spread row ⌝ }
     ensures { λ r. ⌜ r ≡ pair-of n spread row ⌝ }
 {
@@ -48,7 +48,7 @@ pub fn pair(n: usize, spread: i64, row: ClassRow) -> Pair
 }
 
 // The pair of class k, from the list of the nine rows.
-pub fn class_pair(n: usize, spread: i64, rows: &[i64], k: usize) -> Pair
+pub(super) fn class_pair(n: usize, spread: i64, rows: &[i64], k: usize) -> Pair
     requires { ⌜ FormableRows n spread (now rows) ⌝ }
     requires { ⌜ k < 9 ⌝ }
     ensures { λ r. ⌜ r ≡ pair-of n spread (row-at (now (rows .entry)) k) ⌝ }
@@ -69,7 +69,7 @@ pub fn class_pair(n: usize, spread: i64, rows: &[i64], k: usize) -> Pair
 }
 
 // The pairs of the nine classes.
-pub fn class_pairs(n: usize, spread: i64, rows: &[i64]) -> [Pair; 9]
+pub(super) fn class_pairs(n: usize, spread: i64, rows: &[i64]) -> [Pair; 9]
     requires { ⌜ FormableRows n spread (now rows) ⌝ }
     ensures { λ r. ⌜ r ≡ table (λ k. pair-of n spread (row-at (now (rows .entry)) k)) 9 ⌝ }
 {
@@ -87,7 +87,7 @@ pub fn class_pairs(n: usize, spread: i64, rows: &[i64]) -> [Pair; 9]
 }
 
 // The local Moran of each local numerator of a list.
-pub fn put_figures(spread: i64, numerators: &[i64], figures: &mut [f64])
+pub(super) fn put_figures(spread: i64, numerators: &[i64], figures: &mut [f64])
     requires { ⌜ Numerators spread (now numerators) ⌝ }
     requires { ⌜ length (now figures) ≡ length (now numerators) ⌝ }
     ensures { λ _. ⌜ now (figures .exit) ≡ local-figures spread (now (numerators .entry)) ⌝ }

@@ -19,7 +19,7 @@ ghost use Rattle.coefficients.specs.Steps.{zone-sums, whole-row, Reporta
 ghost use Rattle.coefficients.specs.declared.Answer.the-variants.{Refused, Reported};
 
 // 1 and 2, of n and the two lists of floats.
-pub fn judge_lent(n: usize, figures: usize, parts: usize) -> u8
+pub(super) fn judge_lent(n: usize, figures: usize, parts: usize) -> u8
     ensures { λ r. ⌜ r ≡ first-broken (size-rules n ((figures, n) ∷ (parts, 9 * n) ∷ [])) ⌝ }
 {
     if n < 2 {
@@ -38,7 +38,7 @@ pub fn judge_lent(n: usize, figures: usize, parts: usize) -> u8
 }
 
 // A refusal: no class has a coefficient.
-pub fn refused(number: u8) -> Report
+pub(super) fn refused(number: u8) -> Report
     ensures { λ r. ⌜ r ≡ record { whole = Refused number; classes = table (λ k. no-pair) 9 } ⌝ }
 {
     let none = Pair {
@@ -54,7 +54,7 @@ pub fn refused(number: u8) -> Report
 
 // The report of an accepted job, whose class account left `rows`, and in `numerators` the local numerators of each class. `parts` has
 // places for the figures of the first of them.
-pub fn report_job(
+pub(super) fn report_job(
     n: usize,
     values: &[i32],
     rows: &[i64],
@@ -92,7 +92,7 @@ pub fn report_job(
 
 // The report of a call whose n and whose lists of floats were judged: the class account judges the rest. `parts` has places for the local
 // figures of the classes, or for the first of them, or for none.
-pub fn report_sized(
+pub(super) fn report_sized(
     n: usize,
     values: &[i32],
     weights: &[u8],

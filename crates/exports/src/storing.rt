@@ -18,7 +18,7 @@ ghost use Rattle.exports.specs.Images.{given-by};
 ghost use Rattle.exports.specs.Steps.{put-figure, tells};
 
 // S, M, W, P, G.
-pub fn put_sums(account: Sums, sums: &mut [i64])
+pub(super) fn put_sums(account: Sums, sums: &mut [i64])
     requires { ⌜ length (now sums) ≡ 5 ⌝ }
     ensures { λ _. ⌜ now (sums .exit) ≡ five account ⌝ }
 {
@@ -35,7 +35,7 @@ pub fn put_sums(account: Sums, sums: &mut [i64])
 }
 
 // Less, equal, greater.
-pub fn put_rank(rank: Counts, counts: &mut [u64])
+pub(super) fn put_rank(rank: Counts, counts: &mut [u64])
     requires { ⌜ length (now counts) ≡ 3 ⌝ }
     ensures { λ _. ⌜ now (counts .exit) ≡ three rank ⌝ }
 {
@@ -48,7 +48,7 @@ pub fn put_rank(rank: Counts, counts: &mut [u64])
 }
 
 // The numbers of values, categories, joins, places, bands and shuffles.
-pub fn put_counts(read: reader::Counts, counts: &mut [u64])
+pub(super) fn put_counts(read: reader::Counts, counts: &mut [u64])
     requires { ⌜ length (now counts) ≡ 6 ⌝ }
     ensures { λ _. ⌜ now (counts .exit) ≡ six read ⌝ }
 {
@@ -67,7 +67,7 @@ pub fn put_counts(read: reader::Counts, counts: &mut [u64])
 }
 
 // How long an image or a text is.
-pub fn put_length(bytes: usize, filled: &mut [u64])
+pub(super) fn put_length(bytes: usize, filled: &mut [u64])
     requires { ⌜ length (now filled) ≡ 1 ⌝ }
     ensures { λ _. ⌜ now (filled .exit) ≡ bytes ∷ [] ⌝ }
 {
@@ -75,7 +75,7 @@ pub fn put_length(bytes: usize, filled: &mut [u64])
 }
 
 // The five counts that the writer is given.
-pub fn given(counts: &[u64]) -> Given
+pub(super) fn given(counts: &[u64]) -> Given
     requires { ⌜ length (now counts) ≡ 5 ⌝ }
     ensures { λ r. ⌜ r ≡ given-by (now (counts .entry)) ⌝ }
 {
@@ -102,7 +102,7 @@ fn put_coefficient(figures: &mut [f64], place: usize, coefficient: Coefficient)
 }
 
 // Moran and Geary of pair k.
-pub fn put_pair(figures: &mut [f64], k: usize, pair: Pair)
+pub(super) fn put_pair(figures: &mut [f64], k: usize, pair: Pair)
     requires { ⌜ k < 9 ⌝ }
     requires { ⌜ k * 2 + 1 < length (now figures) ⌝ }
     ensures { λ _. ⌜ now (figures .exit)
@@ -116,7 +116,7 @@ pub fn put_pair(figures: &mut [f64], k: usize, pair: Pair)
 }
 
 // The pairs of the nine classes.
-pub fn put_pairs(figures: &mut [f64], pairs: [Pair; 9])
+pub(super) fn put_pairs(figures: &mut [f64], pairs: [Pair; 9])
     requires { ⌜ length (now figures) ≡ 18 ⌝ }
     ensures { λ _. ⌜ now (figures .exit) ≡ pairs-over 9 (λ k. getD pairs k no-pair) (now (figures .entry)) ⌝ }
 {
@@ -140,7 +140,7 @@ fn having(pair: Pair) -> u8
 }
 
 // Which of the nine classes have a pair.
-pub fn put_having(has: &mut [u8], pairs: [Pair; 9])
+pub(super) fn put_having(has: &mut [u8], pairs: [Pair; 9])
     requires { ⌜ length (now has) ≡ 9 ⌝ }
     ensures { λ _. ⌜ now (has .exit) ≡ table (λ k. tells (getD pairs k no-pair .moran)) 9 ⌝ }
 {

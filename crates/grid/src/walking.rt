@@ -106,7 +106,7 @@ fn fill_cell(rows: usize, columns: usize, kind: Move, i: usize, marks: &mut [u8]
 }
 
 // The rows of all cells.
-pub fn walk_cells(rows: usize, columns: usize, kind: Move, weights: &mut [u8])
+pub(super) fn walk_cells(rows: usize, columns: usize, kind: Move, weights: &mut [u8])
     requires { ⌜ rows * columns ≤ 64 ⌝ }
     requires { ⌜ length (now weights) ≡ (rows * columns) * (rows * columns) ⌝ }
     ensures { λ _. ⌜ now (weights .exit) ≡ grid-network rows columns kind ⌝ }

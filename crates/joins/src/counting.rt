@@ -9,7 +9,7 @@ ghost use Rattle.whole.specs.Table.{table};
 ghost use Rattle.joins.specs.Joins.{join-table};
 
 // Sets every entry to 0.
-pub fn clear(entries: &mut [i64])
+pub(super) fn clear(entries: &mut [i64])
     ensures { λ _. ⌜ now (entries .exit) ≡ table (λ k. pos 0) (length (now (entries .entry))) ⌝ }
 {
     let mut k: usize = 0;
@@ -20,7 +20,7 @@ pub fn clear(entries: &mut [i64])
 }
 
 // Adds each weight to the entry of its two zones' categories. The p-th weight is that of zone p / n to zone p % n.
-pub fn count_joins(n: usize, categories: &[u8], weights: &[u8], entries: &mut [i64])
+pub(super) fn count_joins(n: usize, categories: &[u8], weights: &[u8], entries: &mut [i64])
     requires { ⌜ n ≤ 64 ⌝ }
     requires { ⌜ length (now categories) ≡ n ⌝ }
     requires { ⌜ length (now weights) ≡ n * n ⌝ }

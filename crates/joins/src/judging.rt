@@ -3,7 +3,7 @@ ghost use mathlib.Core.Path.{_≡_};
 ghost use Rattle.joins.specs.Joins.{join-refusal};
 
 // 1, 2, 4, 5 and 8. What the lent places hold is not judged, so their number is all that is asked for.
-pub fn judge_joins(n: usize, categories: &[u8], weights: &[u8], table: usize) -> u8
+pub(super) fn judge_joins(n: usize, categories: &[u8], weights: &[u8], table: usize) -> u8
     ensures { λ r. ⌜ r ≡ join-refusal n (now (categories .entry)) (now (weights .entry)) table ⌝ }
 {
     let sizes = judges::judge_sizes(n, categories.len(), weights.len(), table, 64);

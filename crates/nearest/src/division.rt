@@ -23,7 +23,7 @@ pub struct Quotient {
 }
 
 // A small divisor is doubled ten times, lest the first quotient have more than 53 digits.
-pub fn widened(q: u64) -> Divisor
+pub(super) fn widened(q: u64) -> Divisor
     requires { ⌜ 0 < q ⌝ }
     requires { ⌜ q < 2 ^ 63 ⌝ }
     ensures { λ r. ⌜ Widened q (r .divisor) (r .doublings) ⌝ }
@@ -109,7 +109,7 @@ fn next_digit(x: Quotient, divisor: u64) -> Quotient
 }
 
 // Digits are added until there are 53.
-pub fn long_division(a: u64, divisor: u64) -> Quotient
+pub(super) fn long_division(a: u64, divisor: u64) -> Quotient
     requires { ⌜ 0 < a ⌝ }
     requires { ⌜ a < 2 ^ 63 ⌝ }
     requires { ⌜ 1024 ≤ divisor ⌝ }

@@ -4,7 +4,7 @@ ghost use Prim.Native.Nat.{_*_, _^_, _<_, compare};
 ghost use lib.Ieee.{nearest};
 
 // The whole part or the next number, whichever is nearer; at a tie the even one.
-pub fn half_to_even(whole: u64, rest: u64, divisor: u64) -> u64
+pub(super) fn half_to_even(whole: u64, rest: u64, divisor: u64) -> u64
     requires { ⌜ rest < divisor ⌝ }
     requires { ⌜ divisor < 2 ^ 63 ⌝ }
     requires { ⌜ whole < 2 ^ 53 ⌝ }

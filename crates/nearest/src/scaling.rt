@@ -18,7 +18,7 @@ fn power(doublings: u64, halvings: u64) -> f64
     f64::from_bits((1023 + doublings - halvings) * FIELD)
 }
 
-pub fn scaled(m: u64, doublings: u64, halvings: u64) -> f64
+pub(super) fn scaled(m: u64, doublings: u64, halvings: u64) -> f64
     requires { ⌜ 0 < m ⌝ }
     requires { ⌜ m ≤ 2 ^ 53 ⌝ }
     requires { ⌜ (doublings ≡ 0) ⊎ (doublings ≡ 10) ⌝ }

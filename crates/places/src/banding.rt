@@ -8,7 +8,7 @@ ghost use Rattle.whole.specs.Search.{any-beyond};
 ghost use Rattle.places.specs.Bands.{band-class, band-classes};
 
 // The class of a squared distance: the first band that it does not exceed, else 0.
-pub fn band_class(bands: &[u32], distance: i64) -> u8
+pub(super) fn band_class(bands: &[u32], distance: i64) -> u8
     requires { ⌜ length (now bands) ≤ 8 ⌝ }
     ensures { λ r. ⌜ r ≡ band-class (now (bands .entry)) distance ⌝ }
 {
@@ -24,7 +24,7 @@ pub fn band_class(bands: &[u32], distance: i64) -> u8
 }
 
 // The class of each pair, 0 on the diagonal. The p-th pair is zone p / n and zone p % n.
-pub fn class_pairs(n: usize, places: &[i32], bands: &[u32], classes: &mut [u8])
+pub(super) fn class_pairs(n: usize, places: &[i32], bands: &[u32], classes: &mut [u8])
     requires { ⌜ n ≤ 64 ⌝ }
     requires { ⌜ length (now places) ≡ 2 * n ⌝ }
     requires { ⌜ any-beyond 30000 (now places) ≡ false ⌝ }

@@ -7,7 +7,7 @@ ghost use Rattle.whole.specs.Search.{any-beyond};
 ghost use Rattle.places.specs.Places.{squared-distance};
 
 // The squared distance of zones a and b, at most 7,200,000,000.
-pub fn squared_distance(places: &[i32], a: usize, b: usize) -> i64
+pub(super) fn squared_distance(places: &[i32], a: usize, b: usize) -> i64
     requires { ⌜ length (now places) ≤ 128 ⌝ }
     requires { ⌜ any-beyond 30000 (now places) ≡ false ⌝ }
     requires { ⌜ 2 * a + 1 < length (now places) ⌝ }

@@ -9,7 +9,7 @@ ghost use Rattle.places.specs.Places.{squared-distance};
 ghost use Rattle.places.specs.Gabriel.{in-circle, gabriel-network};
 
 // Whether zone c is inside or on the circle of zones a and b, whose squared distance is given.
-pub fn in_circle(places: &[i32], a: usize, b: usize, distance: i64, c: usize) -> bool
+pub(super) fn in_circle(places: &[i32], a: usize, b: usize, distance: i64, c: usize) -> bool
     requires { ⌜ length (now places) ≤ 128 ⌝ }
     requires { ⌜ any-beyond 30000 (now places) ≡ false ⌝ }
     requires { ⌜ 2 * a + 1 < length (now places) ⌝ }
@@ -24,7 +24,7 @@ pub fn in_circle(places: &[i32], a: usize, b: usize, distance: i64, c: usize) ->
 
 // Joins the pairs of zones: the search for a pair stops at the first third zone inside or on its circle. The p-th pair is zone p / n and
 // zone p % n.
-pub fn join_pairs(n: usize, places: &[i32], weights: &mut [u8])
+pub(super) fn join_pairs(n: usize, places: &[i32], weights: &mut [u8])
     requires { ⌜ n ≤ 64 ⌝ }
     requires { ⌜ length (now places) ≡ 2 * n ⌝ }
     requires { ⌜ any-beyond 30000 (now places) ≡ false ⌝ }

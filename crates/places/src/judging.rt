@@ -9,7 +9,7 @@ ghost use Rattle.places.specs.Places.{at-one-place, any-at-one-place, ca
 ghost use Rattle.places.specs.Bands.{any-empty-band, any-not-rising, any-misplaced, bands-broken, band-refusal};
 
 // Whether a zone before a is at its place.
-pub fn earlier_at_place(places: &[i32], a: usize) -> bool
+pub(super) fn earlier_at_place(places: &[i32], a: usize) -> bool
     requires { ⌜ 2 * a + 1 < length (now places) ⌝ }
     ensures { λ r. ⌜ r ≡ some (at-one-place (now (places .entry)) a) a ⌝ }
 {
@@ -28,7 +28,7 @@ pub fn earlier_at_place(places: &[i32], a: usize) -> bool
 }
 
 // Whether two of the zones are at one place.
-pub fn any_at_one_place(n: usize, places: &[i32]) -> bool
+pub(super) fn any_at_one_place(n: usize, places: &[i32]) -> bool
     requires { ⌜ n ≤ 64 ⌝ }
     requires { ⌜ length (now places) ≡ 2 * n ⌝ }
     ensures { λ r. ⌜ r ≡ any-at-one-place n (now (places .entry)) ⌝ }
@@ -44,7 +44,7 @@ pub fn any_at_one_place(n: usize, places: &[i32]) -> bool
 }
 
 // 1 and 2: n, and the lengths of the places and of the n × n entries that are lent.
-pub fn judge_sizes(n: usize, places: usize, room: usize) -> u8
+pub(super) fn judge_sizes(n: usize, places: usize, room: usize) -> u8
     ensures { λ r. ⌜ r ≡ first-broken (size-rules n ((places, 2 * n) ∷ (room, n * n) ∷ [])) ⌝ }
 {
     if n < 2 {
@@ -63,7 +63,7 @@ pub fn judge_sizes(n: usize, places: usize, room: usize) -> u8
 }
 
 // 1, 2, 10 and 11: the Gabriel network's refusal. What the lent entries hold is not judged, so their number is all that is asked for.
-pub fn judge_places(n: usize, places: &[i32], room: usize) -> u8
+pub(super) fn judge_places(n: usize, places: &[i32], room: usize) -> u8
     ensures { λ r. ⌜ r ≡ first-broken (call-rules n (now (places .entry)) room []) ⌝ }
 {
     let sizes = judge_sizes(n, places.len(), room);
@@ -100,7 +100,7 @@ pub fn judge_in_turn(places: &[i32]) -> u8
 }
 
 // Whether some band is 0.
-pub fn any_empty_band(bands: &[u32]) -> bool
+pub(super) fn any_empty_band(bands: &[u32]) -> bool
     ensures { λ r. ⌜ r ≡ any-empty-band (now (bands .entry)) ⌝ }
 {
     let mut k: usize = 0;
@@ -114,7 +114,7 @@ pub fn any_empty_band(bands: &[u32]) -> bool
 }
 
 // Whether some band is not above the one before it.
-pub fn any_not_rising(bands: &[u32]) -> bool
+pub(super) fn any_not_rising(bands: &[u32]) -> bool
     requires { ⌜ 1 ≤ length (now bands) ⌝ }
     ensures { λ r. ⌜ r ≡ any-not-rising (now (bands .entry)) ⌝ }
 {
@@ -142,7 +142,7 @@ pub fn any_misplaced(bands: &[u32]) -> bool
 }
 
 // Whether the bands break rule 12.
-pub fn bands_broken(bands: &[u32]) -> bool
+pub(super) fn bands_broken(bands: &[u32]) -> bool
     ensures { λ r. ⌜ r ≡ bands-broken (now (bands .entry)) ⌝ }
 {
     if bands.len() < 1 {
@@ -155,7 +155,7 @@ pub fn bands_broken(bands: &[u32]) -> bool
 }
 
 // 1, 2, 10, 11, then 12: the bands' refusal.
-pub fn judge_bands(n: usize, places: &[i32], bands: &[u32], room: usize) -> u8
+pub(super) fn judge_bands(n: usize, places: &[i32], bands: &[u32], room: usize) -> u8
     ensures { λ r. ⌜ r ≡ band-refusal n (now (places .entry)) (now (bands .entry)) room ⌝ }
 {
     let number = judge_places(n, places, room);

@@ -41,7 +41,7 @@ fn judge_join(n: usize, next: usize, from: usize, to: usize, weight: usize) -> u
 }
 
 // The first number of k joins.
-pub fn judge_joins(image: &[u8], at: usize, k: usize, n: usize) -> u8
+pub(super) fn judge_joins(image: &[u8], at: usize, k: usize, n: usize) -> u8
     requires { ⌜ at + 3 * k ≤ length (now image) ⌝ }
     requires { ⌜ n ≤ 64 ⌝ }
     ensures { λ r. ⌜ r ≡ first-broken (in-turn (join-rules n (join-in (drop at (now (image .entry))))) k) ⌝ }
@@ -89,7 +89,7 @@ fn put_joins(image: &[u8], at: usize, k: usize, n: usize, weights: &mut [u8])
 }
 
 // The table of k joins: a weight with no join is 0.
-pub fn table_of(image: &[u8], at: usize, k: usize, n: usize, weights: &mut [u8])
+pub(super) fn table_of(image: &[u8], at: usize, k: usize, n: usize, weights: &mut [u8])
     requires { ⌜ Joinable (now image) at k n ⌝ }
     requires { ⌜ length (now weights) ≡ n * n ⌝ }
     ensures { λ _. ⌜ now (weights .exit) ≡ weights-of n (table (join-in (drop at (now (image .entry)))) k) ⌝ }

@@ -81,7 +81,7 @@ fn judge_end(before: u8, image: &[u8], end: usize, n: usize, at: usize, k: usize
 }
 
 // Judges an image by place, from its first byte to its last.
-pub fn judge(image: &[u8]) -> Layout
+pub(super) fn judge(image: &[u8]) -> Layout
     ensures { λ r. ⌜ Judged (now (image .entry)) r ⌝ }
 {
     let v = sections::in_values(0, image, 0);
@@ -120,7 +120,7 @@ pub fn judge(image: &[u8]) -> Layout
 }
 
 // The six counts.
-pub fn counts(layout: Layout) -> Counts
+pub(super) fn counts(layout: Layout) -> Counts
     ensures { λ r. ⌜ six r
         ≡ layout .values ∷ layout .categories ∷ layout .joins ∷ layout .places ∷ layout .bands ∷ layout .shuffles ∷ [] ⌝ }
 {

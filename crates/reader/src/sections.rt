@@ -111,7 +111,7 @@ fn judge_frame(before: u8, image: &[u8], at: usize, counted: u8, size: usize, k:
 }
 
 // The values, whose section is the first.
-pub fn in_values(before: u8, image: &[u8], at: usize) -> u8
+pub(super) fn in_values(before: u8, image: &[u8], at: usize) -> u8
     requires { ⌜ (before ≡ 0 → at ≤ length (now image)) ⌝ }
     ensures { λ r. ⌜ r ≡ then before (in-values (drop at (now (image .entry)))) ⌝ }
 {
@@ -125,7 +125,7 @@ pub fn in_values(before: u8, image: &[u8], at: usize) -> u8
 }
 
 // The categories of n zones.
-pub fn in_categories(before: u8, image: &[u8], at: usize, n: usize) -> u8
+pub(super) fn in_categories(before: u8, image: &[u8], at: usize, n: usize) -> u8
     requires { ⌜ (before ≡ 0 → at ≤ length (now image)) ⌝ }
     ensures { λ r. ⌜ r ≡ then before (in-categories n (drop at (now (image .entry)))) ⌝ }
 {
@@ -139,7 +139,7 @@ pub fn in_categories(before: u8, image: &[u8], at: usize, n: usize) -> u8
 }
 
 // The joins of n zones.
-pub fn in_joins(before: u8, image: &[u8], at: usize, n: usize) -> u8
+pub(super) fn in_joins(before: u8, image: &[u8], at: usize, n: usize) -> u8
     requires { ⌜ (before ≡ 0 → at ≤ length (now image)) ⌝ }
     requires { ⌜ (before ≡ 0 → n ≤ 64) ⌝ }
     ensures { λ r. ⌜ r ≡ then before (in-joins n (drop at (now (image .entry)))) ⌝ }
@@ -154,7 +154,7 @@ pub fn in_joins(before: u8, image: &[u8], at: usize, n: usize) -> u8
 }
 
 // The places of n zones.
-pub fn in_places(before: u8, image: &[u8], at: usize, n: usize) -> u8
+pub(super) fn in_places(before: u8, image: &[u8], at: usize, n: usize) -> u8
     requires { ⌜ (before ≡ 0 → at ≤ length (now image)) ⌝ }
     requires { ⌜ (before ≡ 0 → n ≤ 64) ⌝ }
     ensures { λ r. ⌜ r ≡ then before (in-places n (drop at (now (image .entry)))) ⌝ }
@@ -169,7 +169,7 @@ pub fn in_places(before: u8, image: &[u8], at: usize, n: usize) -> u8
 }
 
 // The bands of a job with so many places.
-pub fn in_bands(before: u8, image: &[u8], at: usize, places: usize) -> u8
+pub(super) fn in_bands(before: u8, image: &[u8], at: usize, places: usize) -> u8
     requires { ⌜ (before ≡ 0 → at ≤ length (now image)) ⌝ }
     ensures { λ r. ⌜ r ≡ then before (in-bands places (drop at (now (image .entry)))) ⌝ }
 {
@@ -183,7 +183,7 @@ pub fn in_bands(before: u8, image: &[u8], at: usize, places: usize) -> u8
 }
 
 // The shuffles of n zones.
-pub fn in_shuffles(before: u8, image: &[u8], at: usize, n: usize) -> u8
+pub(super) fn in_shuffles(before: u8, image: &[u8], at: usize, n: usize) -> u8
     requires { ⌜ (before ≡ 0 → at ≤ length (now image)) ⌝ }
     requires { ⌜ (before ≡ 0 → 2 ≤ n) ⌝ }
     requires { ⌜ (before ≡ 0 → n ≤ 64) ⌝ }

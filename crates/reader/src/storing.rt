@@ -49,7 +49,7 @@ fn store_weights(image: &[u8], at: usize, k: usize, n: usize, buffer: &mut [u8])
 }
 
 // The whole job.
-pub fn store(
+pub(super) fn store(
     image: &[u8],
     layout: Layout,
     values: &mut [i32],

@@ -12,7 +12,7 @@ ghost use Rattle.report.specs.Steps.{Put, Room, PrintablePair, Printable
 ghost use Rattle.report.specs.Steps.{sum-lines, ratio-lines, zone-line, table-line, row-line};
 
 // n S M, then W P G.
-pub fn put_sums(page: &mut [u8], at: usize, n: usize, sums: Sums) -> usize
+pub(super) fn put_sums(page: &mut [u8], at: usize, n: usize, sums: Sums) -> usize
     requires { ⌜ n ≤ 64 ⌝ }
     requires { ⌜ Room (now page) at 192 ⌝ }
     ensures { λ r. ⌜ Put (now (page .entry)) (now (page .exit)) at r 192 (sum-lines n sums) ⌝ }
@@ -29,7 +29,7 @@ pub fn put_sums(page: &mut [u8], at: usize, n: usize, sums: Sums) -> usize
 }
 
 // Moran's I, Geary's c and the expected I, each as a ratio.
-pub fn put_ratios(page: &mut [u8], at: usize, n: usize, sums: Sums, pair: Pair) -> usize
+pub(super) fn put_ratios(page: &mut [u8], at: usize, n: usize, sums: Sums, pair: Pair) -> usize
     requires { ⌜ Within n sums ⌝ }
     requires { ⌜ PrintablePair pair ⌝ }
     requires { ⌜ Room (now page) at 352 ⌝ }
@@ -50,7 +50,7 @@ pub fn put_ratios(page: &mut [u8], at: usize, n: usize, sums: Sums, pair: Pair) 
 }
 
 // The zones as they are listed, each with its local numerator, M and its local Moran.
-pub fn put_zones(
+pub(super) fn put_zones(
     page: &mut [u8],
     at: usize,
     zones: &[u8],
@@ -101,7 +101,7 @@ fn put_table_row(page: &mut [u8], at: usize, table: &[i64], r: usize) -> usize
 }
 
 // The entries above 0 of the join table, row by row.
-pub fn put_table(page: &mut [u8], at: usize, table: &[i64]) -> usize
+pub(super) fn put_table(page: &mut [u8], at: usize, table: &[i64]) -> usize
     requires { ⌜ length (now table) ≡ 64 ⌝ }
     requires { ⌜ Room (now page) at 6144 ⌝ }
     ensures { λ p. ⌜ Put (now (page .entry)) (now (page .exit)) at p 6144
@@ -117,7 +117,13 @@ pub fn put_table(page: &mut [u8], at: usize, table: &[i64]) -> usize
 }
 
 // The rows of class 0 up to a class, with their pairs.
-pub fn put_rows(page: &mut [u8], at: usize, rows: &[i64], pairs: [Pair; 9], last: usize) -> usize
+pub(super) fn put_rows(
+    page: &mut [u8],
+    at: usize,
+    rows: &[i64],
+    pairs: [Pair; 9],
+    last: usize,
+) -> usize
     requires { ⌜ length (now rows) ≡ 27 ⌝ }
     requires { ⌜ PrintablePairs pairs ⌝ }
     requires { ⌜ last ≤ 8 ⌝ }

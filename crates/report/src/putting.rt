@@ -12,7 +12,7 @@ ghost use Rattle.report.specs.Lines.{field, numbers, bits, coefficient};
 ghost use Rattle.report.specs.Steps.{Put, Room, Short, Printable, PrintablePair};
 
 // Bytes as they are.
-pub fn put(page: &mut [u8], at: usize, text: &[u8]) -> usize
+pub(super) fn put(page: &mut [u8], at: usize, text: &[u8]) -> usize
     requires { ⌜ Room (now page) at (length (now text)) ⌝ }
     ensures { λ r. ⌜ Put (now (page .entry)) (now (page .exit)) at r (length (now (text .entry))) (now (text .entry)) ⌝ }
 {
@@ -82,7 +82,7 @@ fn put_start(page: &mut [u8], at: usize, word: &[u8], list: &[i64]) -> usize
 }
 
 // A line of numbers.
-pub fn put_line(page: &mut [u8], at: usize, word: &[u8], list: &[i64]) -> usize
+pub(super) fn put_line(page: &mut [u8], at: usize, word: &[u8], list: &[i64]) -> usize
     requires { ⌜ Short (now word) (now list) ⌝ }
     requires { ⌜ Room (now page) at 96 ⌝ }
     ensures { λ r. ⌜ Put (now (page .entry)) (now (page .exit)) at r 96
@@ -93,7 +93,7 @@ pub fn put_line(page: &mut [u8], at: usize, word: &[u8], list: &[i64]) -> usize
 }
 
 // A line of numbers and a figure.
-pub fn put_figure_line(
+pub(super) fn put_figure_line(
     page: &mut [u8],
     at: usize,
     word: &[u8],
@@ -112,7 +112,13 @@ pub fn put_figure_line(
 }
 
 // A line of numbers and a pair of coefficients.
-pub fn put_pair_line(page: &mut [u8], at: usize, word: &[u8], list: &[i64], pair: Pair) -> usize
+pub(super) fn put_pair_line(
+    page: &mut [u8],
+    at: usize,
+    word: &[u8],
+    list: &[i64],
+    pair: Pair,
+) -> usize
     requires { ⌜ Short (now word) (now list) ⌝ }
     requires { ⌜ PrintablePair pair ⌝ }
     requires { ⌜ Room (now page) at 128 ⌝ }

@@ -99,7 +99,7 @@ fn shuffle_room() -> [u8; 31936]
 }
 
 // The text of an image at the front of a page.
-pub fn put_report(page: &mut [u8], image: &[u8]) -> usize
+pub(super) fn put_report(page: &mut [u8], image: &[u8]) -> usize
     requires { ⌜ Room (now page) 0 16128 ⌝ }
     ensures { λ r. ⌜ Put (now (page .entry)) (now (page .exit)) 0 r 16128 (report-text (now (image .entry))) ⌝ }
 {

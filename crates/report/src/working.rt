@@ -185,7 +185,7 @@ fn class_room() -> [u8; 4096]
 }
 
 // The lines of a job.
-pub fn put_job(
+pub(super) fn put_job(
     page: &mut [u8],
     n: usize,
     values: &[i32],

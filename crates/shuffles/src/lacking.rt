@@ -9,7 +9,7 @@ ghost use Rattle.whole.specs.Table.{table, pair-at};
 ghost use Rattle.shuffles.specs.Steps.{Row, mark-of};
 
 // Marks each number that row r names. There is a mark for each byte, so that no number has to be looked at before it is marked.
-pub fn mark(n: usize, shuffles: &[u8], r: usize, named: &mut [u8])
+pub(super) fn mark(n: usize, shuffles: &[u8], r: usize, named: &mut [u8])
     requires { ⌜ Row (now shuffles) n r ⌝ }
     requires { ⌜ now named ≡ table (λ k. 0) 256 ⌝ }
     ensures { λ _. ⌜ now (named .exit) ≡ table (λ k. mark-of (some (λ i. eqb (pair-at (now (shuffles .entry)) n r i) k) n)) 256 ⌝ }
@@ -24,7 +24,7 @@ pub fn mark(n: usize, shuffles: &[u8], r: usize, named: &mut [u8])
 }
 
 // Whether some number is not marked.
-pub fn any_unmarked(named: &[u8]) -> bool
+pub(super) fn any_unmarked(named: &[u8]) -> bool
     ensures { λ r. ⌜ r ≡ some (λ k. eqb (getD (now (named .entry)) k 0) 0) (length (now (named .entry))) ⌝ }
 {
     let mut found = false;
@@ -39,7 +39,7 @@ pub fn any_unmarked(named: &[u8]) -> bool
 }
 
 // Whether row r lacks some zone number.
-pub fn lacks_zone(n: usize, shuffles: &[u8], r: usize) -> bool
+pub(super) fn lacks_zone(n: usize, shuffles: &[u8], r: usize) -> bool
     requires { ⌜ Row (now shuffles) n r ⌝ }
     ensures { λ found. ⌜ found ≡ lacks (pair-at (now (shuffles .entry)) n r) n ⌝ }
 {
@@ -49,7 +49,7 @@ pub fn lacks_zone(n: usize, shuffles: &[u8], r: usize) -> bool
 }
 
 // Whether some row lacks some zone number.
-pub fn any_lacking(n: usize, shuffles: &[u8], rows: usize) -> bool
+pub(super) fn any_lacking(n: usize, shuffles: &[u8], rows: usize) -> bool
     requires { ⌜ n ≤ 64 ⌝ }
     requires { ⌜ rows ≤ 499 ⌝ }
     requires { ⌜ length (now shuffles) ≡ rows * n ⌝ }

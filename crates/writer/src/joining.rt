@@ -10,7 +10,7 @@ ghost use Rattle.image.specs.Image.{join-bytes};
 ghost use Rattle.writer.specs.Steps.{Tabled, one-of, bytes-of};
 
 // The first number of a table of weights, row by row: 5 before 4 at each weight.
-pub fn judge_weights(weights: &[u8], n: usize) -> u8
+pub(super) fn judge_weights(weights: &[u8], n: usize) -> u8
     requires { ⌜ Tabled (now weights) n ⌝ }
     ensures { λ r. ⌜ r ≡ first-broken (in-turn (weight-rules n (now (weights .entry))) (n * n)) ⌝ }
 {
@@ -41,7 +41,7 @@ fn one(weight: u8) -> usize
 }
 
 // How many joins a table has, of however many zones.
-pub fn count_joins(weights: &[u8]) -> usize
+pub(super) fn count_joins(weights: &[u8]) -> usize
     ensures { λ r. ⌜ ((n : ℕ) → r ≡ length (joins-of n (now (weights .entry)))) ⌝ }
 {
     let mut joins: usize = 0;
@@ -71,7 +71,7 @@ fn put_join(out: &mut [u8], at: usize, from: usize, to: usize, weight: u8) -> us
 }
 
 // The bytes of the joins of a table, row by row.
-pub fn put_joins(out: &mut [u8], at: usize, weights: &[u8], n: usize)
+pub(super) fn put_joins(out: &mut [u8], at: usize, weights: &[u8], n: usize)
     requires { ⌜ Tabled (now weights) n ⌝ }
     requires { ⌜ at + length (each join-bytes (joins-of n (now weights))) ≤ length (now out) ⌝ }
     ensures { λ _. ⌜ now (out .exit) ≡ sets (now (out .entry)) at (each join-bytes (joins-of n (now (weights .entry)))) ⌝ }

@@ -160,7 +160,7 @@ fn judge_job(
 }
 
 // All but 19.
-pub fn judge(
+pub(super) fn judge(
     values: &[i32],
     categories: &[u8],
     weights: &[u8],

@@ -10,7 +10,7 @@ ghost use Rattle.words.specs.Words.{two-bytes, word-bytes};
 ghost use Rattle.image.specs.Image.{signed-bytes};
 
 // The two bytes of a count.
-pub fn put_count(out: &mut [u8], at: usize, k: usize)
+pub(super) fn put_count(out: &mut [u8], at: usize, k: usize)
     requires { ⌜ at + 2 ≤ length (now out) ⌝ }
     requires { ⌜ k < 65536 ⌝ }
     ensures { λ _. ⌜ now (out .exit) ≡ sets (now (out .entry)) at (two-bytes k) ⌝ }
@@ -42,7 +42,7 @@ fn bits_of(x: i32) -> u32
 }
 
 // Signed numbers of four bytes each.
-pub fn put_signed(out: &mut [u8], at: usize, numbers: &[i32])
+pub(super) fn put_signed(out: &mut [u8], at: usize, numbers: &[i32])
     requires { ⌜ at + 4 * length (now numbers) ≤ length (now out) ⌝ }
     ensures { λ _. ⌜ now (out .exit) ≡ sets (now (out .entry)) at (each signed-bytes (now (numbers .entry))) ⌝ }
 {
@@ -54,7 +54,7 @@ pub fn put_signed(out: &mut [u8], at: usize, numbers: &[i32])
 }
 
 // Unsigned numbers of four bytes each.
-pub fn put_words(out: &mut [u8], at: usize, numbers: &[u32])
+pub(super) fn put_words(out: &mut [u8], at: usize, numbers: &[u32])
     requires { ⌜ at + 4 * length (now numbers) ≤ length (now out) ⌝ }
     ensures { λ _. ⌜ now (out .exit) ≡ sets (now (out .entry)) at (each word-bytes (now (numbers .entry))) ⌝ }
 {
@@ -66,7 +66,7 @@ pub fn put_words(out: &mut [u8], at: usize, numbers: &[u32])
 }
 
 // Numbers of a byte each.
-pub fn put_bytes(out: &mut [u8], at: usize, numbers: &[u8])
+pub(super) fn put_bytes(out: &mut [u8], at: usize, numbers: &[u8])
     requires { ⌜ at + length (now numbers) ≤ length (now out) ⌝ }
     ensures { λ _. ⌜ now (out .exit) ≡ sets (now (out .entry)) at (now (numbers .entry)) ⌝ }
 {

@@ -57,7 +57,7 @@ fn put_joins_section(out: &mut [u8], at: usize, k: usize, weights: &[u8], n: usi
 }
 
 // The length of the image of a job with these counts and so many joins.
-pub fn image_length(given: Given, joins: usize) -> usize
+pub(super) fn image_length(given: Given, joins: usize) -> usize
     requires { ⌜ Counted given joins ⌝ }
     ensures { λ r. ⌜ r ≡ length-with given joins ⌝ }
 {
@@ -72,7 +72,7 @@ pub fn image_length(given: Given, joins: usize) -> usize
 }
 
 // The whole image.
-pub fn store(
+pub(super) fn store(
     values: &[i32],
     categories: &[u8],
     weights: &[u8],

@@ -1,2 +1,0 @@
--- What private functions ask of each other: Steps.
-pub mod Steps
