@@ -24,20 +24,18 @@ as far as it goes, with a comment that says so, and the status is 1.
 import pathlib
 import random
 import re
-import struct
 import sys
 
-from image_cases import REPORT, SEED, drawn_job, largest_job, some_bytes, up_to
-from job_image import SECTIONS, Job, encode, read
+from image_cases import REPORT, drawn_job, largest_job, some_bytes, up_to
+from job_image import LISTS, SECTIONS, Job, decode, encode, sections_of
 
 SAMPLES = pathlib.Path(__file__).resolve().parent.parent / 'samples'
 WORDS = dict(zip(['values', 'categories', 'join', 'place', 'bands', 'shuffle'], SECTIONS))  # a line's first word, and its section
-LISTS = ('values', 'categories', 'bands')  # whose lines have as many numbers as there are; the others have one item a line
 SIGNED, BYTE, UNSIGNED = (-2 ** 31, 2 ** 31 - 1), (0, 255), (0, 2 ** 32 - 1)
 FITS = {'values': SIGNED, 'categories': BYTE, 'join': BYTE, 'place': SIGNED, 'bands': UNSIGNED, 'shuffle': BYTE}
-FORMS = {'values': 'i', 'categories': 'B', 'joins': '3B', 'places': '2i', 'bands': 'I', 'shuffles': '{n}B'}  # of one item
 SIZES = {'join': (3, 'from, to and weight'), 'place': (2, 'across and up')}
-A_LINE = 16  # so many numbers of a list are printed in a line
+A_LINE = 16  # so many numbers of a list are printed in a line; a row has a line of its own
+SEED = 20261121
 
 
 class BadText(Exception):
@@ -78,7 +76,7 @@ def must_fit_values(job, shuffle_lines):
 
 def job_of(text):
     """The job of a text; joins are sorted."""
-    job, shuffle_lines = Job([]), []
+    job, shuffle_lines = Job(), []
     for line, written in enumerate(text.split('\n'), 1):
         fields = written.split('#')[0].split()
         try:
@@ -99,15 +97,6 @@ def image_of(text):
 
 # ---- from an image to a text
 
-def items_of(image, at, form, count):
-    """The items of a section that are wholly there, and the place behind them."""
-    items, size = [], struct.calcsize('<' + form)
-    while len(items) < count and at + size <= len(image):
-        items.append(struct.unpack_from('<' + form, image, at))
-        at += size
-    return items, at
-
-
 def lines_of(word, items):
     """The lines of a section."""
     if word in LISTS:
@@ -118,22 +107,23 @@ def lines_of(word, items):
     return lines
 
 
+def told_of_end(image, section, count, items, end):
+    """A comment for an image that ends early in its last section, or has bytes behind it; none for a whole one."""
+    early = f'# the image ends early, after {len(image)} bytes: '
+    if count is None:
+        return [early + f'inside the count of {section}']
+    if len(items) < count:
+        return [early + f'{len(items)} of {count} {section} are there']
+    return [f'# bytes left over behind the end of the image: {len(image) - end}'] if end < len(image) else []
+
+
 def text_of(image):
     """The text of an image, and whether that is all of it."""
-    at, n, lines = 0, 0, []
-    for word, section in WORDS.items():
-        if at + 2 > len(image):
-            return '\n'.join([*lines, f'# the image ends early, after {len(image)} bytes: inside the count of {section}', '']), False
-        count = int.from_bytes(image[at:at + 2], 'little')
-        items, at = items_of(image, at + 2, FORMS[section].format(n=n), count)
-        n = count if word == 'values' else n
+    sections, lines = list(sections_of(image)), []
+    for word, (_, _, items, _) in zip(WORDS, sections):
         lines += lines_of(word, items)
-        if len(items) < count:
-            told = f'# the image ends early, after {len(image)} bytes: {len(items)} of {count} {section} are there'
-            return '\n'.join([*lines, told, '']), False
-    if at < len(image):
-        lines.append(f'# bytes left over behind the end of the image: {len(image) - at}')
-    return '\n'.join([*lines, '']), at == len(image)
+    told = told_of_end(image, *sections[-1])
+    return '\n'.join([*lines, *told, '']), not told
 
 
 # ---- the test
@@ -192,15 +182,15 @@ def check_samples():
 
 def check_drawn():
     """Drawn jobs there and back, and damaged images whose joins are sorted."""
-    rng, count = random.Random(SEED + 2), 0
+    rng, count = random.Random(SEED), 0
     for k in range(400):
         must_return(f'drawn {k}', encode(drawn_job(rng, rng.choice((2, 3, 5, 16, 33, 64)))))
     must_return('the largest', encode(largest_job(rng)))
     must_return('no zones', bytes(12))
-    for case in some_bytes(rng, 'damaged', REPORT, 400):
-        text, is_all = text_of(case.image)
+    for k, image in enumerate(some_bytes(rng, REPORT, 400)):
+        text, is_all = text_of(image)
         if is_all and 'not sorted' not in text:
-            must_return(case.name, case.image)
+            must_return(f'damaged {k}', image)
             count += 1
     must(count >= 100, f'only {count} damaged images came back')
     return 402 + count
@@ -209,7 +199,7 @@ def check_drawn():
 def check_free():
     """A text as a person may write it."""
     job = Job([1, -2, 3], [], [(0, 1, 3), (2, 1, 4)], [(0, 0), (1, -1), (2, 2)], [5, 9], [(1, 0, 2)])
-    must(read(image_of(FREE)) == job, 'a text with comments and joins in any order gives another job')
+    must(decode(image_of(FREE)) == job, 'a text with comments and joins in any order gives another job')
 
 
 def check_bad():

@@ -6,6 +6,7 @@ from fractions import Fraction
 
 
 def bits(x):
+    """The 64 bits of a float."""
     return struct.unpack('<Q', struct.pack('<d', x))[0]
 
 

@@ -8,13 +8,15 @@
 The float is Python's int / int, which rounds correctly. That it did so is looked at too (nearest_float.py), ratio by ratio, in exact
 fractions: the float's two neighbours lie no nearer, and where one lies equally near, the float's last bit is 0.
 """
+import pathlib
 import random
 import struct
+import subprocess
 import sys
 
 from nearest_float import nearest_bits
-from stored_runs import command, files, must_be_kept, run
 
+CRATE = pathlib.Path(__file__).resolve().parent.parent / 'crates' / 'ratios'
 SEED = 20261116
 LIMIT = 6 * 10**18
 LEAST, MOST = -2**63, 2**63 - 1
@@ -33,6 +35,7 @@ PRINTED_RATIOS = [(p, q) for p, q, _ in PRINTED]
 # ---- what must be written
 
 def line(p, q):
+    """The line of a ratio: a refusal, or the bits of the float."""
     if q < 1 or max(abs(p), q) > LIMIT:
         return 'refused 18'
     return f'{nearest_bits(p, q):016X}'
@@ -41,10 +44,12 @@ def line(p, q):
 # ---- the ratios, kind by kind
 
 def signed(rng, p):
+    """The number with either sign."""
     return rng.choice((p, -p))
 
 
 def any_size(rng):
+    """A number of up to 63 binary digits."""
     return rng.getrandbits(rng.randint(1, 63))
 
 
@@ -135,31 +140,55 @@ KINDS = [at_random, ties, exact, powers, small, coefficients, limits, refusals, 
 
 
 def made(kind):
+    """The ratios of a kind, but those beyond the ends of the type."""
     rng = random.Random(f'{SEED} {kind.__name__}')
     return [(p, q) for p, q in kind(rng) if LEAST <= p <= MOST and LEAST <= q <= MOST]
 
 
 def packed(ratios):
+    """The bytes of ratios, as the program reads them."""
     return b''.join(struct.pack('<qq', p, q) for p, q in ratios)
 
 
 # ---- the kept files
 
 def kept():
+    """The two files by their names."""
     ratios = list(PRINTED_RATIOS)
     for kind in KINDS:
         ratios += random.Random(SEED).sample(made(kind), 16)
-    ratios += [(LIMIT, 1), (-LIMIT, LIMIT), (1, LIMIT), (LIMIT + 1, 1), (-LIMIT - 1, 1), (1, LIMIT + 1), (1, 0), (0, 0), (0, -1), (LEAST, LEAST)]
+    ratios += [(LIMIT, 1), (-LIMIT, LIMIT), (1, LIMIT), (LIMIT + 1, 1), (-LIMIT - 1, 1), (1, LIMIT + 1), (1, 0), (0, 0), (0, -1),
+               (LEAST, LEAST)]
     lines = [line(p, q) for p, q in ratios]
     for (p, q, wanted), found in zip(PRINTED, lines):
         if found != f'{wanted:016X}':
             sys.exit(f'{p} / {q} gives {found}, and document 01 has {wanted:016X}')
-    return files(packed(ratios), lines)
+    return {'stdin': packed(ratios), 'stdout': ''.join(line + '\n' for line in lines).encode()}
+
+
+def make():
+    """Writes the two files."""
+    for name, data in kept().items():
+        (CRATE / name).write_bytes(data)
+
+
+def check():
+    """Whether the two files are what is made here."""
+    for name, data in kept().items():
+        if (CRATE / name).read_bytes() != data:
+            sys.exit(f'crates/ratios/{name} is not what tools/ratios.py makes')
+    print('the kept ratios are what tools/ratios.py makes')
 
 
 # ---- the comparison
 
+def run(program, given):
+    """The lines that the program writes."""
+    return subprocess.run([program], input=given, capture_output=True, check=True).stdout.decode().splitlines()
+
+
 def compare(program):
+    """Compares every line of all ratios, kind by kind, and of inputs that are cut off."""
     every = refused = 0
     for kind in KINDS:
         ratios = made(kind)
@@ -181,10 +210,12 @@ def compare(program):
         sys.exit('fewer than 100,000 ratios')
 
 
-def check():
-    must_be_kept('ratios', kept())
-    print('the kept ratios are what tools/ratios.py makes')
-
-
 if __name__ == '__main__':
-    command('ratios', kept, check, compare, __doc__)
+    if len(sys.argv) == 1:
+        make()
+    elif sys.argv[1:] == ['--check']:
+        check()
+    elif len(sys.argv) == 3 and sys.argv[1] == '--compare':
+        compare(sys.argv[2])
+    else:
+        sys.exit(__doc__)

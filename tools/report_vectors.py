@@ -8,8 +8,9 @@
 
 OTHER is meant to be tools/independent_report.c, compiled with gcc -O2. What is looked at in a text: the form and the order of its lines,
 the numerators and divisors by the numbers of its first lines, the hot-list order, that local numerators add up to P, classes to the joins
-line, categories to W and the rank to the number of shuffles, and that each float is the nearest to its ratio, in exact fractions. A refusal
-must have the number that the reader of job_image.py gives.
+line, categories to W and the rank to the number of shuffles, and that each float is the nearest to its ratio, in exact fractions. An image
+whose number was found by hand must be refused with that number, and that of a job that breaks no rule must be accepted; any other must be
+accepted, or refused with a number that the reader can give.
 """
 import collections
 import functools
@@ -27,15 +28,16 @@ import time
 from dataclasses import replace
 from fractions import Fraction
 
-from image_cases import (BAND, FAR, LONGEST, REPORT, Read, any_bytes, by_hand, drawn, drawn_job, drawn_joins, drawn_places, drawn_values,
-                         every_byte, every_cut, image, largest, largest_job, number_of, some_bytes)
-from job_image import LENGTHS, Job, encode, flat, read
+from image_cases import (BAND, FAR, LONGEST, REPORT, any_bytes, by_hand, drawn, drawn_job, drawn_joins, drawn_places, drawn_values,
+                         every_byte, every_cut, image, largest, largest_job, some_bytes)
+from job_image import Job, decode, encode, flat
 from nearest_float import nearest_bits
 
 SAMPLES = pathlib.Path(__file__).resolve().parent.parent / 'samples'
 SEED = 20261121
 RUNS, RATIO = 300, 1.5  # how often each program is timed, and how much longer the first one may take
 NUMBERS = {1, 3, 4, 5, 6, 7, 8, 10, 11, 12, 13, 14, 15, 16, 17}  # every number that the reader can give
+REFUSALS = {f'refused {number}\n': number for number in NUMBERS}  # what is written then; any other text is looked at as a report
 
 WHOLE, ABOVE, NUMBER, BITS = '(?:0|[1-9][0-9]*)', '[1-9][0-9]*', '(?:0|-?[1-9][0-9]*)', '[0-9A-F]{16}'
 FORMS = {
@@ -196,18 +198,23 @@ def whole(rng):
         yield f'whole-large-{k}', drawn_job(rng, rng.choice((31, 32, 33, 63, 64)))
 
 
-# ---- all images
+# ---- all cases; image_cases.py says what a case is
 
-def of_cases(rng):
-    """The images of image_cases.py: by hand, with bytes changed, cut, by chance, drawn and damaged; those alone that are read."""
-    yield from (case for _, _, case in by_hand())
-    yield from rng.sample([*every_byte('report', REPORT)], 1200)
-    yield from rng.sample([*every_byte('least', encode(Job([0, 1], joins=[(0, 1, 1)])))], 400)
-    yield from some_bytes(rng, 'report', REPORT, 300)
-    yield from some_bytes(rng, 'small', image(), 300)
+def unknown(word, images):
+    """Cases of images of which no number is known."""
+    return ((f'{word}-{k}', None, data) for k, data in enumerate(images))
+
+
+def of_images(rng):
+    """Those of image_cases.py: by hand, with bytes changed, cut, by chance, drawn and damaged, and the largest."""
+    yield from by_hand()
+    yield from unknown('report-byte', rng.sample([*every_byte(REPORT)], 1200))
+    yield from unknown('least-byte', rng.sample([*every_byte(encode(Job([0, 1], joins=[(0, 1, 1)])))], 400))
+    yield from unknown('report-bytes', some_bytes(rng, REPORT, 300))
+    yield from unknown('small-bytes', some_bytes(rng, image(), 300))
     yield from every_cut('report', REPORT)
     yield from every_cut('small', image())
-    yield from any_bytes(rng, 300)
+    yield from unknown('any', any_bytes(rng, 300))
     yield from drawn(rng, 500, (2, 3, 3, 5, 5, 7))
     yield from drawn(rng, 40, (16, 33, 63, 64))
     yield from largest(rng)
@@ -219,23 +226,18 @@ def beyond(rng):
     for k in range(100):
         damaged = bytearray(longest)
         damaged[rng.randrange(len(damaged))] ^= 1 << rng.randrange(8)
-        yield Read(f'beyond-largest-{k}', bytes(damaged) + rng.randbytes(rng.randrange(2, 9000)))
-    for k, case in enumerate(read_cases(drawn(rng, 200, (2, 3, 5, 64)))):
-        yield Read(f'beyond-{k}', case.image + rng.randbytes(LONGEST + rng.randrange(2, 9000)))
-
-
-def read_cases(made):
-    """Those of some cases in which an image is read into buffers of their lengths."""
-    return (case for case in made if isinstance(case, Read) and case.lengths == LENGTHS)
+        yield f'beyond-largest-{k}', None, bytes(damaged) + rng.randbytes(rng.randrange(2, 9000))
+    for name, number, data in drawn(rng, 200, (2, 3, 5, 64)):
+        yield f'beyond-{name}', 17 if number == 0 else None, data + rng.randbytes(LONGEST + rng.randrange(2, 9000))
 
 
 def cases():
-    """The images that are compared, each with a name."""
+    """The cases that are compared; the jobs of our own break no rule."""
     rng = random.Random(SEED)
     for kind in (at_limits, rings, two_zones, banded, far_apart, ranked, full, halfway, whole):
         for name, job in kind(rng):
-            yield Read(name, encode(job))
-    yield from read_cases(of_cases(rng))
+            yield name, 0, encode(job)
+    yield from of_images(rng)
     yield from beyond(rng)
 
 
@@ -305,8 +307,10 @@ def look_at_classes(lines, n, m, sums):
     return [row[1] for row in rows]
 
 
-def look(text, job, case):
+def look(text, data):
     """Looks at the text of an accepted image; answers what it has."""
+    job = decode(data)
+    must(encode(job) == data, 'accepted, and not a whole image')
     lines = lines_by_word(text, job)
     n, m, w, p, g = look_at_job(lines, job)
     local = look_at_locals(lines, n, m, p)
@@ -318,7 +322,7 @@ def look(text, job, case):
     has = {PAIR: lines['pair'], CLASS: weights, RANK: rank, WEIGHTLESS: 0 in weights, NEGATIVE_P: p < 0, NEGATIVE_L: min(local) < 0,
            TIES: len(set(local)) < n, NOUGHT: p == 0, DOWN: 1 in parts, UP: 3 in parts, EIGHT: len(weights) == 9,
            BEYOND: weights and weights[0] > 0, THREE: rank and min(rank[0]) > 0, TWO: n == 2, MANY: n == 64,
-           LONG: len(case.image) == LONGEST}
+           LONG: len(data) == LONGEST}
     return [word for word in REACHED if has[word]]
 
 
@@ -360,14 +364,13 @@ def must_be_equal(name, program, found, other, wanted):
 
 def look_at(case, text):
     """Looks at what was written on an image; answers the number of the refusal or 0, and what an accepted one has."""
-    number = number_of(case)
+    name, wanted, data = case
+    number = REFUSALS.get(text, 0)
     try:
-        if number:
-            must(text == f'refused {number}\n', f'the reader of job_image.py gives {number}')
-            return number, []
-        return 0, look(text, read(case.image), case)
+        must(wanted in (None, number), f'must be refused with {wanted}' if wanted else 'must be accepted')
+        return number, [] if number else look(text, data)
     except SystemExit as wrong:
-        sys.exit(f'{case.name}: {wrong}\n{text}')
+        sys.exit(f'{name}: {wrong}\n{text}')
 
 
 def compare_samples(programs):
@@ -397,11 +400,12 @@ def compare_all(program, other, made):
     """Both programs on every image; how many have each number, and how many accepted ones have what must be reached."""
     numbers_given, reached = collections.Counter(), collections.Counter()
     for case in made:
+        name, _, data = case
         with tempfile.TemporaryFile() as given:
-            given.write(case.image)
+            given.write(data)
             given.flush()
-            found, wanted = output(program, given, case.name), output(other, given, case.name)
-        must_be_equal(case.name, program, found, other, wanted)
+            found, wanted = output(program, given, name), output(other, given, name)
+        must_be_equal(name, program, found, other, wanted)
         number, has = look_at(case, found.decode('ascii', 'replace'))
         numbers_given[number] += 1
         reached.update(has)

@@ -1,13 +1,14 @@
 #!/usr/bin/env python3
 """The samples: job images, each with the text that it is made of and the report that it must have.
 
-    samples.py                  writes samples/*.txt, *.image and *.report (report.image is written by image_vectors.py, and looked at here)
+    samples.py                  writes samples/*.txt, *.image and *.report
     samples.py --check          says whether the files are what this program makes
     samples.py --check PROGRAM  the same, and that PROGRAM writes each report on its image
 
-`report` is document 01's worked report, its text as the document prints it. `island` is a job with all parts and of the largest number of
-zones. `refused` is a job with one plain mistake. The report of the island is that of independent_report.c, which is compiled here with gcc;
-that program must write the other two reports as well, byte for byte.
+`report` is document 01's worked report: the job that the document names, in the image put together by hand in image_cases.py, and its
+text as the document prints it. `island` is a job with all parts and of the largest number of zones. `refused` is a job with one plain
+mistake. The report of the island is that of independent_report.c, which is compiled here with gcc; that program must write the other two
+reports as well, byte for byte.
 """
 import itertools
 import pathlib
@@ -16,7 +17,7 @@ import sys
 import tempfile
 
 from image_cases import REPORT
-from job_image import Job, encode
+from job_image import Job, decode, encode
 from job_text import SAMPLES, image_of, text_of
 
 SOURCE = pathlib.Path(__file__).resolve().parent / 'independent_report.c'
@@ -26,8 +27,10 @@ SIDE = 8  # the island has as many rows of districts, and as many in a row
 APART = 40  # how far two districts of a row lie from each other, about
 NEAR = 64 * 64  # the squared distance up to which two districts have a boundary
 
-# the report that document 01 prints
-DOCUMENT_01 = """\
+# the job that document 01 names, and the report that it prints
+JOB_01 = Job([1, 1, 3, 3], [0, 0, 1, 1], [(0, 1, 3), (1, 0, 3), (1, 2, 1), (2, 1, 1)], [(0, 0), (1, 0), (3, 0), (9, 9)], [1, 4],
+             [(0, 1, 2, 3), (2, 1, 0, 3)])
+REPORT_01 = """\
 zones 4 8 16
 joins 8 64 8
 moran 64 128 3FE0000000000000
@@ -189,13 +192,19 @@ def must(holds, told):
         sys.exit(told)
 
 
+def must_be_document_01(image):
+    """An image must be that of document 01's job, taken apart and put together, and the one put together by hand."""
+    must(decode(image) == JOB_01 and encode(JOB_01) == image == REPORT, "report.image is not the image of document 01's job")
+
+
 def made():
-    """The files by their names; the reports that are known beforehand must be those of the program."""
+    """The files by their names; document 01's image and the reports that are known beforehand must come out."""
     texts = {'report': noted(text_of(REPORT)[0], REPORT_NOTES), 'island': noted(text_of(encode(island()))[0], ISLAND_NOTES),
              'refused': REFUSED}
     images = {name: image_of(text) for name, text in texts.items()}
+    must_be_document_01(images['report'])
     printed = reports(images)
-    must(printed['report'] == DOCUMENT_01.encode(), "independent_report.c does not write document 01's report")
+    must(printed['report'] == REPORT_01.encode(), "independent_report.c does not write document 01's report")
     must(printed['refused'] == b'refused 5\n', 'independent_report.c does not refuse the job with the mistake')
     must_have_all(printed['island'].decode())
     files = {f'{name}.txt': text.encode() for name, text in texts.items()}
@@ -213,10 +222,9 @@ def must_have_all(report):
 
 
 def make():
-    """Writes the files, but for report.image, which image_vectors.py writes."""
+    """Writes the files."""
     for name, data in made().items():
-        if name != 'report.image':
-            (SAMPLES / name).write_bytes(data)
+        (SAMPLES / name).write_bytes(data)
 
 
 def check(program):
@@ -229,7 +237,7 @@ def check(program):
     for name in images if program else ():
         kept = name.replace('.image', '.report')
         must(written(program, files[name]) == files[kept], f'on samples/{name} the program does not write samples/{kept}')
-    print(f'the {len(files)} files of samples/ are what tools/samples.py makes' +
+    print(f"the {len(files)} files of samples/ are what tools/samples.py makes, document 01's image and report among them" +
           (f'; on {len(images)} images the program writes the report that is kept' if program else ''))
 
 

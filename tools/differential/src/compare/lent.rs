@@ -1,4 +1,4 @@
-//! A list that is lent to a proved call and to its fellow: random contents, and guards before and behind.
+//! A list that is lent to a proved call and to its fellow: contents that are drawn or stored, and guards before and behind.
 
 use super::draw::Draw;
 use std::fmt::Debug;
@@ -43,6 +43,8 @@ pub struct Lent<T> {
     proved: Vec<T>,
     own: Vec<T>,
     lent: Range<usize>,
+    /// What a stored case says that both must leave, the guards with it.
+    expected: Option<Vec<T>>,
 }
 
 impl<T: Entry> Lent<T> {
@@ -69,7 +71,17 @@ impl<T: Entry> Lent<T> {
             own: before.clone(),
             before,
             lent: front..front + length,
+            expected: None,
         }
+    }
+
+    /// Lends what a stored case has, and expects what it says; the two are of one length.
+    pub fn stored(draw: &mut Draw, contents: &[T], outcome: &[T]) -> Self {
+        let mut lent = Self::list(draw, contents);
+        let mut expected = lent.before.clone();
+        expected[lent.lent.clone()].copy_from_slice(outcome);
+        lent.expected = Some(expected);
+        lent
     }
 
     pub fn len(&self) -> usize {
@@ -84,12 +96,10 @@ impl<T: Entry> Lent<T> {
         &mut self.own[self.lent.clone()]
     }
 
-    pub fn proved(&self) -> *const T {
-        self.proved[self.lent.clone()].as_ptr()
-    }
-
-    pub fn proved_mut(&mut self) -> *mut T {
-        self.proved[self.lent.clone()].as_mut_ptr()
+    /// The list for the proved call. The pointer is one into the whole memory and may be written through even where the list is
+    /// only read: what a faulty archive stores beside a list, or in it, must be there to be found.
+    pub fn proved(&mut self) -> *mut T {
+        self.proved.as_mut_ptr().wrapping_add(self.lent.start)
     }
 
     fn first(&self, one: &[T], other: &[T], what: &str) -> Option<String> {
@@ -108,6 +118,8 @@ impl<T: Entry> Lent<T> {
 
 /// What is asked of lent memory after the two calls, the guards with it.
 pub trait Memory {
+    /// Where one of them left something else than the stored case says, if there is one.
+    fn unexpected(&self) -> Option<String>;
     /// Where the proved call left something else than the independent one.
     fn difference(&self) -> Option<String>;
     /// Where one of them did not keep what was there.
@@ -115,6 +127,12 @@ pub trait Memory {
 }
 
 impl<T: Entry> Memory for Lent<T> {
+    fn unexpected(&self) -> Option<String> {
+        let expected = self.expected.as_ref()?;
+        self.first(&self.proved, expected, "proved, expected")
+            .or_else(|| self.first(&self.own, expected, "independent, expected"))
+    }
+
     fn difference(&self) -> Option<String> {
         self.first(&self.proved, &self.own, "proved and independent")
     }

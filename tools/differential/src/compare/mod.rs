@@ -1,34 +1,39 @@
-//! The comparison: every input is drawn, given to both, and all lent memory is looked at.
+//! The comparison: every input is drawn or stored, given to both, and all lent memory is looked at.
 
 pub mod broken;
 mod calls;
 mod draw;
+mod drawn;
+pub mod faulty;
 mod lent;
+mod required;
+pub mod stored;
 mod tally;
+mod written;
 
 use calls::Run;
 use draw::{Draw, Sections};
-use tally::Tally;
+pub use tally::Tally;
 
 type Call = fn(&mut Run, &mut Draw) -> Result<(), String>;
 
 /// Each call with its share of the drawn inputs.
 const SHARES: [(Call, usize); 15] = [
-    (calls::account, 10),
-    (calls::class_account, 10),
-    (calls::float_report, 10),
-    (calls::nearest, 16),
-    (calls::hot_list, 6),
-    (calls::rank, 7),
-    (calls::join_table, 6),
-    (calls::gabriel, 6),
-    (calls::bands, 7),
-    (calls::grid_rook, 3),
-    (calls::grid_bishop, 3),
-    (calls::grid_queen, 3),
-    (calls::read, 12),
-    (calls::write, 10),
-    (calls::report, 9),
+    (drawn::account, 10),
+    (drawn::class_account, 10),
+    (drawn::float_report, 10),
+    (drawn::nearest, 16),
+    (drawn::hot_list, 6),
+    (drawn::rank, 7),
+    (drawn::join_table, 6),
+    (drawn::gabriel, 6),
+    (drawn::bands, 7),
+    (drawn::grid_rook, 3),
+    (drawn::grid_bishop, 3),
+    (drawn::grid_queen, 3),
+    (drawn::read, 12),
+    (drawn::write, 10),
+    (drawn::report, 9),
 ];
 
 /// The image of document 01's report.
@@ -63,11 +68,18 @@ fn changed_sample(image: &mut Vec<u8>, number: u64) {
     }
 }
 
+/// What is swapped in for a right call, by its name: a wrong version of the independent code, a faulty archive.
+#[derive(Clone, Copy, Default)]
+pub struct Swapped<'a> {
+    pub broken: Option<&'a str>,
+    pub faulty: Option<&'a str>,
+}
+
 /// What a run is told.
 pub struct Plan<'a> {
     pub seed: u64,
     pub inputs: std::ops::Range<u64>,
-    pub broken: Option<&'a str>,
+    pub swapped: Swapped<'a>,
 }
 
 /// Where the two differ.
@@ -76,7 +88,7 @@ pub struct Difference {
     pub what: String,
 }
 
-/// Compares input after input up to the first difference.
+/// Compares drawn input after drawn input up to the first difference.
 pub fn compare(plan: &Plan) -> Result<Tally, Difference> {
     let mut tally = Tally::default();
     let sample = sample();
@@ -86,15 +98,16 @@ pub fn compare(plan: &Plan) -> Result<Tally, Difference> {
         let mut draw = Draw::new(plan.seed, input);
         let mut run = Run {
             tally: &mut tally,
-            broken: plan.broken,
+            swapped: plan.swapped,
+            expected: None,
         };
         let outcome = if input < 2 * systematic {
             let mut image = sample.clone();
             changed_sample(&mut image, input / 2);
             if input % 2 == 0 {
-                calls::read_image(&mut run, &mut draw, &image)
+                drawn::read_image(&mut run, &mut draw, &image)
             } else {
-                calls::report_image(&mut run, &mut draw, &image)
+                drawn::report_image(&mut run, &mut draw, &image)
             }
         } else {
             let mut place = draw.below(total);
