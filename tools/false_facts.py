@@ -184,10 +184,15 @@ def check(root):
 
 # ---- the test of this tool
 
-EDIT = '# first: of the account\nfile: src/lib.rt\nold: a\nnew: b\n# second\nold: c\nnew: d\n'
-TABLE = 'account/programs_1 | first | account::account | account | good | x\naccount/programs_1 | second | account::account | rank | good | y\n'
-LOG = ''.join(f'x/must-fail/account/programs_1/proofs/{place}/Proof.antt:7:1: error: `{fact}`: {said}\n' for place, fact, said in [
-    ('account', 'good', '`omega`: the goal does not follow'), ('account', 'spec', '`good` was not admitted'), ('rank', 'good', 'the types differ')])
+EDIT = '# first: of the account\nfile: src/lib.rt\nold: a\nnew: b\n# second\nold: c\nnew: d\n# bare: has no proof file\nold: e\nnew: f\n'
+TABLE = ('account/programs_1 | first | account::account | account | good | x\n'
+         'account/programs_1 | second | account::account | rank | good | y\n'
+         'account/programs_1 | bare | - | spread | returns | z\n')
+ERRORS = [('account', 'good', '`omega`: the goal does not follow'), ('account', 'spec', '`good` was not admitted'),
+          ('rank', 'good', 'the types differ')]
+EDITED = 'x/must-fail/account/programs_1/proofs'
+LOG = (''.join(f'{EDITED}/{place}/Proof.antt:7:1: error: `{fact}`: {said}\n' for place, fact, said in ERRORS) +
+       f'fn account::spread: no proof: expected `spread-spec` in {EDITED}/spread/Proof.antt; `search` does not close `returns`\n')
 SPOILED = [  # what is spoiled, what is put for what, and what must be found
     ('table', '| second |', '| third |', 'has the wrong programs'),
     ('table', 'rank | good', 'account | good', 'so that none has an error of its own'),
@@ -197,6 +202,7 @@ SPOILED = [  # what is spoiled, what is put for what, and what must be found
     ('log', 'rank/Proof', 'tally/Proof', 'an error in tally'),
     ('log', 'the types differ', '`tie` has no `Need-add`', 'shows nothing'),
     ('log', 'the types differ', '`fit` was not admitted', 'no error of its own in rank'),
+    ('log', 'not close `returns`', 'not close `fit`', 'no error of its own in spread'),
     ('edit', '# second', '# other', 'has the wrong programs'),
 ]
 

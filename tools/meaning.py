@@ -92,7 +92,8 @@ def check():
     if faults:
         sys.exit(1)
     theorems = listed_theorems(text)
-    print(f'meaning: {len(rows()) - 1} files, and {sum(map(len, theorems.values()))} theorems of {len(theorems)} files, as docs/TRUST.md lists them')
+    print(f'meaning: {len(rows()) - 1} files, and {sum(map(len, theorems.values()))} theorems of {len(theorems)} files, '
+          'as docs/TRUST.md lists them')
 
 
 if __name__ == '__main__':
