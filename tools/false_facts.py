@@ -27,7 +27,7 @@ NAMED = re.compile(r'^# (\w+)', re.M)
 
 # what an error may not say: it follows from another one, or the proof no longer fits the code
 FOLLOWS = 'was not admitted'
-MISFITS = ('has no `', 'is not in scope')
+MISFITS = ('has no `', 'expected type `tie.Need-', 'is not in scope')
 
 
 @dataclass(frozen=True)
@@ -201,6 +201,7 @@ SPOILED = [  # what is spoiled, what is put for what, and what must be found
     ('log', 'rank/Proof', 'tally/Proof', 'no error of its own in rank'),
     ('log', 'rank/Proof', 'tally/Proof', 'an error in tally'),
     ('log', 'the types differ', '`tie` has no `Need-add`', 'shows nothing'),
+    ('log', '`spec`: `good` was not admitted', '`spec`: expected type `tie.Need-add-2`', 'shows nothing'),
     ('log', 'the types differ', '`fit` was not admitted', 'no error of its own in rank'),
     ('log', 'not close `returns`', 'not close `fit`', 'no error of its own in spread'),
     ('edit', '# second', '# other', 'has the wrong programs'),
