@@ -64,20 +64,6 @@ impl Run<'_> {
     }
 }
 
-/// The right function, or the wrong one where its name is asked for.
-macro_rules! choose {
-    ($asked:expr, $right:path) => {
-        $right
-    };
-    ($asked:expr, $right:path, $name:literal: $wrong:path) => {
-        if $asked == Some($name) {
-            $wrong
-        } else {
-            $right
-        }
-    };
-}
-
 /// For each call a module with two functions: `compare`, and `stored`, which takes the arguments from a stored case. Arguments have the
 /// names of include/dca.h.
 macro_rules! calls {
@@ -86,8 +72,8 @@ macro_rules! calls {
         numbers($($number:ident: $whole:ty),*)
         reads($($input:ident: $read:ty),*)
         lends($($output:ident: $lent:ty),*)
-        independent($($independent:tt)*)
-        archive($($archive:tt)*);
+        independent($right:path, $broken:literal: $wrong:path)
+        faulty($($fault:literal: $spoil:path [$($spoiled:ident),*])?);
     )*) => {
         $(pub mod $name {
             use super::*;
@@ -99,16 +85,20 @@ macro_rules! calls {
                 $($input: &mut Lent<$read>,)*
                 $($output: &mut Lent<$lent>),*
             ) -> Outcome {
-                let archive = choose!(run.swapped.faulty, $($archive)*);
-                let independent = choose!(run.swapped.broken, $($independent)*);
                 // SAFETY: each list is live memory of the length that is told with it.
-                let proved = unsafe {
-                    archive(
+                #[allow(unused_mut)]
+                let mut proved = unsafe {
+                    raw::$call(
                         $($number,)*
                         $($input.proved().cast_const(), $input.len(),)*
                         $($output.proved(), $output.len()),*
                     )
                 };
+                $(if run.swapped.faulty == Some($fault) {
+                    proved = $spoil(proved, $($spoiled),*);
+                })?
+                let is_broken = run.swapped.broken == Some($broken);
+                let independent = if is_broken { $wrong } else { $right };
                 let own = independent($($number,)* $($input.own(),)* $($output.own_mut()),*);
                 let inputs = [$((stringify!($input), &*$input as &dyn Memory)),*];
                 let outputs = [$((stringify!($output), &*$output as &dyn Memory)),*];
@@ -139,103 +129,103 @@ calls! {
         reads(values: i32, weights: u8)
         lends(locals: i64, sums: i64)
         independent(own::account, "last-local": broken::last_local)
-        archive(raw::dca_account, "beyond-end": faulty::beyond_end);
+        faulty("beyond-end": faulty::beyond_end [sums]);
 
     class_account: dca_class_account
         numbers(n: usize)
         reads(values: i32, weights: u8, classes: u8)
         lends(rows: i64, class_locals: i64)
         independent(own::class_account, "class-eight": broken::class_eight)
-        archive(raw::dca_class_account, "stored-then-refused": faulty::stored_then_refused);
+        faulty("stored-then-refused": faulty::stored_then_refused [class_locals]);
 
     float_report: dca_float_report
         numbers(n: usize)
         reads(values: i32, weights: u8, classes: u8)
         lends(globals: f64, locals: f64, pairs: f64, has_pair: u8)
         independent(own::float_report, "weightless": broken::weightless)
-        archive(raw::dca_float_report, "weightless-zeros": faulty::weightless_zeros);
+        faulty("weightless-zeros": faulty::weightless_zeros [pairs, has_pair]);
 
     nearest: dca_nearest
         numbers(p: i64, q: i64)
         reads()
         lends(out: f64)
         independent(own::nearest, "tie-away": broken::tie_away)
-        archive(raw::dca_nearest, "nan-quieted": faulty::nan_quieted);
+        faulty("nan-quieted": faulty::nan_quieted [out]);
 
     hot_list: dca_hot_list
         numbers(n: usize)
         reads(values: i32, weights: u8)
         lends(zones: u8)
         independent(own::hot_list, "hot-ties": broken::hot_ties)
-        archive(raw::dca_hot_list, "values-sorted": faulty::values_sorted);
+        faulty("values-sorted": faulty::values_sorted [values]);
 
     rank: dca_rank
         numbers(n: usize)
         reads(values: i32, weights: u8, shuffles: u8)
         lends(counts: u64)
         independent(own::rank, "rank-inverse": broken::rank_inverse)
-        archive(raw::dca_rank);
+        faulty();
 
     join_table: dca_join_table
         numbers(n: usize)
         reads(categories: u8, weights: u8)
         lends(table: i64)
         independent(own::join_table, "transposed": broken::transposed)
-        archive(raw::dca_join_table, "diagonal-as-four": faulty::diagonal_as_four);
+        faulty("diagonal-as-four": faulty::diagonal_as_four []);
 
     gabriel: dca_gabriel
         numbers(n: usize)
         reads(places: i32)
         lends(weights: u8)
         independent(own::gabriel, "on-circle": broken::on_circle)
-        archive(raw::dca_gabriel, "before-start": faulty::before_start);
+        faulty("before-start": faulty::before_start [weights]);
 
     bands: dca_bands
         numbers(n: usize)
         reads(places: i32, bands: u32)
         lends(classes: u8)
         independent(own::bands, "stored-anyway": broken::stored_anyway)
-        archive(raw::dca_bands);
+        faulty();
 
     grid_rook: dca_grid_rook
         numbers(rows: usize, columns: usize)
         reads()
         lends(weights: u8)
         independent(own::grid_rook, "wrapped": broken::wrapped)
-        archive(raw::dca_grid_rook);
+        faulty();
 
     grid_bishop: dca_grid_bishop
         numbers(rows: usize, columns: usize)
         reads()
         lends(weights: u8)
         independent(own::grid_bishop, "bishop-corner": broken::bishop_corner)
-        archive(raw::dca_grid_bishop);
+        faulty();
 
     grid_queen: dca_grid_queen
         numbers(rows: usize, columns: usize)
         reads()
         lends(weights: u8)
         independent(own::grid_queen, "queen-counts": broken::queen_counts)
-        archive(raw::dca_grid_queen, "refused-at-64": faulty::refused_at_64);
+        faulty("refused-at-64": faulty::refused_at_64 [rows, columns]);
 
     read: dca_read
         numbers()
         reads(image: u8)
         lends(values: i32, categories: u8, weights: u8, places: i32, bands: u32, shuffles: u8, counts: u64)
         independent(own::read, "unused-cleared": broken::unused_cleared)
-        archive(raw::dca_read, "unused-changed": faulty::unused_changed);
+        faulty("unused-changed": faulty::unused_changed [shuffles, counts]);
 
     write: dca_write
         numbers()
         reads(values: i32, categories: u8, weights: u8, places: i32, bands: u32, shuffles: u8, counts: u64)
         lends(out: u8, length: u64)
         independent(own::write, "four-first": broken::four_first)
-        archive(raw::dca_write, "length-anyway": faulty::length_anyway);
+        faulty("length-anyway": faulty::length_anyway [length]);
 
     report: dca_report
         numbers()
         reads(image: u8)
         lends(text: u8, length: u64)
         independent(own::report, "lower-case": broken::lower_case)
-        archive(raw::dca_report, "zero-behind": faulty::zero_behind);
+        faulty("zero-behind": faulty::zero_behind [text, length]);
 }

@@ -13,13 +13,18 @@ struct Job {
     weights: Vec<u8>,
 }
 
+/// How many zones there are; now and then not so many as may be.
+fn zones(draw: &mut Draw) -> usize {
+    if draw.once_in(30) {
+        draw::any_zones(draw)
+    } else {
+        draw::zones(draw)
+    }
+}
+
 impl Job {
     fn draw(draw: &mut Draw) -> Self {
-        let n = if draw.once_in(30) {
-            draw::any_zones(draw)
-        } else {
-            draw::zones(draw)
-        };
+        let n = zones(draw);
         Job {
             n,
             values: draw::values(draw, n),
@@ -43,12 +48,21 @@ impl Job {
     }
 }
 
-pub fn account(run: &mut Run, draw: &mut Draw) -> Outcome {
+/// A job, and the lengths that its further lists have by n; spoiled as often as is drawn.
+fn spoiled<const LISTS: usize>(
+    draw: &mut Draw,
+    lengths: impl Fn(usize) -> [usize; LISTS],
+) -> (Job, [usize; LISTS]) {
     let mut job = Job::draw(draw);
-    let mut lengths = [job.n, 5];
+    let mut lengths = lengths(job.n);
     for _ in 0..draw.faults() {
         job.spoil(draw, &mut lengths);
     }
+    (job, lengths)
+}
+
+pub fn account(run: &mut Run, draw: &mut Draw) -> Outcome {
+    let (job, lengths) = spoiled(draw, |n| [n, 5]);
     calls::account::compare(
         run,
         job.n,
@@ -59,28 +73,26 @@ pub fn account(run: &mut Run, draw: &mut Draw) -> Outcome {
     )
 }
 
-/// A job with classes, spoiled as often as is drawn.
-fn classed(draw: &mut Draw, lengths: &mut [usize]) -> (Job, Vec<u8>) {
+/// The same with classes.
+fn classed<const LISTS: usize>(
+    draw: &mut Draw,
+    lengths: impl Fn(usize) -> [usize; LISTS],
+) -> (Job, Vec<u8>, [usize; LISTS]) {
     let mut job = Job::draw(draw);
-    for length in lengths.iter_mut() {
-        if *length > 1000 {
-            *length = (*length - 1000) * job.n;
-        }
-    }
+    let mut lengths = lengths(job.n);
     let mut classes = draw::classes(draw, job.n);
     for _ in 0..draw.faults() {
         match draw.below(6) {
             0 if draw.once_in(2) => draw::spoil_list(draw, &mut classes),
             0 | 1 => draw::spoil_kinds(draw, &mut classes, 8),
-            _ => job.spoil(draw, lengths),
+            _ => job.spoil(draw, &mut lengths),
         }
     }
-    (job, classes)
+    (job, classes, lengths)
 }
 
 pub fn class_account(run: &mut Run, draw: &mut Draw) -> Outcome {
-    let mut lengths = [3 * CLASSES, 1000 + CLASSES];
-    let (job, classes) = classed(draw, &mut lengths);
+    let (job, classes, lengths) = classed(draw, |n| [3 * CLASSES, n * CLASSES]);
     calls::class_account::compare(
         run,
         job.n,
@@ -93,8 +105,7 @@ pub fn class_account(run: &mut Run, draw: &mut Draw) -> Outcome {
 }
 
 pub fn float_report(run: &mut Run, draw: &mut Draw) -> Outcome {
-    let mut lengths = [2, 1001, 2 * CLASSES, CLASSES];
-    let (job, classes) = classed(draw, &mut lengths);
+    let (job, classes, lengths) = classed(draw, |n| [2, n, 2 * CLASSES, CLASSES]);
     calls::float_report::compare(
         run,
         job.n,
@@ -180,11 +191,7 @@ pub fn nearest(run: &mut Run, draw: &mut Draw) -> Outcome {
 }
 
 pub fn hot_list(run: &mut Run, draw: &mut Draw) -> Outcome {
-    let mut job = Job::draw(draw);
-    let mut lengths = [job.n];
-    for _ in 0..draw.faults() {
-        job.spoil(draw, &mut lengths);
-    }
+    let (job, lengths) = spoiled(draw, |n| [n]);
     calls::hot_list::compare(
         run,
         job.n,
@@ -246,11 +253,7 @@ pub fn join_table(run: &mut Run, draw: &mut Draw) -> Outcome {
 
 /// Zones, places and the length of the lent table.
 fn placed(draw: &mut Draw, bands: &mut Vec<u32>) -> (usize, Vec<i32>, usize) {
-    let mut n = if draw.once_in(30) {
-        draw::any_zones(draw)
-    } else {
-        draw::zones(draw)
-    };
+    let mut n = zones(draw);
     let mut places = draw::places(draw, n);
     let mut length = n * n;
     for _ in 0..draw.faults() {

@@ -1,9 +1,9 @@
 //! Faulty archives: stand-ins for proved calls, which make the call and then spoil something. With any of them the comparison must find
 //! a difference; so the guards, the lists that are only read and those of a refused call are seen to be looked at.
+//!
+//! Each function is given what the real call answered and what it spoils of the arguments, and answers what the stand-in does.
 
-use super::lent::Entry;
-use dca::raw;
-use std::slice::from_raw_parts_mut;
+use super::lent::{Entry, Lent};
 
 /// The names that `--faulty` takes, and what is wrong.
 pub const NAMES: [(&str, &str); 11] = [
@@ -41,181 +41,103 @@ pub const NAMES: [(&str, &str); 11] = [
     ("zero-behind", "report: a 0 is stored behind the text"),
 ];
 
-/// A function of the archive's own signature. `$number` is what the real call answered, the block's value is what this one answers.
-/// Lent lists have guards, so that the entries beside them may be stored to.
-macro_rules! faulty {
-    ($name:ident = $call:ident($($argument:ident: $kind:ty),* $(,)?) answering $number:ident $spoil:block) => {
-        #[allow(clippy::too_many_arguments)]
-        pub unsafe extern "C" fn $name($($argument: $kind),*) -> u8 {
-            let $number = raw::$call($($argument),*);
-            $spoil
-        }
-    };
+/// Stores another entry at a place, counted from the list's start.
+fn spoil<T: Entry>(list: &mut Lent<T>, place: isize) {
+    let entry = list.proved_entry(place);
+    *entry = T::of_bits(!entry.bits());
 }
 
-/// Stores another entry.
-unsafe fn spoil<T: Entry>(place: *mut T) {
-    *place = T::of_bits(!(*place).bits());
+pub fn beyond_end(number: u8, sums: &mut Lent<i64>) -> u8 {
+    let end = sums.len() as isize;
+    if number == 0 {
+        spoil(sums, end);
+    }
+    number
 }
 
-faulty! {
-    beyond_end = dca_account(
-        n: usize,
-        values: *const i32, values_len: usize,
-        weights: *const u8, weights_len: usize,
-        locals: *mut i64, locals_len: usize,
-        sums: *mut i64, sums_len: usize,
-    ) answering number {
-        if number == 0 {
-            spoil(sums.add(sums_len));
+pub fn stored_then_refused(number: u8, class_locals: &mut Lent<i64>) -> u8 {
+    if number == 9 {
+        spoil(class_locals, 0);
+    }
+    number
+}
+
+pub fn weightless_zeros(number: u8, pairs: &mut Lent<f64>, has_pair: &mut Lent<u8>) -> u8 {
+    let classes = 0..has_pair.len() as isize;
+    for class in classes.filter(|_| number == 0) {
+        if *has_pair.proved_entry(class) == 0 {
+            *pairs.proved_entry(2 * class) = 0.0;
+            *pairs.proved_entry(2 * class + 1) = 0.0;
         }
+    }
+    number
+}
+
+pub fn nan_quieted(number: u8, out: &mut Lent<f64>) -> u8 {
+    // By the bits: how a NaN passes through arithmetic is not said.
+    const QUIET: u64 = 0x7FF8_0000_0000_0000;
+    if number == 18 {
+        let entry = out.proved_entry(0);
+        if entry.is_nan() {
+            *entry = f64::from_bits(entry.to_bits() | QUIET);
+        }
+    }
+    number
+}
+
+pub fn values_sorted(number: u8, values: &mut Lent<i32>) -> u8 {
+    if number == 0 {
+        values.proved_list().sort_unstable();
+    }
+    number
+}
+
+pub fn diagonal_as_four(number: u8) -> u8 {
+    if number == 5 {
+        4
+    } else {
         number
     }
 }
 
-faulty! {
-    stored_then_refused = dca_class_account(
-        n: usize,
-        values: *const i32, values_len: usize,
-        weights: *const u8, weights_len: usize,
-        classes: *const u8, classes_len: usize,
-        rows: *mut i64, rows_len: usize,
-        class_locals: *mut i64, class_locals_len: usize,
-    ) answering number {
-        if number == 9 {
-            spoil(class_locals);
-        }
+pub fn before_start(number: u8, weights: &mut Lent<u8>) -> u8 {
+    if number == 0 {
+        spoil(weights, -1);
+    }
+    number
+}
+
+pub fn refused_at_64(number: u8, rows: usize, columns: usize) -> u8 {
+    if number == 0 && rows * columns == 64 {
+        1
+    } else {
         number
     }
 }
 
-faulty! {
-    weightless_zeros = dca_float_report(
-        n: usize,
-        values: *const i32, values_len: usize,
-        weights: *const u8, weights_len: usize,
-        classes: *const u8, classes_len: usize,
-        globals: *mut f64, globals_len: usize,
-        locals: *mut f64, locals_len: usize,
-        pairs: *mut f64, pairs_len: usize,
-        has_pair: *mut u8, has_pair_len: usize,
-    ) answering number {
-        if number == 0 {
-            for class in (0..has_pair_len).filter(|&class| *has_pair.add(class) == 0) {
-                from_raw_parts_mut(pairs.add(2 * class), 2).fill(0.0);
-            }
+pub fn unused_changed(number: u8, shuffles: &mut Lent<u8>, counts: &mut Lent<u64>) -> u8 {
+    if number == 0 {
+        let used = *counts.proved_entry(0) * *counts.proved_entry(5);
+        if used < shuffles.len() as u64 {
+            spoil(shuffles, used as isize);
         }
-        number
     }
+    number
 }
 
-faulty! {
-    nan_quieted = dca_nearest(p: i64, q: i64, out: *mut f64, out_len: usize) answering number {
-        // By the bits: how a NaN passes through arithmetic is not said.
-        let quiet = 0x7FF8_0000_0000_0000;
-        if number == 18 && (*out).is_nan() {
-            *out.cast::<u64>() |= quiet;
+pub fn length_anyway(number: u8, length: &mut Lent<u64>) -> u8 {
+    if number == 19 {
+        spoil(length, 0);
+    }
+    number
+}
+
+pub fn zero_behind(number: u8, text: &mut Lent<u8>, length: &mut Lent<u64>) -> u8 {
+    if number == 0 {
+        let end = *length.proved_entry(0);
+        if end < text.len() as u64 {
+            *text.proved_entry(end as isize) = 0;
         }
-        number
     }
-}
-
-faulty! {
-    values_sorted = dca_hot_list(
-        n: usize,
-        values: *const i32, values_len: usize,
-        weights: *const u8, weights_len: usize,
-        zones: *mut u8, zones_len: usize,
-    ) answering number {
-        if number == 0 {
-            from_raw_parts_mut(values.cast_mut(), values_len).sort_unstable();
-        }
-        number
-    }
-}
-
-faulty! {
-    diagonal_as_four = dca_join_table(
-        n: usize,
-        categories: *const u8, categories_len: usize,
-        weights: *const u8, weights_len: usize,
-        table: *mut i64, table_len: usize,
-    ) answering number {
-        if number == 5 { 4 } else { number }
-    }
-}
-
-faulty! {
-    before_start = dca_gabriel(
-        n: usize,
-        places: *const i32, places_len: usize,
-        weights: *mut u8, weights_len: usize,
-    ) answering number {
-        if number == 0 {
-            spoil(weights.sub(1));
-        }
-        number
-    }
-}
-
-faulty! {
-    refused_at_64 = dca_grid_queen(
-        rows: usize, columns: usize,
-        weights: *mut u8, weights_len: usize,
-    ) answering number {
-        if number == 0 && rows * columns == 64 { 1 } else { number }
-    }
-}
-
-faulty! {
-    unused_changed = dca_read(
-        image: *const u8, image_len: usize,
-        values: *mut i32, values_len: usize,
-        categories: *mut u8, categories_len: usize,
-        weights: *mut u8, weights_len: usize,
-        places: *mut i32, places_len: usize,
-        bands: *mut u32, bands_len: usize,
-        shuffles: *mut u8, shuffles_len: usize,
-        counts: *mut u64, counts_len: usize,
-    ) answering number {
-        if number == 0 {
-            let used = *counts * *counts.add(5);
-            if used < shuffles_len as u64 {
-                spoil(shuffles.add(used as usize));
-            }
-        }
-        number
-    }
-}
-
-faulty! {
-    length_anyway = dca_write(
-        values: *const i32, values_len: usize,
-        categories: *const u8, categories_len: usize,
-        weights: *const u8, weights_len: usize,
-        places: *const i32, places_len: usize,
-        bands: *const u32, bands_len: usize,
-        shuffles: *const u8, shuffles_len: usize,
-        counts: *const u64, counts_len: usize,
-        out: *mut u8, out_len: usize,
-        length: *mut u64, length_len: usize,
-    ) answering number {
-        if number == 19 {
-            spoil(length);
-        }
-        number
-    }
-}
-
-faulty! {
-    zero_behind = dca_report(
-        image: *const u8, image_len: usize,
-        text: *mut u8, text_len: usize,
-        length: *mut u64, length_len: usize,
-    ) answering number {
-        if number == 0 && *length < text_len as u64 {
-            *text.add(*length as usize) = 0;
-        }
-        number
-    }
+    number
 }

@@ -97,9 +97,20 @@ impl<T: Entry> Lent<T> {
     }
 
     /// The list for the proved call. The pointer is one into the whole memory and may be written through even where the list is
-    /// only read: what a faulty archive stores beside a list, or in it, must be there to be found.
+    /// only read: what an archive stores beside a list, or in it, must be there to be found.
     pub fn proved(&mut self) -> *mut T {
         self.proved.as_mut_ptr().wrapping_add(self.lent.start)
+    }
+
+    /// What the proved call left in the list.
+    pub fn proved_list(&mut self) -> &mut [T] {
+        &mut self.proved[self.lent.clone()]
+    }
+
+    /// The same of one entry, counted from the list's start: a place before it or behind its end is a guard.
+    pub fn proved_entry(&mut self, place: isize) -> &mut T {
+        let place = self.lent.start.checked_add_signed(place);
+        &mut self.proved[place.expect("no list has so many guards")]
     }
 
     fn first(&self, one: &[T], other: &[T], what: &str) -> Option<String> {
