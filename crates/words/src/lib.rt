@@ -1,4 +1,4 @@
-// Numbers in bytes, their lowest byte first, for whatever reads them: the image's reader and the programs.
+// Numbers in bytes, their lowest byte first, for whatever takes them from an image or from a program's input.
 ghost use mathlib.Core.Path.{_≡_};
 ghost use Prim.Native.Nat.{_*_, _<_};
 ghost use lib.ListN.{length};
