@@ -9,7 +9,7 @@ use lib.Ieee.{nearest}
 use lib.Ieee.Digits.{back}
 use lib.Pow.{pow-add, pow-pos, pow-mono, shl-lt}
 use Rattle.nearest.specs.Bits.{steps}
-use Rattle.nearest.proofs.Compare.{Cmp, cmp, either}
+use Rattle.halves.proofs.Compare.{Cmp, cmp, either}
 use Rattle.nearest.proofs.Distance.{apart}
 
 -- ---- nothing between

@@ -7,12 +7,10 @@ use native.Mathlib.Omega.{arith}
 use lib.Dec.{T, ltb, ltb→lt, nltb→le}
 use lib.IntN.{ℤ, pos, negsuc, negℤ, natAbs, subℕ, _-ℤ_, _*ℤ_}
 use Rattle.whole.specs.Integer.{below-zero}
+-- the distance of a and b
+pub use Rattle.halves.proofs.Rounding.{apart}
 use Rattle.nearest.specs.Bits.{negative, size-of, signed}
 use Rattle.nearest.specs.Nearest.{distance}
-
--- the distance of a and b
-abbrev pub apart : ℕ → ℕ → ℕ
-apart a b = (a - b) + (b - a)
 
 -- the distance of ±a and ±b
 abbrev pub signed-apart : Bool → ℕ → Bool → ℕ → ℕ

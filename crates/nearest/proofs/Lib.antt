@@ -1,5 +1,4 @@
 -- Laws of floats and of the division, each file named by its subject. What the buyer asks for by name is in Theorems.
-pub mod Compare
 pub mod Distance
 pub mod Between
 pub mod Powers

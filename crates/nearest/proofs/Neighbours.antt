@@ -10,7 +10,7 @@ use lib.Dec.{lit<, lit≤}
 use lib.Pow.{pow-add, pow-pos, pow-mono, shl-lt}
 use Rattle.nearest.specs.Bits.{negative, field, digits, Finite, steps, size-of}
 use Rattle.nearest.specs.Nearest.{gap}
-use Rattle.nearest.proofs.Compare.{either}
+use Rattle.halves.proofs.Compare.{either}
 
 -- the steps that bits stand for, without a sign
 abbrev pub magnitude : ℕ → ℕ

@@ -12,7 +12,7 @@ use Rattle.whole.specs.Integer.{below-zero}
 use Rattle.whole.proofs.Size.{size-neg, below-neg}
 use Rattle.nearest.specs.Bits.{negative, digits, Finite, size-of, signed}
 use Rattle.nearest.specs.Nearest.{distance, gap, Half, Formed, IsNearest}
-use Rattle.nearest.proofs.Compare.{either}
+use Rattle.halves.proofs.Compare.{either}
 use Rattle.nearest.proofs.Distance.{apart, signed-apart, distance-is, one-sign}
 use Rattle.nearest.proofs.Neighbours.{parts, gap-adds, neighbour-outward, next-bits, same-bits}
 

@@ -42,6 +42,10 @@ nearest-refusal p q = first-broken (nearest-rules p q)
 unfoldable pub nearest-float : ℤ → ℤ → Float
 nearest-float p q = round binary64 (below-zero p) (natAbs p) (natAbs q)
 
+-- its 64 bits
+abbrev pub nearest-bits : ℤ → ℤ → ℕ
+nearest-bits p q = toBits binary64 (nearest-float p q)
+
 -- the float that the call answers
 unfoldable pub nearest-figures : ℤ → ℤ → List Float
 nearest-figures p q = unless-refused (nearest-refusal p q) (nearest-float p q ∷ []) []

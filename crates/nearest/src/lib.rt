@@ -1,12 +1,11 @@
 // Part 2: p over q, both whole, as the nearest 64-bit float. Nothing else in the project rounds.
 mod division;
-mod rounding;
 mod scaling;
 
 ghost use mathlib.Core.Bool.{false};
 ghost use mathlib.Core.Path.{_≡_};
-ghost use Prim.Native.Nat.{_^_, _<_};
-ghost use lib.Ieee.{binary64, round};
+ghost use Prim.Native.Nat.{_*_, _^_, _<_, compare};
+ghost use lib.Ieee.{binary64, nearest, round};
 ghost use Rattle.nearest.specs.Answers.{number-of, figures-of, NearestIn, nearest-refusal, nearest-float, nearest-figures};
 
 // The number of the refusal, or the float.
@@ -29,6 +28,18 @@ fn judge(p: i64, q: i64) -> u8
     }
 }
 
+// The whole part or the next number, whichever is nearer; at a tie the even one.
+fn half_to_even(whole: u64, rest: u64, divisor: u64) -> u64
+    requires { ⌜ whole < 2 ^ 53 ⌝ }
+    ensures { λ m. ⌜ m ≡ nearest whole (compare (rest * 2) divisor) ⌝ }
+{
+    if halves::rounds_up(whole, rest, divisor) {
+        whole + 1
+    } else {
+        whole
+    }
+}
+
 // The nearest float to the ratio of two sizes.
 fn ratio(a: u64, q: u64) -> f64
     requires { ⌜ 0 < a ⌝ }
@@ -39,7 +50,7 @@ fn ratio(a: u64, q: u64) -> f64
 {
     let by = division::widened(q);
     let x = division::long_division(a, by.divisor);
-    let m = rounding::half_to_even(x.whole, x.rest, by.divisor);
+    let m = half_to_even(x.whole, x.rest, by.divisor);
     scaling::scaled(m, by.doublings, x.halvings)
 }
 

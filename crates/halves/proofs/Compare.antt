@@ -1,9 +1,8 @@
 -- What the comparison of two numbers says. Assumes nothing.
-use mathlib.Core.Path.{_≡_, refl, subst}
+use mathlib.Core.Path.{_≡_, subst}
 use mathlib.Core.Logic.{_⊎_, inl, inr}
 use mathlib.Core.Bool.{Bool, true, false, not}
 use Prim.Native.Nat.{ℕ, _≤_, _<_, compare, Ordering, Ordering·lt, Ordering·eq, Ordering·gt}
-use native.Mathlib.Omega.{arith}
 use lib.Arith.{lt-of-le-ne}
 use lib.Dec.{T, isLe, isEq, leb, eqb, leb→le, nleb→lt, eqb→eq, eqb-refl}
 
@@ -27,18 +26,3 @@ cmp a b = go (compare a b) (leb→le a b) (nleb→lt a b) (eqb→eq a b) (λ (e 
     go Ordering·lt h k e n = lt-of-le-ne (h tt) n
     go Ordering·eq h k e n = e tt
     go Ordering·gt h k e n = k tt
-
--- the order that holds is the one that `compare` gives
-pub compare-is : (a b : ℕ) (o : Ordering) → Cmp o a b → compare a b ≡ o
-compare-is a b o h = go (compare a b) o (cmp a b) h
-  where
-    go : (c o : Ordering) → Cmp c a b → Cmp o a b → c ≡ o
-    go Ordering·lt Ordering·lt h k = refl
-    go Ordering·eq Ordering·eq h k = refl
-    go Ordering·gt Ordering·gt h k = refl
-    go Ordering·lt Ordering·eq h k = absurd (omega arith)
-    go Ordering·lt Ordering·gt h k = absurd (omega arith)
-    go Ordering·eq Ordering·lt h k = absurd (omega arith)
-    go Ordering·eq Ordering·gt h k = absurd (omega arith)
-    go Ordering·gt Ordering·lt h k = absurd (omega arith)
-    go Ordering·gt Ordering·eq h k = absurd (omega arith)
