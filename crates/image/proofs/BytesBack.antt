@@ -30,8 +30,9 @@ use Rattle.image.proofs.ItemKinds.{Bytes, drop-bytes, listed-same}
 use Rattle.image.proofs.Items.{word-kind, signed-at, signed-kind, join-at, join-kind, bytes-front, section-same}
 use Rattle.image.proofs.JoinOrder.{fair-rises}
 use Rattle.image.proofs.JoinTable.{joins-back}
+use Rattle.image.proofs.JoinWeight.{weights-length}
 use Rattle.image.proofs.Parts.{Parted}
-use Rattle.image.proofs.Weights.{weights-length, joins-light, joins-clear, weight-numbered}
+use Rattle.image.proofs.Weights.{joins-light, joins-clear, weight-numbered}
 
 -- ---- a table without a weight above 9 and without one on the diagonal breaks no rule, weight by weight
 pub weights-sound :
@@ -70,7 +71,7 @@ module _ (image : List ℕ) (a : Accepted image) where
   joins-same : joins-of n (weights-of n (joins-in (from-joins image))) ≡ joins-in (from-joins image)
   joins-same =
       let b = from-joins image in
-      joins-back n (joins-in b) (fair-rises n (join-in (items b)) (count b) (a .joins .listed))
+      joins-back n (joins-in b) (fair-rises n (join-in (items b)) (count b) (count b) (omega arith) (a .joins .listed))
 
   joins-length : length (joins-in (from-joins image)) ≡ count (from-joins image)
   joins-length = table-length (join-in (items (from-joins image))) (count (from-joins image))

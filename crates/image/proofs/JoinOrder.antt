@@ -13,9 +13,10 @@ use Rattle.whole.specs.Table.{table}
 use Rattle.whole.proofs.InTurn.{each-turn}
 use Rattle.whole.proofs.Lists.{within}
 use Rattle.whole.proofs.TableRows.{split}
-use Rattle.image.specs.Joins.{Join, place, joins-from, joins-of, comes-after, not-rising, join-rules, weight-rules}
+use Rattle.image.specs.Joins.{Join, joins-from, joins-of, comes-after, not-rising, join-rules, weight-rules}
 use Rattle.image.proofs.ItemKinds.{All, none, more}
 use Rattle.image.proofs.JoinTable.{Rises, joins-rise}
+use Rattle.image.proofs.JoinWeight.{place}
 use Rattle.image.proofs.Weights.{Fair, fair-each, join-numbered, Keeps, keeps-next, first-off, keeps-all}
 
 -- ---- two joins whose ends are zones
@@ -94,8 +95,10 @@ module _ (n : ℕ) where
       let before : place n (join 0) < place n (join 1) = ltb-true (place n (join 0)) (place n (join 1)) decided in
       omega arith))
 
-  pub fair-rises : (join : ℕ → Join) (k : ℕ) → first-broken (in-turn (join-rules n join) k) ≡ 0 → Rises n (n * n) 0 (table join k)
-  fair-rises join k sound = rises-table join k 0 (fair-each n join k sound) (λ some. omega arith)
+  -- and so do the first i of them
+  pub fair-rises :
+      (join : ℕ → Join) (k i : ℕ) → i ≤ k → first-broken (in-turn (join-rules n join) k) ≡ 0 → Rises n (n * n) 0 (table join i)
+  fair-rises join k i h sound = rises-table join i 0 (λ t l. fair-each n join k sound t (omega arith)) (λ some. omega arith)
 
 -- ---- the joins of a table of weights break no rule
 

@@ -2,6 +2,7 @@
 pub mod Then
 pub mod Bytes
 pub mod Sections
+pub mod JoinWeight
 pub mod Weights
 pub mod Accepted
 pub mod JoinTable
@@ -11,6 +12,7 @@ pub mod JoinOrder
 pub mod Parts
 pub mod Buffers
 pub mod Limits
+pub mod FirstBytes
 pub mod Laid
 pub mod JoinCount
 pub mod Called

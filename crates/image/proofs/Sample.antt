@@ -8,13 +8,13 @@ use Rattle.whole.specs.Order.{lacks}
 use Rattle.whole.specs.Rules.{in-turn}
 use Rattle.whole.specs.Search.{some, any-beyond, any-above}
 use Rattle.whole.specs.Sum.{sum}
-use Rattle.whole.specs.Table.{table, pair-at, each}
+use Rattle.whole.specs.Table.{table, table-rows, pair-at, each}
 use Rattle.words.specs.Words.{two-at, word-at}
 use Rattle.shuffles.specs.Shuffles.{shuffle-count, any-lacking}
 use Rattle.account.specs.Measures.{row-of, pairs-of, weight-of, spread-of}
 use Rattle.places.specs.Places.{across, up, at-one-place, place-rules-of, places-in-turn}
 use Rattle.places.specs.Bands.{any-empty-band, any-not-rising, any-misplaced}
-use Rattle.image.specs.Joins.{put, joins-from, join-rules}
+use Rattle.image.specs.Joins.{join-weight, joins-from, join-rules}
 use Rattle.image.specs.Image.{Job, job-of, in-values, in-categories, in-joins, in-places, in-bands, in-shuffles, image-rules}
 use Rattle.image.specs.Image.{image-refusal, job-bytes}
 use Rattle.image.specs.declared.Given.{Given}
@@ -49,11 +49,12 @@ report-image =
 pub report-accepted : image-refusal report-image ≡ 0
 unfolding image-refusal image-rules in-values in-categories in-joins in-places in-bands in-shuffles
     in-turn join-rules places-in-turn place-rules-of across up at-one-place any-misplaced any-empty-band any-not-rising any-lacking
-    shuffle-count lacks some any-beyond any-above job-of table put two-at word-at weight-of spread-of pairs-of row-of sum pair-at
+    shuffle-count lacks some any-beyond any-above job-of table table-rows join-weight two-at word-at
+    weight-of spread-of pairs-of row-of sum pair-at
 report-accepted = refl
 
 pub report-read : job-of report-image ≡ report-job
-unfolding job-of table put two-at word-at
+unfolding job-of table table-rows join-weight two-at word-at
 report-read = refl
 
 pub report-written : job-bytes report-counts report-job ≡ report-image

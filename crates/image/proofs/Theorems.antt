@@ -2,10 +2,9 @@
 use mathlib.Core.Path.{_≡_, refl, sym, ap, _∙_, subst}
 use mathlib.Core.Bool.{false}
 use mathlib.Core.List.{List, [], _∷_}
-use Prim.Native.Nat.{ℕ, _+_, _*_, _≤_, _<_}
-use native.Mathlib.Nat as N
+use Prim.Native.Nat.{ℕ, _*_, _≤_, _<_}
 use native.Mathlib.Omega.{arith}
-use lib.ListN.{length, getD, take, drop, length-drop}
+use lib.ListN.{length, getD, take, drop}
 use lib.Seq.{take-at}
 use Rattle.whole.specs.Rules.{first-broken, Applies, misfits}
 use Rattle.whole.specs.Search.{any-above}
@@ -13,8 +12,7 @@ use Rattle.whole.proofs.Rules.{in-range, first-applies, worked-when-taken, kept
 use Rattle.whole.specs.Table.{over}
 use Rattle.account.specs.Classes.{class-rules}
 use Rattle.account.specs.Refusals.{sum-rules}
-use Rattle.image.specs.Image.{Job, count, from-categories, from-joins, from-places, from-bands, from-shuffles, job-of}
-use Rattle.image.specs.Image.{image-refusal, job-bytes}
+use Rattle.image.specs.Image.{Job, count, job-of, image-refusal, job-bytes}
 use Rattle.image.specs.Reader.{Buffers, buffer-lengths, filled, counts-in, read-rules, read-refusal, read-counts, read-left}
 use Rattle.image.specs.Writer.{lent-job, write-rules, write-refusal, write-length, write-left}
 use Rattle.image.specs.RoundTrip.{ReadBack, given-in, left, WrittenBack, TakenByAll}
@@ -35,6 +33,7 @@ use Rattle.image.proofs.Called.{
   job-within,
   job-writable,
 }
+use Rattle.image.proofs.FirstBytes.{accepted-short}
 use Rattle.image.proofs.ItemKinds.{Bytes}
 use Rattle.image.proofs.Laid as laid
 use Rattle.image.proofs.Parts.{Parted}
@@ -109,18 +108,7 @@ read-then-written image lent out h e room =
 
 -- ---- an accepted image has at most 44,908 bytes
 pub at-most-44908 : (image : List ℕ) (lent : Buffers) → read-refusal image lent ≡ 0 → length image ≤ 44908
-at-most-44908 image lent e =
-    let a = accepted image (read-taken image lent e .1) in
-    let c = counted image a in
-    let l1 = length-drop (2 + 4 * count image) image in
-    let l2 = length-drop (2 + 1 * count (from-categories image)) (from-categories image) in
-    let l3 = length-drop (2 + 3 * count (from-joins image)) (from-joins image) in
-    let l4 = length-drop (2 + 8 * count (from-places image)) (from-places image) in
-    let l5 = length-drop (2 + 4 * count (from-bands image)) (from-bands image) in
-    let l6 = length-drop (2 + count image * count (from-shuffles image)) (from-shuffles image) in
-    let rows = N.mul-le-mul {n₂ = 64} {m₂ = 499} (c .zones) (c .shuffles) in
-    let end = a .ended in
-    omega arith
+at-most-44908 image lent e = accepted-short image (read-taken image lent e .1)
 
 -- ---- the job of an accepted image is taken by the other calls, and a class account or a report under classes 0 to 8 takes it too
 pub taken-by-all : (image : List ℕ) (lent : Buffers) → read-refusal image lent ≡ 0 → TakenByAll image

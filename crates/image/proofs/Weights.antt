@@ -1,16 +1,14 @@
 -- What is known of joins and of weights that break no rule, and what decides where 1 to 5 hold. Assumes nothing.
-use mathlib.Core.Path.{_≡_, refl, sym, ap, _∙_, subst}
-use mathlib.Core.Bool.{Bool, true, false, not, _&&_}
-use mathlib.Core.List.{List, [], _∷_}
-use Prim.Native.Nat.{ℕ, zero, suc, _+_, _*_, _/_, _%_, _≤_, _<_}
-use native.Mathlib.Decide.{ℕ-discrete}
+use mathlib.Core.Path.{_≡_, refl, sym, ap, _∙_}
+use mathlib.Core.Bool.{false, not, _&&_}
+use mathlib.Core.List.{List, _∷_}
+use Prim.Native.Nat.{ℕ, suc, _+_, _*_, _/_, _%_, _≤_, _<_}
 use native.Mathlib.Omega.{arith}
 use borrow.Author.Tests.{le-ltb, eq-eqb, ltb-true, ltb-false, eqb-false, lt-ltb, not-false}
 use lib.Dec.{eqb, ltb}
 use lib.Arith.{digits-div, digits-mod}
 use lib.IntN.{ℤ}
-use lib.ListN.{length, getD, set, replicate, length-set, length-replicate}
-use lib.Seq.{getD-set-same, getD-set-other, set-out}
+use lib.ListN.{length, getD}
 use Rattle.whole.specs.Rules.{first-broken, in-turn, outside}
 use Rattle.whole.specs.Search.{any-beyond, any-above, any-on-diagonal}
 use Rattle.whole.specs.Table.{table, pair-at}
@@ -18,11 +16,13 @@ use Rattle.whole.proofs.InTurn.{Numbered, turn-each}
 use Rattle.whole.proofs.Lists.{within}
 use Rattle.whole.proofs.Rules.{holds, in-range, both-passed, other-fails, first-fails}
 use Rattle.whole.proofs.Search.{none-some, all-within}
+use Rattle.whole.proofs.TableRows.{rows-at, rows-each}
 use Rattle.shuffles.specs.Shuffles.{shuffle-count, shuffle-refusal}
 use Rattle.shuffles.proofs.ShuffleList.{rows-counted}
 use Rattle.account.specs.Refusals.{job-rules, sum-rules, call-rules, job-refusal}
-use Rattle.image.specs.Joins.{Join, place, put, weights-of, not-rising, join-rules, weight-rules}
+use Rattle.image.specs.Joins.{Join, join-weight, weights-of, not-rising, join-rules, weight-rules}
 use Rattle.image.specs.Image.{shuffle-rules}
+use Rattle.image.proofs.JoinWeight.{weight-holds, place, weights-length}
 
 -- ---- one join that breaks no rule
 
@@ -63,74 +63,22 @@ module _ (n : ℕ) (join : ℕ → Join) (k : ℕ) (sound : first-broken (in-tur
   pub joins-inside : (i : ℕ) → i < k → place n (join i) < n * n
   joins-inside i h = let f = fair-each i h in within n (join i .from) (join i .to) (f .from-in) (f .to-in)
 
--- ---- the table of a list of joins
-
--- putting weights keeps the length
-put-length : (n : ℕ) (joins : List Join) (weights : List ℕ) → length (put n joins weights) ≡ length weights
-unfolding put
-put-length n [] weights = refl
-put-length n (join ∷ joins) weights =
-    put-length n joins (set weights (place n join) (join .weight)) ∙ length-set weights (place n join) (join .weight)
-
-pub weights-length : (n : ℕ) (joins : List Join) → length (weights-of n joins) ≡ n * n
-weights-length n joins = put-length n joins (replicate (n * n) 0) ∙ length-replicate (n * n) 0
-
--- what holds of every entry after a store
-stored-each :
-    (P : ℕ → Type 0) (weights : List ℕ) (q w : ℕ) → P w → ((p : ℕ) → P (getD weights p 0)) → (p : ℕ) → P (getD (set weights q w) p 0)
-stored-each P weights q w e h p = pick (ℕ-discrete p q) (ltb q (length weights)) refl
-  where
-    pick : Dec (p ≡ q) → (b : Bool) → ltb q (length weights) ≡ b → P (getD (set weights q w) p 0)
-    pick (yes r) true t =
-        subst P (sym (ap (λ t. getD (set weights q w) t 0) r ∙ getD-set-same weights q w 0 (ltb-true q (length weights) t))) e
-    pick (yes r) false t = subst P (sym (ap (λ l. getD l p 0) (set-out weights q w (ltb-false q (length weights) t)))) (h p)
-    pick (no r) b t = subst P (sym (getD-set-other weights q p w 0 r)) (h p)
-
-put-light :
-    (n : ℕ) (join : ℕ → Join) (k : ℕ) (weights : List ℕ) → ((i : ℕ) → i < k → join i .weight ≤ 9) → ((p : ℕ) → getD weights p 0 ≤ 9) →
-    (p : ℕ) → getD (put n (table join k) weights) p 0 ≤ 9
-unfolding put table
-put-light n join zero weights h l = l
-put-light n join (suc k) weights h l =
-    put-light n (λ i. join (suc i)) k (set weights (place n (join 0)) (join 0 .weight)) (λ i q. h (suc i) (omega arith))
-    (stored-each (λ w. w ≤ 9) weights (place n (join 0)) (join 0 .weight) (h 0 (omega arith)) l)
-
-put-past :
-    (n : ℕ) (join : ℕ → Join) (k p : ℕ) (weights : List ℕ) → ((i : ℕ) → i < k → place n (join i) ≡ p → ⊥) → getD weights p 0 ≡ 0 →
-    getD (put n (table join k) weights) p 0 ≡ 0
-unfolding put table
-put-past n join zero p weights h e = e
-put-past n join (suc k) p weights h e =
-    put-past n (λ i. join (suc i)) k p (set weights (place n (join 0)) (join 0 .weight)) (λ i q. h (suc i) (omega arith))
-    (getD-set-other weights (place n (join 0)) p (join 0 .weight) 0 (λ r. h 0 (omega arith) (sym r)) ∙ e)
-
-none-yet : (m p : ℕ) → getD {A = ℕ} (replicate m 0) p 0 ≡ 0
-none-yet zero p = refl
-none-yet (suc m) zero = refl
-none-yet (suc m) (suc p) = none-yet m p
-
-module _ (n : ℕ) (join : ℕ → Join) (k : ℕ) (sound : first-broken (in-turn (join-rules n join) k) ≡ 0) where
   pub joins-light : any-above 9 (weights-of n (table join k)) ≡ false
   joins-light =
       all-within 9 (weights-of n (table join k))
-      (λ p q. put-light n join k (replicate (n * n) 0) (λ i h. fair-each n join k sound i h .light)
-      (λ t. omega (arith, none-yet (n * n) t)) p)
+      (λ p q.
+      rows-each (join-weight (table join k)) (λ w. w ≤ 9) n n 0
+      (λ i j a b. weight-holds (λ w. w ≤ 9) join k i j (omega arith) (λ t h e f. fair-each t h .light)) p
+      (omega (arith, weights-length n (table join k))))
 
-  -- a place on the diagonal has no join
-  off-diagonal : (i j : ℕ) → i < k → j < n → place n (join i) ≡ j * n + j → ⊥
-  off-diagonal i j h l e =
-      let f = fair-each n join k sound i h in
-      let row : join i .from ≡ j = sym (digits-div (join i .from) (f .to-in)) ∙ ap (λ t. t / n) e ∙ digits-div j l in
-      let column : join i .to ≡ j = sym (digits-mod (join i .from) (f .to-in)) ∙ ap (λ t. t % n) e ∙ digits-mod j l in
-      f .apart (row ∙ sym column)
-
+  -- no join goes from a zone to itself
   pub joins-clear : any-on-diagonal n (weights-of n (table join k)) ≡ false
   unfolding any-on-diagonal pair-at
   joins-clear =
       none-some (λ j. ltb 0 (getD (weights-of n (table join k)) (j * n + j) 0)) n
       (λ j l.
-      let none = put-past n join k (j * n + j) (replicate (n * n) 0) (λ i h. off-diagonal i j h l) (none-yet (n * n) (j * n + j)) in
-      le-ltb 0 (getD (weights-of n (table join k)) (j * n + j) 0) (omega arith))
+      let none = weight-holds (λ w. w ≡ 0) join k j j refl (λ t h e f. absurd (fair-each t h .apart (e ∙ sym f))) in
+      ap (ltb 0) (rows-at (join-weight (table join k)) n n j j 0 l l ∙ none))
 
 -- ---- a table of weights of which none breaks a rule
 

@@ -1,11 +1,12 @@
 -- Joins: from, to, weight. An image lists them, one for each weight above 0; a job has a table of weights, a row of n for each zone.
 -- Assumes nothing.
-use mathlib.Core.Bool.{Bool, false, not, _&&_, _||_}
+use mathlib.Core.Bool.{Bool, false, not, cond, _&&_, _||_}
 use mathlib.Core.List.{List, [], _∷_}
-use Prim.Native.Nat.{ℕ, zero, suc, _+_, _*_, _/_, _%_}
+use Prim.Native.Nat.{ℕ, zero, suc, _+_, _/_, _%_}
 use lib.Dec.{eqb, ltb}
-use lib.ListN.{getD, set, replicate}
+use lib.ListN.{getD}
 use Rattle.whole.specs.Rules.{Rule, outside}
+use Rattle.whole.specs.Table.{table-rows}
 
 pub record Join : Type 0 where
   pub from : ℕ
@@ -14,18 +15,14 @@ pub record Join : Type 0 where
 
 -- ---- the table of some joins
 
--- the place of a join's weight in the table
-abbrev pub place : ℕ → Join → ℕ
-place n join = join .from * n + join .to
+-- the weight of the join from zone i to zone j, 0 where no join goes there
+unfoldable pub join-weight : List Join → ℕ → ℕ → ℕ
+join-weight [] i j = 0
+join-weight (join ∷ joins) i j = cond (eqb (join .from) i && eqb (join .to) j) (join .weight) (join-weight joins i j)
 
--- a table with the weight of each join put at its place
-unfoldable pub put : ℕ → List Join → List ℕ → List ℕ
-put n [] weights = weights
-put n (join ∷ joins) weights = put n joins (set weights (place n join) (join .weight))
-
--- the weights of some joins: a weight with no join is 0
+-- the weights of some joins between n zones, a row of n for each zone
 abbrev pub weights-of : ℕ → List Join → List ℕ
-weights-of n joins = put n joins (replicate (n * n) 0)
+weights-of n joins = table-rows (join-weight joins) n n
 
 -- ---- the joins of a table
 

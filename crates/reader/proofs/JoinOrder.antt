@@ -9,8 +9,9 @@ use borrow.Author.Tests.{lt-ltb, le-ltb, ltb-true, ltb-false}
 use lib.Dec.{eqb, ltb}
 use Rattle.whole.specs.Rules.{Rule, first-broken, in-turn, outside}
 use Rattle.whole.proofs.Rules.{both-passed}
-use Rattle.image.specs.Joins.{Join, place, not-rising, join-rules}
+use Rattle.image.specs.Joins.{Join, not-rising, join-rules}
 use Rattle.image.proofs.JoinOrder.{place-decides}
+use Rattle.image.proofs.JoinWeight.{place}
 use Rattle.image.proofs.Weights.{fair-each}
 use Rattle.reader.specs.Steps.{rules-by-place}
 

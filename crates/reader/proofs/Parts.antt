@@ -8,9 +8,9 @@ use lib.Seq.{take-all, drop-drop}
 use Rattle.whole.specs.Table.{table}
 use Rattle.words.specs.Words.{byte-at}
 use Rattle.image.specs.Image.{count, items, bytes, join-in}
-use Rattle.image.specs.Joins.{place}
 use Rattle.image.proofs.Bytes.{byte-from}
 use Rattle.image.proofs.Items.{bytes-front}
+use Rattle.image.proofs.JoinWeight.{place}
 
 -- ---- the bytes from a place on
 

@@ -4,7 +4,7 @@ ghost use Prim.Native.Nat.{_+_, _*_, _≤_, _<_};
 ghost use lib.ListN.{length, drop, replicate};
 ghost use Rattle.whole.specs.Rules.{first-broken, in-turn};
 ghost use Rattle.whole.specs.Table.{table};
-ghost use Rattle.image.specs.Joins.{put, weights-of, join-rules};
+ghost use Rattle.image.specs.Joins.{weights-of, join-rules};
 ghost use Rattle.image.specs.Image.{join-in};
 ghost use Rattle.reader.specs.Steps.{Joinable, rules-by-place};
 
@@ -73,11 +73,11 @@ fn clear(weights: &mut [u8])
     }
 }
 
-// Puts the weight of each of k joins at its place.
+// Puts the weight of each of k joins at its place, in a table of zeros.
 fn put_joins(image: &[u8], at: usize, k: usize, n: usize, weights: &mut [u8])
     requires { ⌜ Joinable (now image) at k n ⌝ }
-    requires { ⌜ length (now weights) ≡ n * n ⌝ }
-    ensures { λ _. ⌜ now (weights .exit) ≡ put n (table (join-in (drop at (now (image .entry)))) k) (now (weights .entry)) ⌝ }
+    requires { ⌜ now weights ≡ replicate (n * n) 0 ⌝ }
+    ensures { λ _. ⌜ now (weights .exit) ≡ weights-of n (table (join-in (drop at (now (image .entry)))) k) ⌝ }
 {
     let mut i: usize = 0;
     while i < k {

@@ -57,7 +57,7 @@ module _ {A : Type 0} (f : ℕ → ℕ → A) where
           ∙ g (omega arith)
 
   -- the p-th of the whole list
-  rows-place : (m n p : ℕ) (d : A) → p < m * n → getD (table-rows f m n) p d ≡ f (p / n) (p % n)
+  pub rows-place : (m n p : ℕ) (d : A) → p < m * n → getD (table-rows f m n) p d ≡ f (p / n) (p % n)
   rows-place m n p d h =
       let s = split m n p h in
       ap (λ t. getD (table-rows f m n) t d) (sym (s .whole)) ∙ rows-at m n (p / n) (p % n) d (s .row) (s .column)

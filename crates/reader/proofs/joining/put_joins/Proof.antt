@@ -1,11 +1,13 @@
 -- `put_joins` meets its contract. The loop's invariant: the weights are those of the joins passed. Assumes nothing.
-use mathlib.Core.Path.{_≡_, refl, ap, _∙_}
+use mathlib.Core.Path.{_≡_, sym, ap, _∙_}
 use Prim.Native.Nat.{ℕ, _+_, _*_, _-_, _≤_, _<_}
 use native.Mathlib.Omega.{arith}
-use lib.ListN.{length, drop, length-set}
+use lib.ListN.{length, drop, length-replicate}
 use Rattle.whole.specs.Table.{table}
+use Rattle.whole.proofs.Lists.{few}
 use Rattle.image.specs.Image.{join-in}
-use Rattle.image.specs.Joins.{Join, place, put}
+use Rattle.image.specs.Joins.{Join, weights-of}
+use Rattle.image.proofs.JoinWeight.{place, weights-length}
 use Rattle.image.proofs.Weights.{joins-inside}
 use Rattle.reader.proofs.JoinsPut.{put-none, put-next}
 use Rattle.reader.proofs.Parts.{weight-read, place-read}
@@ -13,8 +15,7 @@ use Rattle.reader.proofs.joining.put_joins.Statement.{statement}
 use Rattle.reader.proofs.joining.put_joins.Tie as tie
 
 abbrev Inv-loop : tie.InvT-loop
-Inv-loop image at k n weights₀ i₀ weights i =
-    (i ≤ k) × (length weights ≡ length weights₀) × (weights ≡ put n (table (join-in (drop at image)) i) weights₀)
+Inv-loop image at k n weights₀ i₀ weights i = (i ≤ k) × (weights ≡ weights-of n (table (join-in (drop at image)) i))
 
 abbrev μ-loop : tie.MeasureT-loop
 μ-loop image at k n weights₀ i₀ weights i = k - i
@@ -41,15 +42,22 @@ module _ (c : tie.After-shared-slice-known4 Inv-loop μ-loop) where
       let a = start .args in
       place-read (a .image .now) (a .at) (at-loop .loop .i) n _ _ (at-from .wide .ensures .0) (c .before .wide2 .ensures .0)
 
-  inside : at-from .wide .result * n + c .before .wide2 .result < length (at-loop .loop .weights)
-  inside =
-      let in-table = joins-inside n join (start .args .k) (start .pre .0 .sound) (at-loop .loop .i) (omega arith) in
-      omega (arith, place-is, at-loop .loop .inv .1, start .pre .1)
+  -- it is in the table, and fits
+  in-table : at-from .wide .result * n + c .before .wide2 .result < n * n
+  in-table =
+      let inside = joins-inside n join (start .args .k) (start .pre .0 .sound) (at-loop .loop .i) (omega arith) in
+      omega (arith, place-is)
+
+  near : n * n ≤ 4096
+  near = few n (start .pre .0 .zones)
+
+  as-many : length (at-loop .loop .weights) ≡ n * n
+  as-many = ap length (at-loop .loop .inv .1) ∙ weights-length n (table join (at-loop .loop .i))
 
 loop-holds : tie.Need-loop-holds Inv-loop μ-loop
 loop-holds c =
     let a = c .before .before .args in
-    (omega arith, refl, put-none (a .n) (join-in (drop (a .at) (a .image .now))) (a .weights .now))
+    (omega arith, c .before .before .pre .1 ∙ put-none (a .n) (join-in (drop (a .at) (a .image .now))))
 
 mul-wide : tie.Need-mul-wide Inv-loop μ-loop
 mul-wide c = omega arith
@@ -91,13 +99,13 @@ shared-slice-read-weights : tie.Need-shared-slice-read-weights Inv-loop μ-loop
 shared-slice-read-weights c = omega arith
 
 mul-weights-2 : tie.Need-mul-weights-2 Inv-loop μ-loop
-mul-weights-2 c = omega (arith, inside c)
+mul-weights-2 c = omega (arith, in-table c, near c)
 
 add-weights-3 : tie.Need-add-weights-3 Inv-loop μ-loop
-add-weights-3 c = omega (arith, inside c)
+add-weights-3 c = omega (arith, in-table c, near c)
 
 slice-write-weights : tie.Need-slice-write-weights Inv-loop μ-loop
-slice-write-weights c = omega (arith, inside c)
+slice-write-weights c = omega (arith, in-table c, as-many c)
 
 add-i : tie.Need-add-i Inv-loop μ-loop
 add-i c = omega arith
@@ -109,13 +117,18 @@ loop-again : tie.Need-loop-again Inv-loop μ-loop
 loop-again c =
     let b = at-loop c .loop in (
       omega arith,
-      length-set (b .weights) _ _ ∙ b .inv .1,
-      put-next (n c) (join c) (b .i) (b .weights) (start c .args .weights .now) _ _ (b .inv .2) (place-is c)
+      put-next (n c) (join c) (start c .args .k) (b .i) (b .weights) _ _ (start c .pre .0 .sound) (omega arith) (b .inv .1) (place-is c)
           (weight-read (start c .args .image .now) (start c .args .at) (b .i)),
     )
 
 same-length : tie.Need-same-length Inv-loop μ-loop
-same-length c = c .before .loop .inv .1
+same-length c =
+    let a = c .before .before .before .before in
+    let b = c .before .loop in
+    let n = a .args .n in
+    ap length (b .inv .1)
+    ∙ weights-length n (table (join-in (drop (a .args .at) (a .args .image .now))) (b .i))
+    ∙ sym (ap length (a .pre .1) ∙ length-replicate (n * n) 0)
 
 returns : tie.Need-returns Inv-loop μ-loop
 returns c =
@@ -123,7 +136,7 @@ returns c =
     let b = c .before .loop in
     let join = join-in (drop (a .at) (a .image .now)) in
     let all : b .i ≡ a .k = omega arith in
-    b .inv .2 ∙ ap (λ m. put (a .n) (table join m) (a .weights .now)) all
+    b .inv .1 ∙ ap (λ m. weights-of (a .n) (table join m)) all
 
 pub put-joins-spec : {M : Type 1} → statement M
 put-joins-spec =

@@ -17,7 +17,8 @@ use Rattle.words.specs.Words.{word-at}
 use Rattle.account.specs.Refusals.{sum-rules, job-refusal}
 use Rattle.image.specs.Image.{signed-words, join-in}
 use Rattle.image.specs.Joins.{weights-of}
-use Rattle.image.proofs.Weights.{weights-length, joins-light, joins-clear, sums-decide}
+use Rattle.image.proofs.JoinWeight.{weights-length}
+use Rattle.image.proofs.Weights.{joins-light, joins-clear, sums-decide}
 use Rattle.reader.proofs.Over.{read-front}
 use Rattle.reader.proofs.judging.judge_sums.Statement.{statement}
 use Rattle.reader.proofs.judging.judge_sums.Tie as tie

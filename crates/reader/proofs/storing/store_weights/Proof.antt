@@ -7,7 +7,7 @@ use lib.Seq.{length-take-le}
 use Rattle.whole.specs.Table.{table}
 use Rattle.image.specs.Image.{join-in}
 use Rattle.image.specs.Joins.{weights-of}
-use Rattle.image.proofs.Weights.{weights-length}
+use Rattle.image.proofs.JoinWeight.{weights-length}
 use Rattle.reader.proofs.Over.{front-over}
 use Rattle.reader.proofs.storing.store_weights.Statement.{statement}
 use Rattle.reader.proofs.storing.store_weights.Tie as tie
