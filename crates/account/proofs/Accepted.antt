@@ -19,8 +19,8 @@ use Rattle.shuffles.specs.Shuffles.{shuffle-count, any-lacking, shuffle-refusal
 use Rattle.shuffles.specs.Steps.{Shuffles}
 use Rattle.shuffles.proofs.Theorems.{list-taken}
 use Rattle.account.specs.Measures.{weight-of, spread-of}
-use Rattle.account.specs.Refusals.{values-refusal, job-rules, job-lengths, call-rules, account-rules, account-refusal}
-use Rattle.account.specs.Classes.{class-rules, class-refusal}
+use Rattle.account.specs.Refusals.{job-rules, job-lengths, call-rules, account-rules, account-refusal}
+use Rattle.account.specs.Classes.{class-rules, class-lengths}
 use Rattle.account.specs.Rank.{rank-rules, rank-refusal}
 use Rattle.account.specs.Steps.{Sized, Weighted, Job, ClassJob}
 
@@ -139,17 +139,6 @@ module _ (n : ℕ) (values : List ℤ) (weights : List ℕ) (lent : List (ℕ ×
         let later = both-hold besides 0 (job-rules n values weights) (tt, (tt, (tt, (tt, (tt, tt))))) (c .job) e in
         both-hold (job-rules n values weights ++ besides) 0 (size-rules n lengths) (tt, (tt, tt)) sizes later
 
-    -- and the values alone
-    pub values-let-in : values-refusal n values ≡ 0
-    unfolding values-refusal job-rules
-    values-let-in =
-        let f = c .sizes in
-        let lengths : List (ℕ × ℕ) = (length values, n) ∷ [] in
-        let fit : misfits lengths ≡ false = rw (eq-eqb (length values) n (f .values-fit)) refl in
-        both-hold ((any-beyond 100000 values, 3) ∷ []) 0 (size-rules n lengths) (tt, (tt, tt))
-        (sizes-let-in n lengths (record { two = f .two; zones = f .zones; fitting = fit }))
-        (rw (holds (any-beyond 100000 values) 2 _ (c .job) .0) refl)
-
 -- ---- of the account and of the hot list
 pub record Accepted {A : Type 0} (n : ℕ) (values : List ℤ) (weights : List ℕ) (places : List A) : Type 0 where
   pub two : 2 ≤ n
@@ -207,21 +196,22 @@ pub class-job :
 class-job c = record { job = c .good .job; count = c .classes-fit; low = c .low }
 
 -- and of the class account's refusal
-pub record ClassAccepted (room n : ℕ) (values : List ℤ) (weights classes : List ℕ) (rows locals : ℕ) : Type 0 where
-  pub whole : Classed n values weights classes ((rows, room) ∷ (locals, 9 * n) ∷ [])
-  pub rows-fit : rows ≡ room
-  pub locals-fit : locals ≡ 9 * n
+pub record ClassAccepted (n : ℕ) (values : List ℤ) (weights classes : List ℕ) (rows of-classes own : ℕ) : Type 0 where
+  pub whole : Classed n values weights classes (class-lengths n rows of-classes own)
+  pub rows-fit : rows ≡ 27
+  pub of-classes-fit : of-classes ≡ 9 * n
+  pub own-fit : own ≡ n
 
 pub class-accepted :
-    (room n : ℕ) (values : List ℤ) (weights classes : List ℕ) (rows locals : ℕ) →
-    class-refusal room n values weights classes rows locals ≡ 0 →
-    ClassAccepted room n values weights classes rows locals
-unfolding class-refusal
-class-accepted room n values weights classes rows locals e =
-    let w = classed n values weights classes ((rows, room) ∷ (locals, 9 * n) ∷ []) e in
-    let l1 = fits rows room ((locals, 9 * n) ∷ []) (w .lent-fit) in
-    let l2 = fits locals (9 * n) [] (l1 .1) in
-    record { whole = w; rows-fit = l1 .0; locals-fit = l2 .0 }
+    (n : ℕ) (values : List ℤ) (weights classes : List ℕ) (rows of-classes own : ℕ) →
+    first-broken (class-rules n values weights classes (class-lengths n rows of-classes own)) ≡ 0 →
+    ClassAccepted n values weights classes rows of-classes own
+class-accepted n values weights classes rows of-classes own e =
+    let w = classed n values weights classes (class-lengths n rows of-classes own) e in
+    let l1 = fits rows 27 ((of-classes, 9 * n) ∷ (own, n) ∷ []) (w .lent-fit) in
+    let l2 = fits of-classes (9 * n) ((own, n) ∷ []) (l1 .1) in
+    let l3 = fits own n [] (l2 .1) in
+    record { whole = w; rows-fit = l1 .0; of-classes-fit = l2 .0; own-fit = l3 .0 }
 
 -- ---- of a rank: the shuffles are whole rows, and none lacks a zone number
 pub record RankAccepted (n : ℕ) (values : List ℤ) (weights shuffles : List ℕ) : Type 0 where

@@ -12,7 +12,6 @@ use Rattle.whole.specs.Rules.{first-broken, Applies, misfits}
 use Rattle.whole.specs.Search.{any-above}
 use Rattle.whole.specs.Sum.{sum}
 use Rattle.whole.specs.Table.{at, pair-at}
-use Rattle.whole.proofs.Lists.{within}
 use Rattle.whole.proofs.Rules.{first-least, first-applies}
 use Rattle.whole.proofs.Search.{all-within}
 use Rattle.whole.proofs.TableRows as rows
@@ -22,8 +21,9 @@ use Rattle.account.specs.Refusals.{job-rules, call-rules, account-rules,
 use Rattle.account.specs.Answers.{class-row}
 use Rattle.account.specs.Classes.{class-weight, class-row-of, class-local-of, sum-at, row-at, class-sums, class-locals, class-rules}
 use Rattle.account.proofs.Accepted.{let-in, account-called, classed, class-called}
-use Rattle.account.proofs.Adding.{locals-sum, counts-once, weight-parts, cross-parts, squares-parts, local-parts}
+use Rattle.account.proofs.Adding.{locals-sum}
 use Rattle.account.proofs.ByClass.{class-le}
+use Rattle.account.proofs.NineClasses.{weights-together, crosses-together, squares-together, locals-together}
 use Rattle.account.proofs.Reading.{weight-le}
 use Rattle.account.proofs.Theorems.{Sharp, limits-of, within-sizes}
 
@@ -89,34 +89,21 @@ module _ (n : ℕ) (values : List ℤ) (weights classes : List ℕ) (lent : List
   pub class-limits : (k : ℕ) → Limits (class-weight weights classes n k) (at values) n
   class-limits k = limits-of (class-weight weights classes n k) (at values) n (class-sizes k)
 
-  -- each weight counts in one class
-  shared :
-      (z : ℤ) (i j : ℕ) → i < n → j < n →
-      sum (λ k. pos (class-weight weights classes n k i j) *ℤ z) 9 ≡ pos (pair-at weights n i j) *ℤ z
-  unfolding pair-at class-weight
-  shared z i j p q =
-      counts-once (pair-at classes n i j) (pair-at weights n i j) 9 z
-      (omega (arith, classed n values weights classes lent taken .low (i * n + j) (within n i j p q)))
-
-  -- so the nine classes, unclassed pairs included, add up to W, P and G, and in each zone to its L
+  -- the nine classes, unclassed pairs included, add up to W, P and G, and in each zone to its L
   pub nine-weights : sum (λ k. class-row-of n values weights classes k .weight) 9 ≡ weight-of (pair-at weights n) n
-  unfolding class-row-of class-row
-  nine-weights = weight-parts (class-weight weights classes n) (pair-at weights n) 9 n shared
+  nine-weights = weights-together n values weights classes (classed n values weights classes lent taken .low)
 
   pub nine-crosses :
       sum (λ k. class-row-of n values weights classes k .cross) 9 ≡ cross-of (pair-at weights n) (deviation-of (at values) n) n
-  unfolding class-row-of class-row
-  nine-crosses = cross-parts (class-weight weights classes n) (pair-at weights n) 9 n shared (deviation-of (at values) n)
+  nine-crosses = crosses-together n values weights classes (classed n values weights classes lent taken .low)
 
   pub nine-squares : sum (λ k. class-row-of n values weights classes k .squares) 9 ≡ squares-of (pair-at weights n) (at values) n
-  unfolding class-row-of class-row
-  nine-squares = squares-parts (class-weight weights classes n) (pair-at weights n) 9 n shared (at values)
+  nine-squares = squares-together n values weights classes (classed n values weights classes lent taken .low)
 
   pub nine-locals :
       (i : ℕ) → i < n →
       sum (λ k. class-local-of n values weights classes k i) 9 ≡ local-of (pair-at weights n) (deviation-of (at values) n) n i
-  unfolding class-local-of
-  nine-locals i p = local-parts (class-weight weights classes n) (pair-at weights n) 9 n shared (deviation-of (at values) n) i p
+  nine-locals = locals-together n values weights classes (classed n values weights classes lent taken .low)
 
 -- ---- where the account refuses nothing, and the classes are 0 to 8 and every further list fits, nothing is refused
 pub class-taken :

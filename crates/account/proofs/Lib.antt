@@ -6,12 +6,14 @@ pub mod Reading
 pub mod Running
 pub mod Locals
 pub mod ByClass
+pub mod NineClasses
 pub mod ZoneByZone
 pub mod Shuffled
 pub mod Tallied
 pub mod Accepted
 pub mod Judged
 pub mod Answered
+pub mod ClassAnswered
 pub mod Theorems
 pub mod ClassTheorems
 pub mod RankTheorems

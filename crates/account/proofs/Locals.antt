@@ -1,5 +1,5 @@
 -- The deviations and the local numerators as the code holds them in lists, and what is known of the sums that are told. Assumes nothing.
-use mathlib.Core.Path.{_≡_, _∙_}
+use mathlib.Core.Path.{_≡_, refl, _∙_}
 use mathlib.Core.List.{List}
 use Prim.Native.Nat.{ℕ, _≤_, _<_}
 use native.Mathlib.Nat as N
@@ -12,7 +12,7 @@ use Rattle.whole.proofs.Machine.{Is, told, rd, r64}
 use Rattle.whole.proofs.Sum.{sum-cong}
 use Rattle.whole.proofs.Table.{table-length, table-at, table-held, table-cong}
 use Rattle.account.specs.Measures.{total-of, deviation-of, spread-of, weight-of, cross-of, squares-of, local-of}
-use Rattle.account.specs.Answers.{job-locals}
+use Rattle.account.specs.Answers.{five, job-figures, job-locals}
 use Rattle.account.specs.Steps.{Sized, Valued, Weighted, Job}
 use Rattle.account.proofs.Adding.{local-alike, locals-sum}
 use Rattle.account.proofs.Reading.{table-sized, weight-le}
@@ -112,3 +112,12 @@ module _ (values : List ℤ) (weights : List ℕ) (n : ℕ) (r : Job values weig
   squares-told e =
       told _ 1474560000000000 e
       (squares-size (pair-at weights n) n (r .valued .zones) (weight-le weights n (r .weighted)) (at values) (r .valued .near .size))
+
+-- ---- five numbers that are those of the job
+pub same-figures :
+    (n : ℕ) (values : List ℤ) (weights : List ℕ) (s m w p g : ℤ) → s ≡ total-of (at values) n → m ≡ spread-of (at values) n →
+    w ≡ weight-of (pair-at weights n) n → p ≡ cross-of (pair-at weights n) (deviation-of (at values) n) n →
+    g ≡ squares-of (pair-at weights n) (at values) n →
+    five (record { total = s; spread = m; weight = w; cross = p; squares = g }) ≡ job-figures n values weights
+unfolding job-figures
+same-figures n values weights s m w p g e1 e2 e3 e4 e5 = rw (e1, e2, e3, e4, e5) refl

@@ -21,12 +21,12 @@ use Rattle.whole.proofs.SumSize.{sum-above, terms-zero}
 use Rattle.whole.specs.Table.{at, pair-at}
 use Rattle.account.specs.Measures.{total-of, deviation-of, spread-of, weight-of, cross-of, squares-of, local-of}
 use Rattle.account.specs.Limits.{Limits}
-use Rattle.account.specs.Refusals.{values-refusal, job-rules, job-lengths, call-rules, account-rules, account-refusal}
+use Rattle.account.specs.Refusals.{job-rules, job-lengths, call-rules, account-rules, account-refusal}
 use Rattle.account.specs.Answers.{five, number-of, figures-of, job-figures, job-locals, account-figures, account-locals}
 use Rattle.account.specs.declared.Sums.{Sums}
 use Rattle.account.specs.declared.Answer.{Answer}
 use Rattle.account.specs.declared.Answer.the-variants.{Refused, Accounted}
-use Rattle.account.proofs.Accepted.{Kept, fitting, accepted, account-called, values-let-in}
+use Rattle.account.proofs.Accepted.{Kept, fitting, accepted, account-called}
 use Rattle.account.proofs.Adding as adding
 use Rattle.account.proofs.Judged.{by-sizes}
 use Rattle.account.proofs.Locals.{locals-cross}
@@ -140,9 +140,6 @@ module _ (n : ℕ) (values : List ℤ) (weights : List ℕ) (locals : List ℤ) 
 
   pub spread-one : pos 1 ≤ℤ spread-of (at values) n
   spread-one = one-of _ (adding.spread-above (at values) n) (good .varied)
-
-  pub values-taken : values-refusal n values ≡ 0
-  values-taken = values-let-in n values weights _ (account-called n values weights locals taken)
 
 -- ---- the refusal is the least number that applies: it applies, and no number below it does
 module _ {A : Type 0} (n : ℕ) (values : List ℤ) (weights : List ℕ) (locals : List A) where

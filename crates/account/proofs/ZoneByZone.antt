@@ -27,7 +27,7 @@ use Rattle.account.specs.declared.ClassRow.{ClassRow}
 use Rattle.account.proofs.Adding.{part-of, locals-sum}
 use Rattle.account.proofs.ByClass.{class-le, by-places, sums-sized, sums-alike, row-more}
 use Rattle.account.proofs.Reading.{weight-le}
-use Rattle.account.proofs.Sizes.{deviation-size, square-size, row-size, local-size}
+use Rattle.account.proofs.Sizes.{deviation-size, square-size, row-size, weight-size, squares-size, local-size}
 
 -- ---- what is added fits
 pub added-small : {y z : ℤ} {b : ℕ} → Is y z b → b ≤ 94371840000000000 → natAbs y ≤ 94371840000000000
@@ -228,3 +228,17 @@ module _ (n : ℕ) (values : List ℤ) (weights classes : List ℕ) (g : ClassJo
         most k p,
         g .job .valued .zones,
       ))
+
+  -- W and G of a class are no larger than a local numerator can be
+  pub class-weight-size : (k : ℕ) → natAbs (class-row-of n values weights classes k .weight) ≤ 94371840000000000
+  unfolding class-row-of class-row
+  class-weight-size k =
+      N.le-trans (weight-size (class-weight weights classes n k) n (g .job .valued .zones) (class-light k))
+      (leb→le 36864 94371840000000000 tt)
+
+  pub class-squares-size : (k : ℕ) → natAbs (class-row-of n values weights classes k .squares) ≤ 94371840000000000
+  unfolding class-row-of class-row
+  class-squares-size k =
+      let v = g .job .valued in
+      N.le-trans (squares-size (class-weight weights classes n k) n (v .zones) (class-light k) (at values) (v .near .size))
+      (leb→le 1474560000000000 94371840000000000 tt)

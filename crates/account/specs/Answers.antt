@@ -1,11 +1,11 @@
 -- What the account answers, and what it leaves in the lent list of local numerators. Assumes nothing.
 use mathlib.Core.List.{List, [], _∷_}
 use Prim.Native.Nat.{ℕ}
-use lib.IntN.{ℤ, pos}
+use lib.IntN.{ℤ}
 use Rattle.whole.specs.Rules.{unless-refused}
 use Rattle.whole.specs.Table.{table, at, pair-at}
 use Rattle.account.specs.Measures.{total-of, deviation-of, spread-of, weight-of, cross-of, squares-of, local-of}
-use Rattle.account.specs.Refusals.{values-refusal, account-refusal}
+use Rattle.account.specs.Refusals.{account-refusal}
 use Rattle.account.specs.declared.Sums.{Sums}
 use Rattle.account.specs.declared.ClassRow.{ClassRow}
 use Rattle.account.specs.declared.Answer.{Answer}
@@ -50,10 +50,6 @@ class-row f x n = record {
 -- L(0), L(1), .. of a job
 unfoldable pub job-locals : ℕ → List ℤ → List ℕ → List ℤ
 job-locals n values weights = table (local-of (pair-at weights n) (deviation-of (at values) n) n) n
-
--- M of values alone, 0 where they are refused
-unfoldable pub values-spread : ℕ → List ℤ → ℤ
-values-spread n values = unless-refused (values-refusal n values) (spread-of (at values) n) (pos 0)
 
 -- the figures that the call answers
 unfoldable pub account-figures : ℕ → List ℤ → List ℕ → List ℤ → List ℤ

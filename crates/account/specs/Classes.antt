@@ -8,9 +8,9 @@ use lib.IntN.{ℤ}
 use lib.ListN.{length}
 use Rattle.whole.specs.Rules.{Rule, first-broken, unless-refused}
 use Rattle.whole.specs.Search.{any-above}
-use Rattle.whole.specs.Table.{table, table-rows, at, pair-at}
+use Rattle.whole.specs.Table.{table-rows, at, pair-at}
 use Rattle.account.specs.Measures.{deviation-of, local-of}
-use Rattle.account.specs.Answers.{class-row}
+use Rattle.account.specs.Answers.{class-row, job-figures, job-locals}
 use Rattle.account.specs.Refusals.{call-rules}
 use Rattle.account.specs.declared.ClassRow.{ClassRow}
 
@@ -53,23 +53,27 @@ unfoldable pub class-rules : ℕ → List ℤ → List ℕ → List ℕ → List
 class-rules n values weights classes lent =
     call-rules n values weights ((length classes, n * n) ∷ lent) ((any-above 8 classes, 9) ∷ [])
 
--- the class account's refusal, 0 where no rule is broken; its nine rows lie in a list of `room` places
-unfoldable pub class-refusal : ℕ → ℕ → List ℤ → List ℕ → List ℕ → ℕ → ℕ → ℕ
-class-refusal room n values weights classes rows locals =
-    first-broken (class-rules n values weights classes ((rows, room) ∷ (locals, 9 * n) ∷ []))
+-- the lengths of the lists that the class account is lent, with those that they must have: for the nine rows, for the local numerators of
+-- each class, and for the job's own
+abbrev pub class-lengths : ℕ → ℕ → ℕ → ℕ → List (ℕ × ℕ)
+class-lengths n rows of-classes own = (rows, 27) ∷ (of-classes, 9 * n) ∷ (own, n) ∷ []
 
--- ---- what the lent lists hold after the call: the rows as a list of 27 sums, or as nine structs, and the local numerators
-module _ (n : ℕ) (values : List ℤ) (weights classes : List ℕ) where
-  abbrev pub class-account-sums : List ℤ → List ℤ → List ℤ
-  class-account-sums rows locals =
-      unless-refused (class-refusal 27 n values weights classes (length rows) (length locals)) (class-sums n values weights classes) rows
+-- ---- the class account: it is lent these three lists
+module _ (n : ℕ) (values : List ℤ) (weights classes : List ℕ) (rows of-classes own : List ℤ) where
+  -- its refusal, 0 where no rule is broken
+  unfoldable pub class-refusal : ℕ
+  class-refusal = first-broken (class-rules n values weights classes (class-lengths n (length rows) (length of-classes) (length own)))
 
-  abbrev pub class-account-rows : List ClassRow → List ℤ → List ClassRow
-  class-account-rows rows locals =
-      unless-refused (class-refusal 9 n values weights classes (length rows) (length locals))
-      (table (class-row-of n values weights classes) 9)
-      rows
+  -- S, M, W, P, G of the whole job, which the call answers
+  unfoldable pub class-account-figures : List ℤ
+  class-account-figures = unless-refused class-refusal (job-figures n values weights) []
 
-  abbrev pub class-account-locals : ℕ → ℕ → List ℤ → List ℤ
-  class-account-locals room rows locals =
-      unless-refused (class-refusal room n values weights classes rows (length locals)) (class-locals n values weights classes) locals
+  -- what the lent lists hold after the call
+  unfoldable pub class-account-rows : List ℤ
+  class-account-rows = unless-refused class-refusal (class-sums n values weights classes) rows
+
+  unfoldable pub class-account-locals : List ℤ
+  class-account-locals = unless-refused class-refusal (class-locals n values weights classes) of-classes
+
+  unfoldable pub class-account-own : List ℤ
+  class-account-own = unless-refused class-refusal (job-locals n values weights) own

@@ -10,12 +10,6 @@ use Rattle.whole.specs.Search.{any-beyond, any-above, any-on-diagonal}
 use Rattle.whole.specs.Table.{at, pair-at}
 use Rattle.account.specs.Measures.{weight-of, spread-of}
 
--- ---- values alone
-
--- 1, 2 and 3; the refusal is 0 where no rule is broken
-unfoldable pub values-refusal : ℕ → List ℤ → ℕ
-values-refusal n values = first-broken (size-rules n ((length values, n) ∷ []) ++ ((any-beyond 100000 values, 3) ∷ []))
-
 -- ---- a job's own rules
 
 -- 6 and 7: W and M

@@ -9,7 +9,7 @@ use lib.ListN.{length, getD}
 use Rattle.whole.specs.Integer.{square}
 use Rattle.whole.specs.Sum.{sum}
 use Rattle.whole.specs.Table.{table-rows, at, pair-at}
-use Rattle.account.specs.Measures.{deviation-of, row-of, cross-of}
+use Rattle.account.specs.Measures.{deviation-of, row-of, cross-of, local-of}
 use Rattle.account.specs.Classes.{class-weight, class-local-of, sum-at}
 use Rattle.account.specs.Rank.{shuffled}
 use Rattle.account.specs.declared.ClassRow.{ClassRow}
@@ -70,6 +70,11 @@ pub record Zoned (n : ℕ) (values : List ℤ) (weights classes : List ℕ) (don
   pub sums : rows ≡ table-rows (λ k place. sum (zone-sum n values weights classes k place) (done k)) 9 3
   pub count : length locals ≡ 9 * n
   pub numerators : (k i : ℕ) → k < 9 → i < done k → at locals (k * n + i) ≡ class-local-of n values weights classes k i
+
+-- the job's own local numerators of the first zones
+pub record Owned (n : ℕ) (values : List ℤ) (weights : List ℕ) (zones : ℕ) (locals : List ℤ) : Type 0 where
+  pub count : length locals ≡ n
+  pub numerators : (i : ℕ) → i < zones → at locals i ≡ local-of (pair-at weights n) (deviation-of (at values) n) n i
 
 -- ---- the shuffles
 

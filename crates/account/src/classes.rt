@@ -1,14 +1,17 @@
 // The class account's work on a job that was judged and accepted: one pass over its pairs, each added to the sums of its own class.
+use crate::Sums;
 use crate::deviations;
 use crate::differences;
 ghost use mathlib.Core.Path.{_≡_};
-ghost use Prim.Native.Nat.{_*_, _+_, _≤_, _<_};
+ghost use Prim.Native.Nat.{ℕ, _*_, _+_, _≤_, _<_};
 ghost use lib.IntN.{pos, natAbs};
 ghost use lib.ListN.{length};
+ghost use Rattle.whole.specs.Sum.{sum};
 ghost use Rattle.whole.specs.Table.{table, table-rows, at};
-ghost use Rattle.account.specs.Measures.{deviation-of};
+ghost use Rattle.account.specs.Measures.{total-of, deviation-of};
+ghost use Rattle.account.specs.Answers.{five, job-figures, job-locals};
 ghost use Rattle.account.specs.Classes.{class-sums, class-locals};
-ghost use Rattle.account.specs.Steps.{Sized, ClassJob, row-added, zone-part, Zoned};
+ghost use Rattle.account.specs.Steps.{Sized, ClassJob, row-added, zone-part, Zoned, Owned};
 
 // Adds to W, P and G of class k. A local numerator is the largest number that is added, and 64 of them fit.
 pub(super) fn add_row(rows: &mut [i64], k: usize, weight: i64, cross: i64, squares: i64)
@@ -61,7 +64,8 @@ pub(super) fn add_pairs(
     }
 }
 
-// Adds zone i to the three sums of each class, and puts its local numerators, of which P is the sum, into their places.
+// Adds zone i to the three sums of each class, and puts its local numerators, of which P is the sum, into their places: those of the
+// classes, and its own, which they add up to.
 pub(super) fn add_zone(
     n: usize,
     values: &[i32],
@@ -70,18 +74,22 @@ pub(super) fn add_zone(
     classes: &[u8],
     i: usize,
     rows: &mut [i64],
+    class_locals: &mut [i64],
     locals: &mut [i64],
 )
     requires { ⌜ ClassJob (now values) (now weights) (now classes) n ⌝ }
     requires { ⌜ now d ≡ table (deviation-of (at (now values)) n) n ⌝ }
     requires { ⌜ i < n ⌝ }
-    requires { ⌜ Zoned n (now values) (now weights) (now classes) (λ k. i) (now rows) (now locals) ⌝ }
+    requires { ⌜ Zoned n (now values) (now weights) (now classes) (λ k. i) (now rows) (now «class_locals») ⌝ }
+    requires { ⌜ Owned n (now values) (now weights) i (now locals) ⌝ }
     ensures { λ _. ⌜ Zoned n (now (values .entry)) (now (weights .entry)) (now (classes .entry))
-        (λ k. i + 1) (now (rows .exit)) (now (locals .exit)) ⌝ }
+        (λ k. i + 1) (now (rows .exit)) (now («class_locals» .exit)) ⌝ }
+    ensures { λ _. ⌜ Owned n (now (values .entry)) (now (weights .entry)) (i + 1) (now (locals .exit)) ⌝ }
 {
     let mut parts: [i64; 27] = [0; 27];
     add_pairs(n, values, d, weights, classes, i, &mut parts);
     let deviation = d[i];
+    let mut own: i64 = 0;
     let mut k: usize = 0;
     while k < 9 {
         let place = k * 3;
@@ -89,9 +97,11 @@ pub(super) fn add_zone(
         let local = deviation * parts[place + 1];
         let squares = parts[place + 2];
         add_row(rows, k, weight, local, squares);
-        locals[k * n + i] = local;
+        class_locals[k * n + i] = local;
+        own += local;
         k += 1;
     }
+    locals[i] = own;
 }
 
 // Sets the 27 sums to 0.
@@ -106,27 +116,103 @@ pub(super) fn clear(rows: &mut [i64])
     }
 }
 
-// The class account of an accepted job, zone by zone: d is worked once, for all of them.
+// The rows and the local numerators of an accepted job, zone by zone: d is worked once, for all of them.
+pub(super) fn add_zones(
+    n: usize,
+    values: &[i32],
+    total: i64,
+    weights: &[u8],
+    classes: &[u8],
+    rows: &mut [i64],
+    class_locals: &mut [i64],
+    locals: &mut [i64],
+)
+    requires { ⌜ ClassJob (now values) (now weights) (now classes) n ⌝ }
+    requires { ⌜ total ≡ total-of (at (now values)) n ⌝ }
+    requires { ⌜ length (now rows) ≡ 27 ⌝ }
+    requires { ⌜ length (now «class_locals») ≡ 9 * n ⌝ }
+    requires { ⌜ length (now locals) ≡ n ⌝ }
+    ensures { λ _. ⌜ now (rows .exit) ≡ class-sums n (now (values .entry)) (now (weights .entry)) (now (classes .entry)) ⌝ }
+    ensures { λ _. ⌜ now («class_locals» .exit)
+        ≡ class-locals n (now (values .entry)) (now (weights .entry)) (now (classes .entry)) ⌝ }
+    ensures { λ _. ⌜ now (locals .exit) ≡ job-locals n (now (values .entry)) (now (weights .entry)) ⌝ }
+{
+    let mut d: [i64; 64] = [0; 64];
+    deviations::deviations(n, values, total, &mut d[..n]);
+    clear(rows);
+    let mut i: usize = 0;
+    while i < n {
+        add_zone(
+            n,
+            values,
+            &d[..n],
+            weights,
+            classes,
+            i,
+            rows,
+            class_locals,
+            locals,
+        );
+        i += 1;
+    }
+}
+
+// W of the nine classes together, at place 0, or their G, at place 2.
+pub(super) fn nine_together(rows: &[i64], place: usize) -> i64
+    requires { ⌜ place < 3 ⌝ }
+    requires { ⌜ length (now rows) ≡ 27 ⌝ }
+    requires { ⌜ ((k : ℕ) → k < 9 → natAbs (at (now rows) (k * 3 + place)) ≤ 94371840000000000) ⌝ }
+    ensures { λ r. ⌜ r ≡ sum (λ k. at (now (rows .entry)) (k * 3 + place)) 9 ⌝ }
+{
+    let mut acc: i64 = 0;
+    let mut k: usize = 0;
+    while k < 9 {
+        acc += rows[k * 3 + place];
+        k += 1;
+    }
+    acc
+}
+
+// The class account of an accepted job, and the five sums of the whole job, of which the classes give three.
 pub(super) fn work_classes(
     n: usize,
     values: &[i32],
     weights: &[u8],
     classes: &[u8],
     rows: &mut [i64],
+    class_locals: &mut [i64],
     locals: &mut [i64],
-)
+) -> Sums
     requires { ⌜ ClassJob (now values) (now weights) (now classes) n ⌝ }
     requires { ⌜ length (now rows) ≡ 27 ⌝ }
-    requires { ⌜ length (now locals) ≡ 9 * n ⌝ }
+    requires { ⌜ length (now «class_locals») ≡ 9 * n ⌝ }
+    requires { ⌜ length (now locals) ≡ n ⌝ }
+    ensures { λ r. ⌜ five r ≡ job-figures n (now (values .entry)) (now (weights .entry)) ⌝ }
     ensures { λ _. ⌜ now (rows .exit) ≡ class-sums n (now (values .entry)) (now (weights .entry)) (now (classes .entry)) ⌝ }
-    ensures { λ _. ⌜ now (locals .exit) ≡ class-locals n (now (values .entry)) (now (weights .entry)) (now (classes .entry)) ⌝ }
+    ensures { λ _. ⌜ now («class_locals» .exit)
+        ≡ class-locals n (now (values .entry)) (now (weights .entry)) (now (classes .entry)) ⌝ }
+    ensures { λ _. ⌜ now (locals .exit) ≡ job-locals n (now (values .entry)) (now (weights .entry)) ⌝ }
 {
-    let mut d: [i64; 64] = [0; 64];
-    deviations::deviations(n, values, &mut d[..n]);
-    clear(rows);
-    let mut i: usize = 0;
-    while i < n {
-        add_zone(n, values, &d[..n], weights, classes, i, rows, locals);
-        i += 1;
+    let total = deviations::total(n, values);
+    let spread = differences::spread(n, values, total);
+    add_zones(
+        n,
+        values,
+        total,
+        weights,
+        classes,
+        rows,
+        class_locals,
+        locals,
+    );
+    let weight = nine_together(rows, 0);
+    let cross = deviations::sum_of(n, locals);
+    let squares = nine_together(rows, 2);
+    Sums {
+        total: total,
+        spread: spread,
+        weight: weight,
+        cross: cross,
+        squares: squares,
     }
 }

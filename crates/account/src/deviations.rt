@@ -21,18 +21,18 @@ pub(super) fn total(n: usize, values: &[i32]) -> i64
     acc
 }
 
-// The deviations d(i), with their sign.
-pub(super) fn deviations(n: usize, values: &[i32], d: &mut [i64])
+// The deviations d(i), with their sign, from S.
+pub(super) fn deviations(n: usize, values: &[i32], total: i64, d: &mut [i64])
     requires { ⌜ Valued (now values) n ⌝ }
+    requires { ⌜ total ≡ total-of (at (now values)) n ⌝ }
     requires { ⌜ length (now d) ≡ n ⌝ }
     ensures { λ _. ⌜ now (d .exit) ≡ table (deviation-of (at (now (values .entry))) n) n ⌝ }
 {
-    let s = total(n, values);
     let count = n as i64;
     let mut i: usize = 0;
     while i < n {
         let x = values[i] as i64;
-        let deviation = count * x - s;
+        let deviation = count * x - total;
         d[i] = deviation;
         i += 1;
     }

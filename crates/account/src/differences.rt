@@ -1,12 +1,11 @@
 // Squared differences of values: M over the pairs i < j, G over the ordered pairs with their weights.
-use crate::deviations;
 ghost use mathlib.Core.Path.{_≡_};
 ghost use Prim.Native.Nat.{_≤_, _<_};
 ghost use lib.IntN.{natAbs, _-ℤ_};
 ghost use Rattle.whole.specs.Integer.{square};
 ghost use Rattle.whole.specs.Sum.{sum};
 ghost use Rattle.whole.specs.Table.{at, pair-at};
-ghost use Rattle.account.specs.Measures.{spread-of, row-of, squares-of};
+ghost use Rattle.account.specs.Measures.{total-of, spread-of, row-of, squares-of};
 ghost use Rattle.account.specs.Steps.{Valued, Job};
 
 // The squared difference of two values.
@@ -34,12 +33,12 @@ pub(super) fn square_sum(n: usize, values: &[i32]) -> i64
     acc
 }
 
-// M, without a walk over the pairs: n times the sum of the squares, less the square of the sum.
-pub(super) fn spread(n: usize, values: &[i32]) -> i64
+// M from S, without a walk over the pairs: n times the sum of the squares, less the square of the sum.
+pub(super) fn spread(n: usize, values: &[i32], total: i64) -> i64
     requires { ⌜ Valued (now values) n ⌝ }
+    requires { ⌜ total ≡ total-of (at (now values)) n ⌝ }
     ensures { λ r. ⌜ r ≡ spread-of (at (now (values .entry))) n ⌝ }
 {
-    let total = deviations::total(n, values);
     let squares = square_sum(n, values);
     let count = n as i64;
     count * squares - total * total

@@ -1,32 +1,14 @@
 // The judges: each answers the number of the first broken rule, 0 where none is broken, and stores nothing.
+use crate::deviations;
 use crate::differences;
 ghost use mathlib.Core.Path.{_≡_};
 ghost use mathlib.Core.List.{[], _∷_};
 ghost use Prim.Native.Nat.{_*_, _≤_};
 ghost use lib.ListN.{length};
 ghost use Rattle.whole.specs.Rules.{first-broken, size-rules};
-ghost use Rattle.account.specs.Refusals.{values-refusal, job-rules, job-lengths, call-rules, job-refusal};
-ghost use Rattle.account.specs.Classes.{class-refusal};
+ghost use Rattle.account.specs.Refusals.{job-rules, job-lengths, call-rules, job-refusal};
+ghost use Rattle.account.specs.Classes.{class-rules, class-lengths};
 ghost use Rattle.account.specs.Rank.{rank-refusal};
-
-// 1, 2 and 3 of values alone.
-pub(super) fn judge_values(n: usize, values: &[i32]) -> u8
-    ensures { λ r. ⌜ r ≡ values-refusal n (now (values .entry)) ⌝ }
-{
-    if n < 2 {
-        return 1;
-    }
-    if n > 64 {
-        return 1;
-    }
-    if values.len() != n {
-        return 2;
-    }
-    if judges::any_beyond(100000, values) {
-        return 3;
-    }
-    0
-}
 
 // 3 to 7, of a job whose sizes are good.
 pub(super) fn judge_job(n: usize, values: &[i32], weights: &[u8]) -> u8
@@ -47,7 +29,8 @@ pub(super) fn judge_job(n: usize, values: &[i32], weights: &[u8]) -> u8
     if !judges::any_above(0, weights) {
         return 6;
     }
-    if differences::spread(n, values) == 0 {
+    let total = deviations::total(n, values);
+    if differences::spread(n, values, total) == 0 {
         return 7;
     }
     0
@@ -71,18 +54,18 @@ pub fn judge(n: usize, values: &[i32], weights: &[u8]) -> u8
     judge_account(n, values, weights, n)
 }
 
-// 1 and 2 of a class account: n, and the lengths of its five lists, the nine rows in `room` places.
+// 1 and 2 of a class account: n, and the lengths of its six lists.
 pub(super) fn judge_class_sizes(
     n: usize,
     values: usize,
     weights: usize,
     classes: usize,
-    room: usize,
     rows: usize,
+    class_locals: usize,
     locals: usize,
 ) -> u8
     ensures { λ r. ⌜ r ≡ first-broken
-        (size-rules n (job-lengths n values weights ((classes, n * n) ∷ (rows, room) ∷ (locals, 9 * n) ∷ []))) ⌝ }
+        (size-rules n (job-lengths n values weights ((classes, n * n) ∷ class-lengths n rows «class_locals» locals))) ⌝ }
 {
     let sizes = judges::judge_sizes(n, values, weights, n, n);
     if sizes != 0 {
@@ -91,10 +74,13 @@ pub(super) fn judge_class_sizes(
     if classes != n * n {
         return 2;
     }
-    if rows != room {
+    if rows != 27 {
         return 2;
     }
-    if locals != 9 * n {
+    if class_locals != 9 * n {
+        return 2;
+    }
+    if locals != n {
         return 2;
     }
     0
@@ -106,19 +92,20 @@ pub(super) fn judge_classes(
     values: &[i32],
     weights: &[u8],
     classes: &[u8],
-    room: usize,
     rows: usize,
+    class_locals: usize,
     locals: usize,
 ) -> u8
-    ensures { λ r. ⌜ r ≡ class-refusal room n (now (values .entry)) (now (weights .entry)) (now (classes .entry)) rows locals ⌝ }
+    ensures { λ r. ⌜ r ≡ first-broken (class-rules n (now (values .entry)) (now (weights .entry)) (now (classes .entry))
+        (class-lengths n rows «class_locals» locals)) ⌝ }
 {
     let sizes = judge_class_sizes(
         n,
         values.len(),
         weights.len(),
         classes.len(),
-        room,
         rows,
+        class_locals,
         locals,
     );
     if sizes != 0 {

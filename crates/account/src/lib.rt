@@ -1,6 +1,6 @@
 // The account of a job: values and weights give S, M, W, P, G, and the local numerators L(i) go to a lent list. The class account of a
-// job and its classes: W, P, G and the local numerators of each class go to two lent lists. The rank of a job among shuffles of its
-// values.
+// job and its classes: the same, and W, P, G and the local numerators of each class go to two more. The rank of a job among shuffles of
+// its values.
 mod classes;
 mod deviations;
 mod differences;
@@ -12,10 +12,10 @@ mod working;
 // What the reader and the writer of the job image judge by too.
 pub use judging::judge;
 ghost use mathlib.Core.Path.{_≡_};
-ghost use lib.ListN.{length};
 ghost use Rattle.account.specs.Refusals.{account-refusal};
-ghost use Rattle.account.specs.Answers.{number-of, figures-of, values-spread, account-figures, account-locals};
-ghost use Rattle.account.specs.Classes.{class-refusal, class-account-sums, class-account-locals};
+ghost use Rattle.account.specs.Answers.{number-of, figures-of, account-figures, account-locals};
+ghost use Rattle.account.specs.Classes.{class-refusal, class-account-figures};
+ghost use Rattle.account.specs.Classes.{class-account-rows, class-account-locals, class-account-own};
 ghost use Rattle.account.specs.Rank.{rank-refusal, rank-counts, counts-of};
 ghost use Rattle.account.specs.Rank as rank;
 
@@ -75,40 +75,51 @@ pub fn account(n: usize, values: &[i32], weights: &[u8], locals: &mut [i64]) -> 
     Answer::Accounted(working::job_sums(n, values, weights, locals))
 }
 
-// M alone, of n values; 0 where there are not n of them, 2 to 64, or one is beyond 100,000 in size.
-pub fn spread(n: usize, values: &[i32]) -> i64
-    ensures { λ r. ⌜ r ≡ values-spread n (now (values .entry)) ⌝ }
-{
-    if judging::judge_values(n, values) != 0 {
-        return 0;
-    }
-    differences::spread(n, values)
-}
-
-// Works the class account of the job, whose pairs have the classes lent: `rows` has 27 places for W, P and G of class 0, of class 1, ..,
-// and `locals` 9 × n for the local numerators of class 0, of class 1, .. Both are left as they were where the job is refused. Answers
-// the number of the refusal, 0 where nothing is refused.
+// Works the class account of the job, whose pairs have the classes lent, and answers what the account answers: `rows` has 27 places for
+// W, P and G of class 0, of class 1, .., `class_locals` 9 × n for the local numerators of class 0, of class 1, .., and `locals` n for the
+// job's own. All three are left as they were where the job is refused.
 pub fn class_account(
     n: usize,
     values: &[i32],
     weights: &[u8],
     classes: &[u8],
     rows: &mut [i64],
+    class_locals: &mut [i64],
     locals: &mut [i64],
-) -> u8
-    ensures number { λ r. ⌜ r ≡ class-refusal 27 n
-        (now (values .entry)) (now (weights .entry)) (now (classes .entry)) (length (now (rows .entry))) (length (now (locals .entry))) ⌝ }
-    ensures sums { λ _. ⌜ now (rows .exit) ≡ class-account-sums n
-        (now (values .entry)) (now (weights .entry)) (now (classes .entry)) (now (rows .entry)) (now (locals .entry)) ⌝ }
-    ensures numerators { λ _. ⌜ now (locals .exit) ≡ class-account-locals n
-        (now (values .entry)) (now (weights .entry)) (now (classes .entry)) 27 (length (now (rows .entry))) (now (locals .entry)) ⌝ }
+) -> Answer
+    ensures number { λ r. ⌜ number-of r ≡ class-refusal n (now (values .entry)) (now (weights .entry)) (now (classes .entry))
+        (now (rows .entry)) (now («class_locals» .entry)) (now (locals .entry)) ⌝ }
+    ensures figures { λ r. ⌜ figures-of r ≡ class-account-figures n (now (values .entry)) (now (weights .entry)) (now (classes .entry))
+        (now (rows .entry)) (now («class_locals» .entry)) (now (locals .entry)) ⌝ }
+    ensures rows { λ _. ⌜ now (rows .exit) ≡ class-account-rows n (now (values .entry)) (now (weights .entry)) (now (classes .entry))
+        (now (rows .entry)) (now («class_locals» .entry)) (now (locals .entry)) ⌝ }
+    ensures numerators { λ _. ⌜ now («class_locals» .exit) ≡ class-account-locals n
+        (now (values .entry)) (now (weights .entry)) (now (classes .entry))
+        (now (rows .entry)) (now («class_locals» .entry)) (now (locals .entry)) ⌝ }
+    ensures own { λ _. ⌜ now (locals .exit) ≡ class-account-own n (now (values .entry)) (now (weights .entry)) (now (classes .entry))
+        (now (rows .entry)) (now («class_locals» .entry)) (now (locals .entry)) ⌝ }
 {
-    let number = judging::judge_classes(n, values, weights, classes, 27, rows.len(), locals.len());
-    if number != 0 {
-        return number;
+    let refusal = judging::judge_classes(
+        n,
+        values,
+        weights,
+        classes,
+        rows.len(),
+        class_locals.len(),
+        locals.len(),
+    );
+    if refusal != 0 {
+        return Answer::Refused(refusal);
     }
-    classes::work_classes(n, values, weights, classes, rows, locals);
-    0
+    Answer::Accounted(classes::work_classes(
+        n,
+        values,
+        weights,
+        classes,
+        rows,
+        class_locals,
+        locals,
+    ))
 }
 
 // Counts the shuffles whose P is less than, equal to and greater than the job's own, which is not counted itself. `shuffles` has a row

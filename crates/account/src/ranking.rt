@@ -81,7 +81,8 @@ pub(super) fn work_rank(
     ensures { λ c. ⌜ three c ≡ compared (shuffle-cross n (now (values .entry)) (now (weights .entry)) (now (shuffles .entry)))
         (values-cross n (now (weights .entry)) (at (now (values .entry)))) rows ⌝ }
 {
+    let total = deviations::total(n, values);
     let mut d: [i64; 64] = [0; 64];
-    deviations::deviations(n, values, &mut d[..n]);
+    deviations::deviations(n, values, total, &mut d[..n]);
     tally(n, weights, &d[..n], shuffles, rows)
 }

@@ -56,11 +56,11 @@ pub(super) fn job_sums(n: usize, values: &[i32], weights: &[u8], locals: &mut [i
     ensures { λ r. ⌜ five r ≡ job-figures n (now (values .entry)) (now (weights .entry)) ⌝ }
     ensures { λ _. ⌜ now (locals .exit) ≡ job-locals n (now (values .entry)) (now (weights .entry)) ⌝ }
 {
-    let mut d: [i64; 64] = [0; 64];
-    deviations::deviations(n, values, &mut d[..n]);
-    let pairs = pair_sums(n, values, &d[..n], weights, locals);
     let total = deviations::total(n, values);
-    let spread = differences::spread(n, values);
+    let spread = differences::spread(n, values, total);
+    let mut d: [i64; 64] = [0; 64];
+    deviations::deviations(n, values, total, &mut d[..n]);
+    let pairs = pair_sums(n, values, &d[..n], weights, locals);
     Sums {
         total: total,
         spread: spread,

@@ -1,2 +1,3 @@
--- What private functions ask of each other: Steps. The meaning is the account's (Classes).
+-- Meaning: ClassRows. What private functions ask of each other: Steps.
+pub mod ClassRows
 pub mod Steps

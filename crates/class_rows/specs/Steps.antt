@@ -5,10 +5,10 @@ use mathlib.Core.List.{List, [], _∷_}
 use Prim.Native.Nat.{ℕ}
 use lib.IntN.{ℤ}
 use lib.ListN.{length}
-use Rattle.whole.specs.Rules.{unless-refused}
 use Rattle.whole.specs.Table.{table}
-use Rattle.account.specs.Classes.{class-row-of, class-locals, class-refusal}
+use Rattle.account.specs.Classes.{class-row-of}
 use Rattle.account.specs.declared.ClassRow.{ClassRow}
+use Rattle.class_rows.specs.ClassRows.{rows-refusal, locals-left}
 use Rattle.class_rows.specs.declared.rows.Worked.{Worked}
 
 -- the nine rows in a list
@@ -18,7 +18,6 @@ nine-of r = r .row0 ∷ r .row1 ∷ r .row2 ∷ r .row3 ∷ r .row4 ∷ r .row5 
 -- what the work gives of a call that is lent so many rows, and what it leaves of the local numerators: the rows count only where the
 -- number is 0
 pub record Packed (n : ℕ) (values : List ℤ) (weights classes : List ℕ) (rows : ℕ) (locals left : List ℤ) (r : Worked) : Type 0 where
-  pub number : r .refusal ≡ class-refusal 9 n values weights classes rows (length locals)
+  pub number : r .refusal ≡ rows-refusal n values weights classes rows (length locals)
   pub nine : r .refusal ≡ 0 → nine-of r ≡ table (class-row-of n values weights classes) 9
-  pub numerators :
-      left ≡ unless-refused (class-refusal 9 n values weights classes rows (length locals)) (class-locals n values weights classes) locals
+  pub numerators : left ≡ locals-left n values weights classes rows locals

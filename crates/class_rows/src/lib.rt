@@ -4,7 +4,7 @@ mod rows;
 use account::ClassRow;
 ghost use mathlib.Core.Path.{_≡_};
 ghost use lib.ListN.{length};
-ghost use Rattle.account.specs.Classes.{class-refusal, class-account-rows, class-account-locals};
+ghost use Rattle.class_rows.specs.ClassRows.{rows-refusal, rows-left, locals-left};
 
 // The class account of the job, whose pairs have the classes lent: `rows` has 9 places for the rows of class 0, class 1, .., and `locals`
 // 9 × n for the local numerators of class 0, of class 1, .. Both are left as they were where the job is refused. Answers the number of
@@ -17,12 +17,12 @@ pub fn class_rows(
     rows: &mut [ClassRow],
     locals: &mut [i64],
 ) -> u8
-    ensures number { λ r. ⌜ r ≡ class-refusal 9 n
+    ensures number { λ r. ⌜ r ≡ rows-refusal n
         (now (values .entry)) (now (weights .entry)) (now (classes .entry)) (length (now (rows .entry))) (length (now (locals .entry))) ⌝ }
-    ensures rows { λ _. ⌜ now (rows .exit) ≡ class-account-rows n
+    ensures rows { λ _. ⌜ now (rows .exit) ≡ rows-left n
         (now (values .entry)) (now (weights .entry)) (now (classes .entry)) (now (rows .entry)) (now (locals .entry)) ⌝ }
-    ensures numerators { λ _. ⌜ now (locals .exit) ≡ class-account-locals n
-        (now (values .entry)) (now (weights .entry)) (now (classes .entry)) 9 (length (now (rows .entry))) (now (locals .entry)) ⌝ }
+    ensures numerators { λ _. ⌜ now (locals .exit) ≡ locals-left n
+        (now (values .entry)) (now (weights .entry)) (now (classes .entry)) (length (now (rows .entry))) (now (locals .entry)) ⌝ }
 {
     let worked = rows::work_rows(n, values, weights, classes, rows.len(), locals);
     rows::put_rows(rows, worked)

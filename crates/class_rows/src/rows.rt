@@ -1,4 +1,5 @@
 // The class account's nine rows as structs: packed from the list of their sums, and stored into the lent rows last of all.
+use account::Answer;
 use account::ClassRow;
 ghost use mathlib.Core.Path.{_≡_};
 ghost use Prim.Native.Nat.{_<_};
@@ -57,7 +58,7 @@ pub(super) fn pack_rows(refusal: u8, sums: &[i64; 27]) -> Worked
 }
 
 // Judges the sizes of the call, whose lent rows are `rows` in number; the class account judges the rest, and where nothing is refused
-// works the sums and the local numerators.
+// works the sums and the local numerators. The job's own local numerators, which it works too, are not handed out.
 pub(super) fn work_rows(
     n: usize,
     values: &[i32],
@@ -74,8 +75,19 @@ pub(super) fn work_rows(
     if sizes != 0 {
         return pack_rows(sizes, &sums);
     }
-    let number = account::class_account(n, values, weights, classes, &mut sums, locals);
-    pack_rows(number, &sums)
+    let mut space: [i64; 64] = [0; 64];
+    match account::class_account(
+        n,
+        values,
+        weights,
+        classes,
+        &mut sums,
+        locals,
+        &mut space[..n],
+    ) {
+        Answer::Refused(number) => pack_rows(number, &sums),
+        Answer::Accounted(_) => pack_rows(0, &sums),
+    }
 }
 
 // Stores the nine rows, where nothing is refused; answers the number of the refusal.

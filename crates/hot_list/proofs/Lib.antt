@@ -1,4 +1,5 @@
--- The order of the hot list, the call by the account's answer, and the theorems.
+-- The order of the hot list, what `order` leaves, the call by the account's answer, and the theorems.
 pub mod HotOrder
+pub mod Ordered
 pub mod Answered
 pub mod HotTheorems

@@ -1,8 +1,10 @@
 // The hot list of a job: its zones by their local numerators go to a lent list. A layer above the account, which relies on its promises
-// alone.
+// alone. The order of any list of local numerators.
 mod ordering;
 
 use account::Answer;
+// The order of the hot list by itself, which the report asks for too.
+pub use ordering::order;
 ghost use mathlib.Core.Path.{_≡_};
 ghost use Rattle.account.specs.Refusals.{account-refusal};
 ghost use Rattle.hot_list.specs.HotList.{hot-zones};
@@ -21,9 +23,6 @@ pub fn hot_list(n: usize, values: &[i32], weights: &[u8], zones: &mut [u8]) -> u
     let locals = &mut space[..n];
     match account::account(n, values, weights, locals) {
         Answer::Refused(number) => number,
-        Answer::Accounted(_) => {
-            ordering::put_in_order(n, locals, zones);
-            0
-        }
+        Answer::Accounted(_) => ordering::order(locals, zones),
     }
 }

@@ -3,7 +3,14 @@ use mathlib.Core.Path.{_≡_, sym, _∙_}
 use Prim.Native.Nat.{ℕ}
 use lib.ListN.{length}
 use Rattle.whole.proofs.Rules.{kept-when-refused, worked-when-taken}
-use Rattle.account.specs.Classes.{class-refusal}
+use Rattle.account.specs.Answers.{number-of, figures-of}
+use Rattle.account.specs.Classes.{
+  class-refusal,
+  class-account-figures,
+  class-account-rows,
+  class-account-locals,
+  class-account-own,
+}
 use Rattle.account.proofs.Accepted.{class-job, class-accepted}
 use borrow.Author.Needs.{needs}
 use Rattle.account.proofs.class_account.Statement.{statement}
@@ -13,25 +20,37 @@ use Rattle.account.proofs.class_account.Tie as tie
 abbrev refusal : tie.Start → ℕ
 refusal s =
     let a = s .args in
-    class-refusal 27 (a .n) (a .values .now) (a .weights .now) (a .classes .now) (length (a .rows .now)) (length (a .locals .now))
+    class-refusal (a .n) (a .values .now) (a .weights .now) (a .classes .now) (a .rows .now) (a .class-locals .now) (a .locals .now)
+
+-- what the judge found
+found : (c : tie.After-judge-classes) → c .judge-classes .result ≡ refusal (c .before .before .before)
+unfolding class-refusal
+found c = c .judge-classes .ensures
 
 -- nothing is refused
 taken : (c : tie.Else1) → refusal (c .before .before .before .before) ≡ 0
-taken c = sym (c .before .judge-classes .ensures) ∙ c .if1 .left
+taken c = sym (found (c .before)) ∙ c .if1 .left
 
 judge-classes-requires : tie.Need-judge-classes-requires
 judge-classes-requires c κs = tt
 
 returns : tie.Need-returns
+unfolding number-of figures-of class-account-figures class-account-rows class-account-locals class-account-own
 returns c =
-    let found = c .before .judge-classes .ensures in
-    let some : refusal (c .before .before .before .before) ≡ 0 → ⊥ = λ z. c .if1 .taken (found ∙ z) in
-    (found, (sym (kept-when-refused _ _ _ some), sym (kept-when-refused _ _ _ some)))
+    let e = found (c .before) in
+    let some : refusal (c .before .before .before .before) ≡ 0 → ⊥ = λ z. c .if1 .taken (e ∙ z) in (
+      e,
+      (
+        sym (kept-when-refused _ _ _ some),
+        (sym (kept-when-refused _ _ _ some), (sym (kept-when-refused _ _ _ some), sym (kept-when-refused _ _ _ some))),
+      ),
+    )
 
 work-classes-requires : tie.Need-work-classes-requires
+unfolding class-refusal
 work-classes-requires c κs =
-    let g = class-accepted _ _ _ _ _ _ _ (taken (c .before .before)) in
-    (class-job (g .whole), (g .rows-fit, g .locals-fit))
+    let g = class-accepted _ _ _ _ _ _ _ (taken (c .before .before .before)) in
+    (class-job (g .whole), (g .rows-fit, (g .of-classes-fit, g .own-fit)))
 
 same-length : tie.Need-same-length
 same-length c = search needs
@@ -39,11 +58,24 @@ same-length c = search needs
 same-length-2 : tie.Need-same-length-2
 same-length-2 c = search needs
 
+same-length-3 : tie.Need-same-length-3
+same-length-3 c = search needs
+
 returns-2 : tie.Need-returns-2
+unfolding number-of figures-of class-account-figures class-account-rows class-account-locals class-account-own
 returns-2 c =
-    let worked = c .before .before .work-classes .ensures in
-    let z = taken (c .before .before .before .before .before) in
-    (sym z, (worked .0 ∙ sym (worked-when-taken _ _ _ z), worked .1 ∙ sym (worked-when-taken _ _ _ z)))
+    let w = c .before .before .before in
+    let worked = w .work-classes .ensures in
+    let z = taken (w .before .before .before .before) in (
+      sym z,
+      (
+        worked .0 ∙ sym (worked-when-taken _ _ _ z),
+        (
+          worked .1 .0 ∙ sym (worked-when-taken _ _ _ z),
+          (worked .1 .1 .0 ∙ sym (worked-when-taken _ _ _ z), worked .1 .1 .1 ∙ sym (worked-when-taken _ _ _ z)),
+        ),
+      ),
+    )
 
 pub class-account-spec : {M : Type 1} → statement M
 class-account-spec =
@@ -54,4 +86,5 @@ class-account-spec =
     work-classes-requires
     same-length
     same-length-2
+    same-length-3
     returns-2)

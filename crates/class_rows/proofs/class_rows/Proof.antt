@@ -46,7 +46,8 @@ use denote.Signature.{plain, shrSliceOf}
 use denote.Exit.{yes}
 use Rattle.whole.specs.Rules.{unless-refused}
 use Rattle.whole.specs.Table.{table}
-use Rattle.account.specs.Classes.{class-row-of, class-refusal}
+use Rattle.account.specs.Classes.{class-row-of}
+use Rattle.class_rows.specs.ClassRows.{rows-refusal}
 use Rattle.class_rows.specs.Steps.{nine-of, Packed}
 use Rattle.account.specs.declared.ClassRow.{ClassRow}
 use Rattle.class_rows.specs.declared.rows.Worked.{Worked}
@@ -153,7 +154,7 @@ module _ {M : Type 1} (𝓤 : URA M) (H : Heap 𝓤) (A : Atoms 𝓤) (W : Given
 
   -- the number of the refusal, and what the work gives
   abbrev number : ℕ
-  number = class-refusal 9 n (v .now) (w .now) (c .now) (length (y .now)) (length (m .now))
+  number = rows-refusal n (v .now) (w .now) (c .now) (length (y .now)) (length (m .now))
 
   abbrev Gives : List ℤ → Worked → Type 0
   Gives ms r = Packed n (v .now) (w .now) (c .now) (length (y .now)) (m .now) ms r

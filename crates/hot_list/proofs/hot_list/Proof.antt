@@ -1,9 +1,9 @@
--- `hot_list` meets its contract: the sizes are judged first, then the account judges and works. Assumes nothing.
+-- `hot_list` meets its contract: the sizes are judged first, then the account judges and works, and `order` refuses nothing.
+-- Assumes nothing.
 use mathlib.Core.Path.{_≡_, sym, _∙_}
 use Prim.Native.Nat.{_≤_}
-use lib.ListN.{length}
 use lib.Seq.{length-take-le}
-use Rattle.account.proofs.Theorems.{refusal-by-sizes, sizes-fit}
+use Rattle.account.proofs.Theorems.{sizes-refusal, refusal-by-sizes, sizes-fit}
 use Rattle.hot_list.proofs.Answered.{refused, by-refusal, by-sums}
 use borrow.Author.Needs.{needs}
 use Rattle.hot_list.proofs.hot_list.Statement.{statement}
@@ -19,17 +19,20 @@ returns c =
     (refusal-by-sizes (a .n) (a .values .now) (a .weights .now) (a .zones .now) _ (c .before .judge-sizes .ensures) (c .if1 .taken))
     (c .if1 .taken)
 
--- at most 64 zones, and a place for each
-fit : (c : tie.Else1) → let a = c .before .before .before .before .args in (a .n ≤ 64) × (length (a .zones .now) ≡ a .n)
-fit c =
-    let a = c .before .before .before .before .args in
-    sizes-fit (a .n) (a .values .now) (a .weights .now) (a .zones .now) (sym (c .before .judge-sizes .ensures) ∙ c .if1 .left)
+-- the sizes are good, so that there are at most 64 zones
+good :
+    (c : tie.Else1) →
+    let a = c .before .before .before .before .args in sizes-refusal (a .n) (a .values .now) (a .weights .now) (a .zones .now) ≡ 0
+good c = sym (c .before .judge-sizes .ensures) ∙ c .if1 .left
+
+fit : (c : tie.Else1) → c .before .before .before .before .args .n ≤ 64
+fit c = let a = c .before .before .before .before .args in sizes-fit (a .n) (a .values .now) (a .weights .now) (a .zones .now) (good c) .0
 
 array-borrow-prefix-space : tie.Need-array-borrow-prefix-space
-array-borrow-prefix-space c = fit c .0
+array-borrow-prefix-space c = fit c
 
 slice-aggregate-locals : tie.Need-slice-aggregate-locals
-slice-aggregate-locals c = sym (length-take-le _ _ (fit (c .before) .0))
+slice-aggregate-locals c = sym (length-take-le _ _ (fit (c .before)))
 
 account-requires : tie.Need-account-requires
 account-requires c κs = search needs
@@ -40,17 +43,14 @@ enum-known-number c = search needs
 enum-told : tie.Need-enum-told
 enum-told c = search needs
 
-put-in-order-requires : tie.Need-put-in-order-requires
-put-in-order-requires c κs =
-    let b = c .before .before .before .before .before in
-    let f = fit (b .before .before .before) in
-    (f .0, (b .account .kept .1 .1 .1 .0 ∙ length-take-le _ _ (f .0), f .1))
+order-requires : tie.Need-order-requires
+order-requires c κs = search needs
 
 returns-2 : tie.Need-returns-2
 returns-2 c =
     let b = c .before .before .before .before .before in
-    let f = fit (b .before .before .before) in
-    by-refusal _ _ _ _ _ (length-take-le _ _ (f .0) ∙ sym (f .1)) _ (b .account .ensures .0) (b .account .ensures .1 .0) _
+    let e = b .before .before .before in
+    by-refusal _ _ _ _ (good e) _ (length-take-le _ _ (fit e)) _ (b .account .ensures .0) (b .account .ensures .1 .0) _
     (c .before .before .number .given .1)
 
 same-length : tie.Need-same-length
@@ -60,9 +60,9 @@ returns-3 : tie.Need-returns-3
 returns-3 c =
     let p = c .before .before .before in
     let b = p .before .before .before .before .before .before in
-    let f = fit (b .before .before .before) in
-    by-sums _ _ _ _ _ (length-take-le _ _ (f .0) ∙ sym (f .1)) _ (b .account .ensures .0) (b .account .ensures .1 .0) _ _ _
-    (p .before .before .before .enum-told .given .1) (b .account .ensures .1 .1) (p .put-in-order .ensures)
+    let e = b .before .before .before in
+    by-sums _ _ _ _ (good e) _ (length-take-le _ _ (fit e)) _ (b .account .ensures .0) (b .account .ensures .1 .0) _ _ _ _
+    (p .before .before .before .enum-told .given .1) (b .account .ensures .1 .1) (p .order .ensures .0) (p .order .ensures .1)
 
 pub hot-list-spec : {M : Type 1} → statement M
 hot-list-spec =
@@ -75,7 +75,7 @@ hot-list-spec =
     account-requires
     enum-known-number
     enum-told
-    put-in-order-requires
+    order-requires
     returns-2
     same-length
     returns-3)

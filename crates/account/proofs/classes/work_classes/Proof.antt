@@ -1,119 +1,155 @@
--- `work_classes` meets its contract: the deviations are worked into a local array, whose first n places are lent. The loop's invariant: the
--- zones passed are in the rows and in the local numerators. Assumes nothing.
-use mathlib.Core.Path.{_≡_, sym, _∙_}
+-- `work_classes` meets its contract: the rows and the local numerators first, then the sums of the whole job from them. Assumes nothing.
+use mathlib.Core.Path.{_≡_, sym, ap, _∙_, subst}
 use mathlib.Core.List.{List}
-use Prim.Native.Nat.{_-_, _≤_}
+use Prim.Native.Nat.{ℕ, _+_, _*_, _≤_, _<_}
 use native.Mathlib.Omega.{arith}
-use lib.IntN.{ℤ}
+use lib.IntN.{ℤ, natAbs}
 use lib.ListN.{length}
-use lib.Seq.{length-take-le}
-use Rattle.whole.specs.Table.{table, at}
-use Rattle.whole.proofs.Lists.{front, front-le, front-length}
-use Rattle.whole.proofs.Table.{table-length}
-use Rattle.account.specs.Measures.{deviation-of}
-use Rattle.account.specs.Steps.{Zoned}
-use Rattle.account.proofs.ZoneByZone.{zoned-length, no-zones, all-zones}
+use mir.Syntax.{w64}
+use Rattle.whole.specs.Sum.{sum}
+use Rattle.whole.specs.Table.{at, pair-at}
+use Rattle.whole.proofs.Machine.{rd, r64}
+use Rattle.whole.proofs.Sum.{sum-cong}
+use Rattle.account.specs.Measures.{total-of, weight-of, squares-of}
+use Rattle.account.specs.Classes.{class-row-of, sum-at, class-sums}
+use Rattle.account.specs.Steps.{ClassJob}
+use Rattle.account.proofs.ByClass.{sums-at}
+use Rattle.account.proofs.Locals.{
+  locals-sized,
+  locals-cross,
+  total-told,
+  spread-told,
+  weight-told,
+  cross-told,
+  squares-told,
+  same-figures,
+}
+use Rattle.account.proofs.NineClasses.{weights-together, squares-together}
+use Rattle.account.proofs.ZoneByZone.{class-weight-size, class-squares-size}
+use borrow.Author.Needs.{needs}
 use Rattle.account.proofs.classes.work_classes.Statement.{statement}
 use Rattle.account.proofs.classes.work_classes.Tie as tie
 
-abbrev Inv-loop : tie.InvT-loop
-Inv-loop n values weights classes rows₀ locals₀ d i₀ rows locals i = (i ≤ n) × Zoned n values weights classes (λ k. i) rows locals
+-- the rows that the zones gave, and their W and G together
+module _ (n : ℕ) (values : List ℤ) (weights classes : List ℕ) (g : ClassJob values weights classes n)
+    (rows : List ℤ) (e : rows ≡ class-sums n values weights classes) where
+  row-is : (k s : ℕ) → k < 9 → s < 3 → at rows (k * 3 + s) ≡ sum-at (class-row-of n values weights classes k) s
+  unfolding class-sums
+  row-is = sums-at _ rows e
 
-abbrev μ-loop : tie.MeasureT-loop
-μ-loop n values weights classes rows₀ locals₀ d i₀ rows locals i = n - i
+  weight-small : (k : ℕ) → k < 9 → natAbs (at rows (k * 3 + 0)) ≤ 94371840000000000
+  weight-small k h = rw (row-is k 0 h (omega arith)) (class-weight-size n values weights classes g k)
 
--- a turn: the deviations of the job, as the array's front holds them
-module _ (t : tie.In-loop Inv-loop μ-loop) where
-  abbrev worked : tie.After-deviations Inv-loop μ-loop
-  worked = t .before .before .before .before .before .before
+  squares-small : (k : ℕ) → k < 9 → natAbs (at rows (k * 3 + 2)) ≤ 94371840000000000
+  squares-small k h = rw (row-is k 2 h (omega arith)) (class-squares-size n values weights classes g k)
 
-  abbrev start : tie.Start Inv-loop μ-loop
-  start = worked .before .before .before .before
+  weight-together : sum (λ k. at rows (k * 3 + 0)) 9 ≡ weight-of (pair-at weights n) n
+  weight-together = sum-cong _ _ 9 (λ k h. row-is k 0 h (omega arith)) ∙ weights-together n values weights classes (g .low)
 
-  abbrev expected : List ℤ
-  expected = table (deviation-of (at (start .args .values .now)) (start .args .n)) (start .args .n)
+  square-together : sum (λ k. at rows (k * 3 + 2)) 9 ≡ squares-of (pair-at weights n) (at values) n
+  square-together = sum-cong _ _ 9 (λ k h. row-is k 2 h (omega arith)) ∙ squares-together n values weights classes (g .low)
 
-  as-long : length expected ≡ start .args .n
-  as-long = table-length (deviation-of (at (start .args .values .now)) (start .args .n)) (start .args .n)
+-- S as it is handed on
+summed :
+    (c : tie.After-total) →
+    let a = c .before .before .before .args in
+    r64 (c .total .result) ≡ total-of (at (a .values .now)) (a .n)
+summed c = rd w64 (total-told _ _ (c .before .before .before .pre .0 .job .valued) (c .total .ensures)) tt .same
 
--- the turn that a call ends
-abbrev turn : tie.After-locals Inv-loop μ-loop → tie.In-loop Inv-loop μ-loop
-turn c = c .before .before .before .before .before .before
+-- the call that is answered with the rows and the local numerators
+module _ (c : tie.After-add-zones) where
+  abbrev summing : tie.After-spread
+  summing = c .before .before .before .before
 
-array-borrow-prefix-d : tie.Need-array-borrow-prefix-d Inv-loop μ-loop
-array-borrow-prefix-d c = c .before .before .pre .0 .job .valued .zones
+  abbrev start : tie.Start
+  start = summing .before .before .before .before
 
-slice-aggregate-deviations : tie.Need-slice-aggregate-deviations Inv-loop μ-loop
-slice-aggregate-deviations c = sym (length-take-le _ _ (c .before .before .before .pre .0 .job .valued .zones))
+total-requires : tie.Need-total-requires
+total-requires c κs = c .before .before .pre .0 .job .valued
 
-deviations-requires : tie.Need-deviations-requires Inv-loop μ-loop
-deviations-requires c κs = let v = c .before .before .before .pre .0 .job .valued in (v, length-take-le _ _ (v .zones))
+spread-requires : tie.Need-spread-requires
+spread-requires c κs = (c .before .before .before .pre .0 .job .valued, summed c)
 
-clear-requires : tie.Need-clear-requires Inv-loop μ-loop
-clear-requires c κs = c .before .before .before .before .before .before .pre .1 .0
+add-zones-requires : tie.Need-add-zones-requires
+add-zones-requires c κs =
+    let t = c .before .before .before .before in
+    let p = t .before .before .before .pre in
+    (p .0, (summed t, p .1))
 
-loop-holds : tie.Need-loop-holds Inv-loop μ-loop
-loop-holds c =
-    let s = c .before .before .before .before .before .before .before .before in
-    (omega arith, no-zones _ _ _ _ _ (s .args .locals .now) (c .before .clear .ensures) (s .pre .1 .1))
+nine-together-requires : tie.Need-nine-together-requires
+nine-together-requires c κs =
+    let z = c .before .before .before .before in
+    let a = start z .args in
+    let rows = z .add-zones .ensures .0 in
+    let g = start z .pre .0 in (
+      omega arith,
+      (
+        z .add-zones .kept .1 .1 .1 .1 .1 .0 ∙ start z .pre .1 .0,
+        weight-small (a .n) (a .values .now) (a .weights .now) (a .classes .now) g _ rows,
+      ),
+    )
 
-array-share-prefix-d : tie.Need-array-share-prefix-d Inv-loop μ-loop
-array-share-prefix-d c = front-le {A = ℤ} _ _ (expected c) _ (worked c .deviations .ensures) (as-long c)
+sum-of-requires : tie.Need-sum-of-requires
+sum-of-requires c κs =
+    let z = c .before .before .before .before .before .before in
+    let g = start z .pre .0 .job in
+    (g .valued .zones, locals-sized _ _ _ g _ (z .add-zones .ensures .1 .1))
 
-slice-aggregate-add-zone : tie.Need-slice-aggregate-add-zone Inv-loop μ-loop
-slice-aggregate-add-zone c =
-    let t = c .before in
-    front-length {A = ℤ} _ _ (expected t) _ (worked t .deviations .ensures) (as-long t)
+nine-together-requires-2 : tie.Need-nine-together-requires-2
+nine-together-requires-2 c κs =
+    let z = c .before .before .before .before .before .before .before .before in
+    let a = start z .args in
+    let rows = z .add-zones .ensures .0 in
+    let g = start z .pre .0 in (
+      omega arith,
+      (
+        z .add-zones .kept .1 .1 .1 .1 .1 .0 ∙ start z .pre .1 .0,
+        squares-small (a .n) (a .values .now) (a .weights .now) (a .classes .now) g _ rows,
+      ),
+    )
 
-add-zone-requires : tie.Need-add-zone-requires Inv-loop μ-loop
-add-zone-requires c κs =
-    let t = c .before .before .before in
-    let d = front {A = ℤ} _ _ (expected t) _ (worked t .deviations .ensures) (as-long t) in
-    (start t .pre .0, (d, (t .loop-test .taken, t .before .loop .inv .1)))
+same-length : tie.Need-same-length
+same-length c = search needs
 
-add-i : tie.Need-add-i Inv-loop μ-loop
-add-i c = let t = turn c in omega (arith, t .loop-test .taken, start t .pre .0 .job .valued .zones)
+same-length-2 : tie.Need-same-length-2
+same-length-2 c = search needs
 
-loop-less : tie.Need-loop-less Inv-loop μ-loop
-loop-less c = omega (arith, turn c .loop-test .taken)
+same-length-3 : tie.Need-same-length-3
+same-length-3 c = search needs
 
-loop-again : tie.Need-loop-again Inv-loop μ-loop
-loop-again c = (omega (arith, turn c .loop-test .taken), c .before .before .add-zone .ensures)
-
-same-length : tie.Need-same-length Inv-loop μ-loop
-same-length c =
-    let s = c .before .before .before .before .before .before .before .before .before .before in
-    zoned-length (c .before .loop .inv .1) ∙ sym (s .pre .1 .0)
-
-same-length-2 : tie.Need-same-length-2 Inv-loop μ-loop
-same-length-2 c =
-    let s = c .before .before .before .before .before .before .before .before .before .before in
-    c .before .loop .inv .1 .count ∙ sym (s .pre .1 .1)
-
-returns : tie.Need-returns Inv-loop μ-loop
+returns : tie.Need-returns
 returns c =
-    let s = c .before .before .before .before .before .before .before .before .before .before .args in
-    let b = c .before .loop in
-    let all : b .i ≡ s .n = omega (arith, b .inv .0) in
-    all-zones (s .n) (s .values .now) (s .weights .now) (s .classes .now) (b .i) (b .rows) (b .locals) all (b .inv .1)
+    let p = c .before .before in
+    let w = p .before .before in
+    let z = w .before .before .before .before .before in
+    let m = summing z in
+    let s = start z in
+    let a = s .args in
+    let g = s .pre .0 in
+    let r = g .job in
+    let held = z .add-zones .ensures in
+    let weight = w .nine-together .ensures ∙ weight-together (a .n) (a .values .now) (a .weights .now) (a .classes .now) g _ (held .0) in
+    let squares = c .nine-together2 .ensures ∙ square-together (a .n) (a .values .now) (a .weights .now) (a .classes .now) g _ (held .0) in (
+      same-figures (a .n) (a .values .now) (a .weights .now) _ _ _ _ _
+          (summed (m .before))
+          (rd w64 (spread-told _ _ (r .valued) (m .spread .ensures)) tt .same)
+          (rd w64 (weight-told _ _ (r .weighted) weight) tt .same)
+          (rd w64 (cross-told _ _ _ r (p .sum-of .ensures ∙ locals-cross _ _ _ r _ (held .1 .1))) tt .same)
+          (rd w64 (squares-told _ _ _ r squares) tt .same),
+      held,
+    )
 
 pub work-classes-spec : {M : Type 1} → statement M
 work-classes-spec =
     tie.close
     (tie.spec
-    Inv-loop
-    μ-loop
-    array-borrow-prefix-d
-    slice-aggregate-deviations
-    deviations-requires
-    clear-requires
-    loop-holds
-    array-share-prefix-d
-    slice-aggregate-add-zone
-    add-zone-requires
-    add-i
-    loop-less
-    loop-again
+    total-requires
+    spread-requires
+    add-zones-requires
+    nine-together-requires
+    sum-of-requires
+    nine-together-requires-2
     same-length
     same-length-2
+    same-length-3
     returns)

@@ -17,15 +17,15 @@ use Rattle.account.proofs.deviations.deviations.Statement.{statement}
 use Rattle.account.proofs.deviations.deviations.Tie as tie
 
 abbrev Inv-loop : tie.InvT-loop
-Inv-loop n values d₀ s count i₀ d i = (i ≤ n) × ((length d ≡ n) × ((k : ℕ) → k < i → at d k ≡ deviation-of (at values) n k))
+Inv-loop n values total d₀ count i₀ d i = (i ≤ n) × ((length d ≡ n) × ((k : ℕ) → k < i → at d k ≡ deviation-of (at values) n k))
 
 abbrev μ-loop : tie.MeasureT-loop
-μ-loop n values d₀ s count i₀ d i = n - i
+μ-loop n values total d₀ count i₀ d i = n - i
 
 -- n x(i), and n x(i) − S
 module _ (c : tie.After-x Inv-loop μ-loop) where
   abbrev a : tie.Start Inv-loop μ-loop
-  a = c .before .before .before .before
+  a = c .before .before .before
 
   abbrev i : ℕ
   i = c .before .before .loop .i
@@ -34,18 +34,15 @@ module _ (c : tie.After-x Inv-loop μ-loop) where
   product = is-* (nat w64 (a .args .n) 64 (a .pre .0 .zones) tt) (rd w64 (value-is _ _ (a .pre .0) i (omega arith)) tt)
 
   deviation :
-      Is (r64 (toZ w64 (a .args .n) *ℤ r64 (r32 (at (a .args .values .now) i))) -ℤ r64 (c .before .before .before .total .result))
+      Is (r64 (toZ w64 (a .args .n) *ℤ r64 (r32 (at (a .args .values .now) i))) -ℤ r64 (a .args .total))
       (deviation-of (at (a .args .values .now)) (a .args .n) i) 12800000
   unfolding deviation-of total-of
   deviation =
       let bound = total-runs _ _ (a .pre .0) .bound (a .args .n) (N.le-refl (a .args .n)) in
-      is-- (rd w64 product tt) (rd w64 (told _ 6400000 (c .before .before .before .total .ensures) bound) tt)
-
-total-requires : tie.Need-total-requires Inv-loop μ-loop
-total-requires c κs = c .pre .0
+      is-- (rd w64 product tt) (rd w64 (told _ 6400000 (a .pre .1 .0) bound) tt)
 
 cast-count : tie.Need-cast-count Inv-loop μ-loop
-cast-count c = fits-le w64 _ 64 (c .before .pre .0 .zones) tt
+cast-count c = fits-le w64 _ 64 (c .pre .0 .zones) tt
 
 loop-holds : tie.Need-loop-holds Inv-loop μ-loop
 loop-holds c = (omega arith, (omega arith, λ k p. let z : ⊥ = omega arith in absurd z))
@@ -57,7 +54,7 @@ shared-slice-copy-out-x : tie.Need-shared-slice-copy-out-x Inv-loop μ-loop
 shared-slice-copy-out-x c = omega arith
 
 cast-x : tie.Need-cast-x Inv-loop μ-loop
-cast-x c = let b = c .before .before in fit w64 (value-is _ _ (b .before .before .pre .0) (b .loop .i) (omega arith)) tt
+cast-x c = let b = c .before .before in fit w64 (value-is _ _ (b .before .pre .0) (b .loop .i) (omega arith)) tt
 
 mul-deviation : tie.Need-mul-deviation Inv-loop μ-loop
 mul-deviation c = fit w64 (product c) tt
@@ -78,7 +75,7 @@ loop-less : tie.Need-loop-less Inv-loop μ-loop
 loop-less c = omega arith
 
 loop-again : tie.Need-loop-again Inv-loop μ-loop
-loop-again c = let b = c .before .before in let a = b .before .before in (
+loop-again c = let b = c .before .before in let a = b .before in (
   omega arith,
   (
     simp length-set (b .loop .inv .1 .0),
@@ -93,7 +90,7 @@ same-length c = omega arith
 returns : tie.Need-returns Inv-loop μ-loop
 returns c =
     let b = c .before in
-    let a = b .before .before in
+    let a = b .before in
     is-table (deviation-of (at (a .args .values .now)) (a .args .n)) (a .args .n) (pos 0) (b .loop .d) (b .loop .inv .1 .0)
     (λ k p. b .loop .inv .1 .1 k (omega arith))
 
@@ -103,7 +100,6 @@ deviations-spec =
     (tie.spec
     Inv-loop
     μ-loop
-    total-requires
     cast-count
     loop-holds
     mul-x

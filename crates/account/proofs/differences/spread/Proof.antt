@@ -18,7 +18,7 @@ use Rattle.account.proofs.differences.spread.Tie as tie
 
 module _ (c : tie.After-square-sum) where
   abbrev s : tie.Start
-  s = c .before .before
+  s = c .before
 
   abbrev n : ℕ
   n = s .args .n
@@ -26,33 +26,30 @@ module _ (c : tie.After-square-sum) where
   abbrev x : ℕ → ℤ
   x = at (s .args .values .now)
 
-  total-is : Is (r64 (c .before .total .result)) (sum x n) 6400000
+  total-is : Is (r64 (s .args .total)) (sum x n) 6400000
   unfolding total-of
-  total-is = rd w64 (told _ 6400000 (c .before .total .ensures) (total-runs _ _ (s .pre) .bound n (N.le-refl n))) tt
+  total-is = rd w64 (told _ 6400000 (s .pre .1) (total-runs _ _ (s .pre .0) .bound n (N.le-refl n))) tt
 
   squares-are : Is (r64 (c .square-sum .result)) (sum (λ i. square (x i)) n) 640000000000
-  squares-are = rd w64 (told _ 640000000000 (c .square-sum .ensures) (square-runs _ _ (s .pre) .bound n (N.le-refl n))) tt
+  squares-are = rd w64 (told _ 640000000000 (c .square-sum .ensures) (square-runs _ _ (s .pre .0) .bound n (N.le-refl n))) tt
 
   -- n times the squares, the square of the sum, and what is left
   first : Is (toZ w64 n *ℤ r64 (c .square-sum .result)) (pos n *ℤ sum (λ i. square (x i)) n) 40960000000000
-  first = is-* (nat w64 n 64 (s .pre .zones) tt) squares-are
+  first = is-* (nat w64 n 64 (s .pre .0 .zones) tt) squares-are
 
-  second : Is (r64 (c .before .total .result) *ℤ r64 (c .before .total .result)) (square (sum x n)) 40960000000000
+  second : Is (r64 (s .args .total) *ℤ r64 (s .args .total)) (square (sum x n)) 40960000000000
   second = is-* total-is total-is
 
   difference :
-      Is (r64 (toZ w64 n *ℤ r64 (c .square-sum .result)) -ℤ r64 (r64 (c .before .total .result) *ℤ r64 (c .before .total .result)))
+      Is (r64 (toZ w64 n *ℤ r64 (c .square-sum .result)) -ℤ r64 (r64 (s .args .total) *ℤ r64 (s .args .total)))
       (pos n *ℤ sum (λ i. square (x i)) n -ℤ square (sum x n)) 81920000000000
   difference = is-- (rd w64 first tt) (rd w64 second tt)
 
-total-requires : tie.Need-total-requires
-total-requires c κs = c .pre
-
 square-sum-requires : tie.Need-square-sum-requires
-square-sum-requires c κs = c .before .pre
+square-sum-requires c κs = c .pre .0
 
 cast-count : tie.Need-cast-count
-cast-count c = fits-le w64 _ 64 (s c .pre .zones) tt
+cast-count c = fits-le w64 _ 64 (s c .pre .0 .zones) tt
 
 mul-result : tie.Need-mul-result
 mul-result c = fit w64 (first c) tt
@@ -71,7 +68,6 @@ pub spread-spec : {M : Type 1} → statement M
 spread-spec =
     tie.close
     (tie.spec
-    total-requires
     square-sum-requires
     cast-count
     mul-result

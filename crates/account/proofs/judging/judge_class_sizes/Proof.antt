@@ -7,6 +7,7 @@ use borrow.Author.Tests.{le-ltb, eq-eqb, ne-eqb}
 use Rattle.whole.proofs.Rules.{sizes-first}
 use Rattle.whole.proofs.Lists.{few}
 use Rattle.account.specs.Refusals.{job-lengths}
+use Rattle.account.specs.Classes.{class-lengths}
 use Rattle.account.proofs.Accepted.{Fitting, fitting, also-misfits}
 use Rattle.account.proofs.judging.judge_class_sizes.Statement.{statement}
 use Rattle.account.proofs.judging.judge_class_sizes.Tie as tie
@@ -22,7 +23,7 @@ returns : tie.Need-returns
 returns c =
     let a = c .before .before .args in
     let n = a .n in
-    let lent : List (ℕ × ℕ) = (a .classes, n * n) ∷ (a .rows, a .room) ∷ (a .locals, 9 * n) ∷ [] in
+    let lent : List (ℕ × ℕ) = (a .classes, n * n) ∷ class-lengths n (a .rows) (a .class-locals) (a .locals) in
     sizes-first n (job-lengths n (a .values) (a .weights) ((n, n) ∷ [])) (job-lengths n (a .values) (a .weights) lent) [] _
     (also-misfits n (a .values) (a .weights) lent)
     (c .before .judge-sizes .ensures) (c .if1 .taken)
@@ -65,18 +66,33 @@ returns-4 c =
 
 returns-5 : tie.Need-returns-5
 returns-5 c =
-    let f = sized (c .before .before .before) in
+    let f = sized (c .before .before .before .before) in
     simp (
       le-ltb _ _ (f .two),
       le-ltb _ _ (f .zones),
       eq-eqb _ _ (f .values-fit),
       eq-eqb _ _ (f .weights-fit),
-      eq-eqb _ _ (c .before .before .if2 .left),
-      eq-eqb _ _ (c .before .if3 .left),
-      eq-eqb _ _ (c .if4 .left),
+      eq-eqb _ _ (c .before .before .before .if2 .left),
+      eq-eqb _ _ (c .before .before .if3 .left),
+      eq-eqb _ _ (c .before .if4 .left),
+      ne-eqb _ _ (c .if5 .taken),
+    )
+
+returns-6 : tie.Need-returns-6
+returns-6 c =
+    let f = sized (c .before .before .before .before) in
+    simp (
+      le-ltb _ _ (f .two),
+      le-ltb _ _ (f .zones),
+      eq-eqb _ _ (f .values-fit),
+      eq-eqb _ _ (f .weights-fit),
+      eq-eqb _ _ (c .before .before .before .if2 .left),
+      eq-eqb _ _ (c .before .before .if3 .left),
+      eq-eqb _ _ (c .before .if4 .left),
+      eq-eqb _ _ (c .if5 .left),
     )
 
 pub judge-class-sizes-spec : {M : Type 1} → statement M
 judge-class-sizes-spec =
     tie.close
-    (tie.spec judge-sizes-requires returns mul-if2 returns-2 returns-3 mul-if4 returns-4 returns-5)
+    (tie.spec judge-sizes-requires returns mul-if2 returns-2 returns-3 mul-if4 returns-4 returns-5 returns-6)

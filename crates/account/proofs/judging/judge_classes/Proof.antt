@@ -6,7 +6,7 @@ use lib.ListN.{length}
 use Rattle.whole.specs.Rules.{Rule, first-broken}
 use Rattle.whole.specs.Search.{any-above}
 use Rattle.account.specs.Refusals.{job-rules}
-use Rattle.account.specs.Classes.{class-rules, class-refusal}
+use Rattle.account.specs.Classes.{class-rules, class-lengths}
 use Rattle.account.proofs.Accepted.{fitting}
 use Rattle.account.proofs.Judged.{sizes-of, by-sizes, by-job, by-rest}
 use Rattle.account.proofs.judging.judge_classes.Statement.{statement}
@@ -19,7 +19,8 @@ module _ (c : tie.After-judge-class-sizes) where
 
   abbrev lent : List (ℕ × ℕ)
   lent =
-      (length (a .args .classes .now), a .args .n * a .args .n) ∷ (a .args .rows, a .args .room) ∷ (a .args .locals, 9 * a .args .n) ∷ []
+      (length (a .args .classes .now), a .args .n * a .args .n)
+      ∷ class-lengths (a .args .n) (a .args .rows) (a .args .class-locals) (a .args .locals)
 
   abbrev last : List Rule
   last = (any-above 8 (a .args .classes .now), 9) ∷ []
@@ -40,7 +41,7 @@ judge-class-sizes-requires : tie.Need-judge-class-sizes-requires
 judge-class-sizes-requires c κs = tt
 
 returns : tie.Need-returns
-unfolding class-refusal class-rules
+unfolding class-rules
 returns c = let b = c .before in by-sizes _ _ _ (lent b) (last b) _ (b .judge-class-sizes .ensures) (c .if1 .taken)
 
 judge-job-requires : tie.Need-judge-job-requires
@@ -49,7 +50,7 @@ judge-job-requires c κs =
     (f .zones, (f .values-fit, f .weights-fit))
 
 returns-2 : tie.Need-returns-2
-unfolding class-refusal class-rules
+unfolding class-rules
 returns-2 c =
     let e = c .before .before in
     by-job _ _ _ (lent (e .before)) (last (e .before)) _ (sizes-good e) (c .before .judge-job .ensures) (c .if2 .taken)
@@ -58,7 +59,7 @@ any-above-requires : tie.Need-any-above-requires
 any-above-requires c κs = tt
 
 returns-3 : tie.Need-returns-3
-unfolding class-refusal class-rules
+unfolding class-rules
 returns-3 c =
     let k = c .before .before in
     let e = k .before .before in
@@ -66,7 +67,7 @@ returns-3 c =
     (rw (sym (c .before .any-above .ensures) ∙ c .if3 .taken) refl)
 
 returns-4 : tie.Need-returns-4
-unfolding class-refusal class-rules
+unfolding class-rules
 returns-4 c =
     let k = c .before .before in
     let e = k .before .before in

@@ -4,13 +4,14 @@ use mathlib.Core.Bool.{true, false, not}
 use native.Mathlib.Nat as N
 use mir.Syntax.{w64}
 use Rattle.whole.specs.Integer.{is-zero}
-use Rattle.whole.proofs.Machine.{told, zero-yes, zero-no}
+use Rattle.whole.proofs.Machine.{told, rd, zero-yes, zero-no, r64}
 use Rattle.whole.specs.Table.{at, pair-at}
 use Rattle.whole.specs.Search.{any-beyond, any-above, any-on-diagonal}
-use Rattle.account.specs.Measures.{weight-of, spread-of}
+use Rattle.account.specs.Measures.{total-of, weight-of, spread-of}
 use Rattle.account.specs.Refusals.{job-rules}
 use Rattle.account.specs.Steps.{Valued, Weighted}
 use Rattle.account.proofs.Reading.{weightless}
+use Rattle.account.proofs.Locals.{total-told}
 use Rattle.account.proofs.Running.{spread-runs}
 use Rattle.account.proofs.Accepted.{near, weighted}
 use borrow.Author.Needs.{needs}
@@ -53,18 +54,27 @@ breaks6 c =
     let w = good-weights (c .before .before .before .before) in
     weightless _ _ w ∙ ap not (sym (c .before .any-above2 .ensures)) ∙ c .if4 .taken
 
+-- S as it is handed on
+summed :
+    (c : tie.After-total) →
+    let a = c .before .before .before .before .before .before .before .before .before .before .args in
+    r64 (c .total .result) ≡ total-of (at (a .values .now)) (a .n)
+summed c =
+    let v = good-values (c .before .before .before .before .before .before .before) in
+    rd w64 (total-told _ _ v (c .total .ensures)) tt .same
+
 breaks7 :
     (c : tie.Then5) →
-    let a = c .before .before .before .before .before .before .before .before .before .before .before .args in
+    let a = c .before .before .before .before .before .before .before .before .before .before .before .before .args in
     is-zero (spread-of (at (a .values .now)) (a .n)) ≡ true
 unfolding spread-of
 breaks7 c =
-    let v = good-values (c .before .before .before .before .before .before .before .before) in
+    let v = good-values (c .before .before .before .before .before .before .before .before .before) in
     zero-yes w64 (told _ 80640000000000 (c .before .spread .ensures) (spread-runs _ _ v .bound _ (N.le-refl _))) tt (c .if5 .taken)
 
 holds7 :
     (c : tie.Else5) →
-    let a = c .before .before .before .before .before .before .before .before .before .before .before .args in
+    let a = c .before .before .before .before .before .before .before .before .before .before .before .before .args in
     is-zero (spread-of (at (a .values .now)) (a .n)) ≡ false
 holds7 c = zero-no w64 (c .before .spread .ensures) (c .if5 .left)
 
@@ -105,17 +115,20 @@ returns-4 c =
     )
     refl
 
+total-requires : tie.Need-total-requires
+total-requires c κs = good-values (c .before .before .before .before .before .before)
+
 spread-requires : tie.Need-spread-requires
-spread-requires c κs = good-values (c .before .before .before .before .before .before)
+spread-requires c κs = (good-values (c .before .before .before .before .before .before .before), summed c)
 
 returns-5 : tie.Need-returns-5
 unfolding job-rules
 returns-5 c =
     rw (
-      holds3 (c .before .before .before .before .before .before .before .before),
-      holds4 (c .before .before .before .before .before .before),
-      holds5 (c .before .before .before .before),
-      holds6 (c .before .before),
+      holds3 (c .before .before .before .before .before .before .before .before .before),
+      holds4 (c .before .before .before .before .before .before .before),
+      holds5 (c .before .before .before .before .before),
+      holds6 (c .before .before .before),
       breaks7 c,
     )
     refl
@@ -124,10 +137,10 @@ returns-6 : tie.Need-returns-6
 unfolding job-rules
 returns-6 c =
     rw (
-      holds3 (c .before .before .before .before .before .before .before .before),
-      holds4 (c .before .before .before .before .before .before),
-      holds5 (c .before .before .before .before),
-      holds6 (c .before .before),
+      holds3 (c .before .before .before .before .before .before .before .before .before),
+      holds4 (c .before .before .before .before .before .before .before),
+      holds5 (c .before .before .before .before .before),
+      holds6 (c .before .before .before),
       holds7 c,
     )
     refl
@@ -144,6 +157,7 @@ judge-job-spec =
     returns-3
     any-above-requires-2
     returns-4
+    total-requires
     spread-requires
     returns-5
     returns-6)

@@ -5,12 +5,14 @@ use lib.IntN.{ℤ}
 use lib.ListN.{length}
 use lib.Seq.{length-take-le}
 use Rattle.whole.specs.Table.{table, at}
+use mir.Syntax.{w64}
+use Rattle.whole.proofs.Machine.{rd}
 use Rattle.whole.proofs.Lists.{front, front-le, front-length}
 use Rattle.whole.proofs.Table.{table-length}
 use Rattle.account.specs.Measures.{deviation-of}
 use Rattle.account.specs.Rank.{values-cross, shuffle-cross, compared}
 use Rattle.account.specs.Steps.{cross-held, cross-moved}
-use Rattle.account.proofs.Locals.{deviations-sized}
+use Rattle.account.proofs.Locals.{deviations-sized, total-told}
 use Rattle.account.proofs.Shuffled.{own-cross, its-cross}
 use Rattle.account.proofs.Tallied.{compared-cong}
 use Rattle.account.proofs.ranking.work_rank.Statement.{statement}
@@ -19,7 +21,7 @@ use Rattle.account.proofs.ranking.work_rank.Tie as tie
 -- the deviations of the job, as the array's front holds them
 module _ (c : tie.After-deviations) where
   abbrev a : tie.Start
-  a = c .before .before .before .before
+  a = c .before .before .before .before .before
 
   abbrev expected : List ℤ
   expected = table (deviation-of (at (a .args .values .now)) (a .args .n)) (a .args .n)
@@ -41,14 +43,20 @@ module _ (c : tie.After-deviations) where
       (λ r h. its-cross (g .values .now) (g .weights .now) (g .n) d e (g .shuffles .now) r (a .pre .1 .full r h))
       (own-cross (g .values .now) (g .weights .now) (g .n) d e)
 
+total-requires : tie.Need-total-requires
+total-requires c κs = c .before .before .pre .0 .valued
+
 array-borrow-prefix-d : tie.Need-array-borrow-prefix-d
-array-borrow-prefix-d c = c .before .before .pre .0 .valued .zones
+array-borrow-prefix-d c = c .before .before .before .pre .0 .valued .zones
 
 slice-aggregate-deviations : tie.Need-slice-aggregate-deviations
-slice-aggregate-deviations c = sym (length-take-le _ _ (c .before .before .before .pre .0 .valued .zones))
+slice-aggregate-deviations c = sym (length-take-le _ _ (c .before .before .before .before .pre .0 .valued .zones))
 
 deviations-requires : tie.Need-deviations-requires
-deviations-requires c κs = let v = c .before .before .before .pre .0 .valued in (v, length-take-le _ _ (v .zones))
+deviations-requires c κs =
+    let t = c .before in
+    let v = t .before .before .before .pre .0 .valued in
+    (v, (rd w64 (total-told _ _ v (t .total .ensures)) tt .same, length-take-le _ _ (v .zones)))
 
 array-share-prefix-d : tie.Need-array-share-prefix-d
 array-share-prefix-d c = let b = c .before in front-le {A = ℤ} _ _ (expected b) _ (b .deviations .ensures) (as-long b)
@@ -72,6 +80,7 @@ pub work-rank-spec : {M : Type 1} → statement M
 work-rank-spec =
     tie.close
     (tie.spec
+    total-requires
     array-borrow-prefix-d
     slice-aggregate-deviations
     deviations-requires

@@ -1,5 +1,5 @@
 -- `job_sums` meets its contract: the deviations are worked into a local array, whose first n places are lent. Assumes nothing.
-use mathlib.Core.Path.{_≡_, refl, sym, ap}
+use mathlib.Core.Path.{_≡_, sym, ap}
 use mathlib.Core.List.{List}
 use Prim.Native.Nat.{ℕ}
 use lib.IntN.{ℤ}
@@ -8,12 +8,12 @@ use lib.Seq.{length-take-le}
 use mir.Syntax.{w64}
 use Rattle.whole.specs.Table.{table, at, pair-at}
 use Rattle.whole.proofs.Lists.{front, front-le, front-length}
-use Rattle.whole.proofs.Machine.{rd}
+use Rattle.whole.proofs.Machine.{rd, r64}
 use Rattle.whole.proofs.Table.{table-length}
-use Rattle.account.specs.Measures.{total-of, deviation-of, spread-of, weight-of, cross-of, squares-of}
-use Rattle.account.specs.Answers.{five, class-row, job-figures}
+use Rattle.account.specs.Measures.{total-of, deviation-of, weight-of, cross-of, squares-of}
+use Rattle.account.specs.Answers.{class-row}
 use Rattle.account.specs.declared.ClassRow.{ClassRow}
-use Rattle.account.proofs.Locals.{total-told, spread-told, weight-told, cross-told, squares-told}
+use Rattle.account.proofs.Locals.{total-told, spread-told, weight-told, cross-told, squares-told, same-figures}
 use borrow.Author.Needs.{needs}
 use Rattle.account.proofs.working.job_sums.Statement.{statement}
 use Rattle.account.proofs.working.job_sums.Tie as tie
@@ -24,18 +24,17 @@ parts :
 unfolding class-row
 parts f x n r e = (ap (λ (s : ClassRow). s .weight) e, ap (λ (s : ClassRow). s .cross) e, ap (λ (s : ClassRow). s .squares) e)
 
-same :
-    (n : ℕ) (values : List ℤ) (weights : List ℕ) (s m w p g : ℤ) → s ≡ total-of (at values) n → m ≡ spread-of (at values) n →
-    w ≡ weight-of (pair-at weights n) n → p ≡ cross-of (pair-at weights n) (deviation-of (at values) n) n →
-    g ≡ squares-of (pair-at weights n) (at values) n →
-    five (record { total = s; spread = m; weight = w; cross = p; squares = g }) ≡ job-figures n values weights
-unfolding job-figures
-same n values weights s m w p g e1 e2 e3 e4 e5 = rw (e1, e2, e3, e4, e5) refl
+-- S as it is handed on
+summed :
+    (c : tie.After-total) →
+    let a = c .before .before .args in
+    r64 (c .total .result) ≡ total-of (at (a .values .now)) (a .n)
+summed c = rd w64 (total-told _ _ (c .before .before .pre .0 .valued) (c .total .ensures)) tt .same
 
 -- the deviations of the job, as the array's front holds them
 module _ (c : tie.After-deviations) where
   abbrev a : tie.Start
-  a = c .before .before .before
+  a = c .before .before .before .before .before
 
   abbrev expected : List ℤ
   expected = table (deviation-of (at (a .args .values .now)) (a .args .n)) (a .args .n)
@@ -43,14 +42,23 @@ module _ (c : tie.After-deviations) where
   as-long : length expected ≡ a .args .n
   as-long = table-length (deviation-of (at (a .args .values .now)) (a .args .n)) (a .args .n)
 
+total-requires : tie.Need-total-requires
+total-requires c κs = c .before .pre .0 .valued
+
+spread-requires : tie.Need-spread-requires
+spread-requires c κs = (c .before .before .pre .0 .valued, summed c)
+
 array-borrow-prefix-d : tie.Need-array-borrow-prefix-d
-array-borrow-prefix-d c = c .before .pre .0 .valued .zones
+array-borrow-prefix-d c = c .before .before .before .pre .0 .valued .zones
 
 slice-aggregate-deviations : tie.Need-slice-aggregate-deviations
-slice-aggregate-deviations c = sym (length-take-le _ _ (c .before .before .pre .0 .valued .zones))
+slice-aggregate-deviations c = sym (length-take-le _ _ (c .before .before .before .before .pre .0 .valued .zones))
 
 deviations-requires : tie.Need-deviations-requires
-deviations-requires c κs = let v = c .before .before .pre .0 .valued in (v, length-take-le _ _ (v .zones))
+deviations-requires c κs =
+    let t = c .before .before in
+    let v = t .before .before .pre .0 .valued in
+    (v, (summed t, length-take-le _ _ (v .zones)))
 
 array-share-prefix-d : tie.Need-array-share-prefix-d
 array-share-prefix-d c = let b = c .before in front-le {A = ℤ} _ _ (expected b) _ (b .deviations .ensures) (as-long b)
@@ -63,24 +71,20 @@ pair-sums-requires c κs =
     let b = c .before .before .before in
     (a b .pre .0, (front {A = ℤ} _ _ (expected b) _ (b .deviations .ensures) (as-long b), a b .pre .1))
 
-total-requires : tie.Need-total-requires
-total-requires c κs = search needs
-
-spread-requires : tie.Need-spread-requires
-spread-requires c κs = search needs
-
 same-length : tie.Need-same-length
 same-length c = search needs
 
 returns : tie.Need-returns
 returns c =
-    let b = c .before .before .before .before in
-    let s = b .before .before .before .before .before .before .before in
+    let b = c .before .before in
+    let d = b .before .before .before .before in
+    let m = d .before .before in
+    let s = a d in
     let r = s .pre .0 in
     let p = parts (pair-at (s .args .weights .now) (s .args .n)) (at (s .args .values .now)) (s .args .n) _ (b .pair-sums .ensures .0) in (
-      same (s .args .n) (s .args .values .now) (s .args .weights .now) _ _ _ _ _
-          (rd w64 (total-told _ _ (r .valued) (c .before .before .total .ensures)) tt .same)
-          (rd w64 (spread-told _ _ (r .valued) (c .before .spread .ensures)) tt .same)
+      same-figures (s .args .n) (s .args .values .now) (s .args .weights .now) _ _ _ _ _
+          (summed (m .before))
+          (rd w64 (spread-told _ _ (r .valued) (m .spread .ensures)) tt .same)
           (rd w64 (weight-told _ _ (r .weighted) (p .0)) tt .same)
           (rd w64 (cross-told _ _ _ r (p .1)) tt .same)
           (rd w64 (squares-told _ _ _ r (p .2)) tt .same),
@@ -91,13 +95,13 @@ pub job-sums-spec : {M : Type 1} → statement M
 job-sums-spec =
     tie.close
     (tie.spec
+    total-requires
+    spread-requires
     array-borrow-prefix-d
     slice-aggregate-deviations
     deviations-requires
     array-share-prefix-d
     slice-aggregate-pair-sums
     pair-sums-requires
-    total-requires
-    spread-requires
     same-length
     returns)
