@@ -5,78 +5,97 @@ use mathlib.Core.List.{List, [], _∷_, _++_}
 use Prim.Native.Nat.{ℕ, _*_}
 use borrow.Author.Tests.{eq-eqb}
 use lib.Dec.{eqb}
-use lib.Ieee.{Float}
 use lib.IntN.{ℤ}
-use lib.ListN.{length}
+use lib.ListN.{length, take}
 use Rattle.whole.specs.Rules.{first-broken, misfits, size-rules}
 use Rattle.whole.specs.Search.{any-above}
-use Rattle.whole.specs.Table.{table, at}
+use Rattle.whole.specs.Table.{table, at, pair-at}
 use Rattle.whole.proofs.Table.{table-cong}
 use Rattle.whole.proofs.Rules.{kept-when-refused, worked-when-taken, beside, sizes-first}
 use Rattle.account.specs.Measures.{spread-of}
-use Rattle.account.specs.Answers.{job-locals}
-use Rattle.account.specs.Classes.{row-at, class-sums, class-locals, class-rules, class-refusal}
+use Rattle.account.specs.Answers.{five, class-row, job-figures, job-locals}
+use Rattle.account.specs.Classes.{row-at, class-sums, class-locals, class-rules, class-lengths, class-refusal}
 use Rattle.account.specs.Refusals.{job-rules, job-lengths, call-rules}
+use Rattle.account.specs.declared.ClassRow.{ClassRow}
+use Rattle.account.specs.declared.Sums.{Sums}
 use Rattle.account.proofs.ClassTheorems.{class-sums-row}
 use Rattle.coefficients.specs.Coefficients.{pair-of, job-pair, class-pair, local-figures}
-use Rattle.coefficients.specs.FloatReport.{number-of, pair-in, no-pair}
-use Rattle.coefficients.specs.Steps.{zone-sums, whole-row, rest-refusal, Reports}
+use Rattle.coefficients.specs.FloatReport.{number-of, sums-in, pair-in, no-pair}
+use Rattle.coefficients.specs.Steps.{whole-row, rest-refusal, Reports}
 use Rattle.coefficients.specs.declared.Answer.the-variants.{Refused, Reported}
 use Rattle.coefficients.specs.declared.Report.{Report}
-use Rattle.coefficients.proofs.Job.{zones-added, whole-added}
+use Rattle.coefficients.proofs.Job.{spread-in, row-in}
 
-module _ (refusal n : ℕ) (values : List ℤ) (weights classes : List ℕ) (figures : List Float) where
-  -- a refusal, and the list as it was
+-- ---- what is formed of the sums, the rows and the local numerators is the job's and the classes'
+module _ (n : ℕ) (values : List ℤ) (weights classes : List ℕ) {spread : ℤ} (m : spread ≡ spread-of (at values) n) where
+  pair-is : {row : ClassRow} → row ≡ class-row (pair-at weights n) (at values) n → pair-of n spread row ≡ job-pair n values weights
+  unfolding job-pair
+  pair-is e = rw (m, e) refl
+
+  pairs-are :
+      {l : List ℤ} → l ≡ class-sums n values weights classes →
+      table (λ k. pair-of n spread (row-at l k)) 9 ≡ table (class-pair n values weights classes) 9
+  unfolding class-pair
+  pairs-are e =
+      rw (m, e) (table-cong _ _ 9 no-pair (λ k p. ap (pair-of n (spread-of (at values) n)) (class-sums-row n values weights classes k p)))
+
+  figures-are : {l held : List ℤ} → l ≡ held → local-figures spread l ≡ local-figures (spread-of (at values) n) held
+  figures-are e = rw (m, e) refl
+
+module _ (refusal n : ℕ) (values : List ℤ) (weights classes : List ℕ) (rows locals : List ℤ) (figures parts : List ℕ) where
+  -- a refusal, and the lists as they were
   pub refused :
-      (k : ℕ) (r : Report) → r ≡ record { whole = Refused k; classes = table (λ i. no-pair) 9 } → k ≡ refusal → (k ≡ 0 → ⊥) →
-      Reports refusal n values weights classes figures r figures
-  unfolding number-of pair-in
-  refused k r e f g =
+      (k : ℕ) (r : Report) (rows-left locals-left : List ℤ) →
+      r ≡ record { whole = Refused k; classes = table (λ i. no-pair) 9 } → k ≡ refusal → (k ≡ 0 → ⊥) →
+      rows-left ≡ rows → locals-left ≡ locals →
+      Reports refusal n values weights classes rows locals figures parts r rows-left locals-left figures parts
+  unfolding number-of sums-in pair-in
+  refused k r rows-left locals-left e f g in-rows in-locals =
       let some : refusal ≡ 0 → ⊥ = λ z. g (f ∙ z) in record {
         number = ap (λ (v : Report). number-of (v .whole)) e ∙ f;
+        sums = ap (λ (v : Report). sums-in (v .whole)) e ∙ sym (kept-when-refused _ _ _ some);
         whole = ap (λ (v : Report). pair-in (v .whole)) e ∙ sym (kept-when-refused _ _ _ some);
         pairs = ap (λ (v : Report). v .classes) e ∙ sym (kept-when-refused _ _ _ some);
-        locals = sym (kept-when-refused _ _ _ some);
+        in-rows = in-rows ∙ sym (kept-when-refused _ _ _ some);
+        in-locals = in-locals ∙ sym (kept-when-refused _ _ _ some);
+        in-figures = sym (kept-when-refused _ _ _ some);
+        in-parts = sym (kept-when-refused _ _ _ some);
       }
 
-  -- the pairs, and the local figures
+  -- the sums, the pairs and the figures that are formed of what the class account answered and left
   pub reported :
-      (r : Report) (left : List Float) → refusal ≡ 0 →
-      r ≡ record { whole = Reported (job-pair n values weights); classes = table (class-pair n values weights classes) 9 } →
-      left ≡ local-figures (spread-of (at values) n) (job-locals n values weights) →
-      Reports refusal n values weights classes figures r left
-  unfolding number-of pair-in
-  reported r left z e f = record {
-    number = ap (λ (v : Report). number-of (v .whole)) e ∙ sym z;
-    whole = ap (λ (v : Report). pair-in (v .whole)) e ∙ sym (worked-when-taken _ _ _ z);
-    pairs = ap (λ (v : Report). v .classes) e ∙ sym (worked-when-taken _ _ _ z);
-    locals = f ∙ sym (worked-when-taken _ _ _ z);
-  }
+      (r : Report) (sums : Sums) (rows-left of-classes locals-left : List ℤ) (figures-left parts-left : List ℕ) →
+      refusal ≡ 0 → five sums ≡ job-figures n values weights →
+      rows-left ≡ class-sums n values weights classes → of-classes ≡ class-locals n values weights classes →
+      locals-left ≡ job-locals n values weights →
+      r
+      ≡ record {
+        whole = Reported (record { sums = sums; pair = pair-of n (sums .spread) (whole-row sums) });
+        classes = table (λ k. pair-of n (sums .spread) (row-at rows-left k)) 9;
+      } →
+      figures-left ≡ local-figures (sums .spread) locals-left →
+      parts-left ≡ local-figures (sums .spread) (take (length parts) of-classes) →
+      Reports refusal n values weights classes rows locals figures parts r rows-left locals-left figures-left parts-left
+  unfolding number-of sums-in pair-in
+  reported r sums rows-left of-classes locals-left figures-left parts-left z s in-rows in-classes in-locals e f g =
+      let m = spread-in n values weights sums s in record {
+        number = ap (λ (v : Report). number-of (v .whole)) e ∙ sym z;
+        sums = ap (λ (v : Report). sums-in (v .whole)) e ∙ s ∙ sym (worked-when-taken _ _ _ z);
+        whole = ap (λ (v : Report). pair-in (v .whole)) e ∙ ap (λ v. v ∷ []) (pair-is n values weights classes m (row-in n values weights sums s)) ∙ sym (worked-when-taken _ _ _ z);
+        pairs = ap (λ (v : Report). v .classes) e ∙ pairs-are n values weights classes m in-rows ∙ sym (worked-when-taken _ _ _ z);
+        in-rows = in-rows ∙ sym (worked-when-taken _ _ _ z);
+        in-locals = in-locals ∙ sym (worked-when-taken _ _ _ z);
+        in-figures = f ∙ figures-are n values weights classes m in-locals ∙ sym (worked-when-taken _ _ _ z);
+        in-parts = g ∙ figures-are n values weights classes m (ap (take (length parts)) in-classes) ∙ sym (worked-when-taken _ _ _ z);
+      }
 
 -- the same by another name of the number
 pub reports-same :
-    {refusal other n : ℕ} {values : List ℤ} {weights classes : List ℕ} {figures : List Float} {r : Report} {left : List Float} →
-    refusal ≡ other → Reports refusal n values weights classes figures r left → Reports other n values weights classes figures r left
+    {refusal other n : ℕ} {values : List ℤ} {weights classes : List ℕ} {rows locals : List ℤ} {figures parts : List ℕ} {r : Report}
+    {rows-left locals-left : List ℤ} {figures-left parts-left : List ℕ} → refusal ≡ other →
+    Reports refusal n values weights classes rows locals figures parts r rows-left locals-left figures-left parts-left →
+    Reports other n values weights classes rows locals figures parts r rows-left locals-left figures-left parts-left
 reports-same e p = rw (← e) p
-
--- ---- what is formed of the rows and the local numerators that the class account left is the job's and the classes'
-module _ (n : ℕ) (values : List ℤ) (weights classes : List ℕ) (rows : List ℤ) (rows-left : rows ≡ class-sums n values weights classes) where
-  pub pairs-are :
-      table (λ k. pair-of n (spread-of (at values) n) (row-at rows k)) 9 ≡ table (class-pair n values weights classes) 9
-  unfolding class-pair
-  pairs-are =
-      table-cong _ _ 9 no-pair
-      (λ k h.
-      ap (pair-of n (spread-of (at values) n)) (ap (λ (l : List ℤ). row-at l k) rows-left ∙ class-sums-row n values weights classes k h))
-
-  module _ (numerators : List ℤ) (left : numerators ≡ class-locals n values weights classes)
-      (taken : rest-refusal n values weights classes ≡ 0) where
-    pub pair-is : pair-of n (spread-of (at values) n) (whole-row n rows (zone-sums n numerators)) ≡ job-pair n values weights
-    unfolding job-pair
-    pair-is = rw (rows-left, left) (ap (pair-of n (spread-of (at values) n)) (whole-added n values weights classes [] taken))
-
-    pub locals-are : zone-sums n numerators ≡ job-locals n values weights
-    locals-are = ap (zone-sums n) left ∙ zones-added n values weights classes [] taken
 
 -- ---- the numbers on the way
 module _ (n : ℕ) (values : List ℤ) (weights classes : List ℕ) (lent : List (ℕ × ℕ)) where
@@ -116,11 +135,13 @@ module _ (n : ℕ) (values : List ℤ) (weights classes : List ℕ) (lent : List
 
 -- so the class account, whose own lists fit, refuses what is left to judge
 pub account-number :
-    (n : ℕ) (values : List ℤ) (weights classes : List ℕ) →
-    class-refusal 27 n values weights classes 27 (9 * n) ≡ rest-refusal n values weights classes
+    (n : ℕ) (values : List ℤ) (weights classes : List ℕ) (rows of-classes own : List ℤ) →
+    length rows ≡ 27 → length of-classes ≡ 9 * n → length own ≡ n →
+    class-refusal n values weights classes rows of-classes own ≡ rest-refusal n values weights classes
 unfolding class-refusal
-account-number n values weights classes =
-    alike n values weights classes ((27, 27) ∷ (9 * n, 9 * n) ∷ []) [] (rw (eq-eqb (9 * n) (9 * n) refl) refl)
+account-number n values weights classes rows of-classes own e f g =
+    alike n values weights classes (class-lengths n (length rows) (length of-classes) (length own)) []
+    (rw (eq-eqb (length rows) 27 e, eq-eqb (length of-classes) (9 * n) f, eq-eqb (length own) n g) refl)
 
 -- and a call whose n and lists have no number is refused by that number
 pub rest-number :

@@ -1,33 +1,39 @@
 -- What the account promises of an accepted job, as the coefficients are formed from it. Assumes nothing.
-use mathlib.Core.Path.{_≡_, refl, ap, _∙_}
+use mathlib.Core.Path.{_≡_, refl, ap}
 use mathlib.Core.List.{List}
-use Prim.Native.Nat.{ℕ, _+_, _*_, _≤_, _<_}
-use native.Mathlib.Nat as N
+use Prim.Native.Nat.{ℕ, _*_, _≤_, _<_}
 use native.Mathlib.Omega.{arith}
-use lib.IntN.{ℤ, pos, natAbs}
+use lib.IntN.{ℤ, pos}
 use lib.Signed.{_≤ℤ_}
 use Rattle.whole.specs.Rules.{first-broken}
-use Rattle.whole.specs.Sum.{sum}
 use Rattle.whole.specs.Table.{at, pair-at}
-use Rattle.whole.proofs.Sum.{sum-cong}
-use Rattle.whole.proofs.Table.{table-cong}
 use Rattle.whole.proofs.TableRows.{rows-each}
-use Rattle.account.specs.Measures.{deviation-of, spread-of, cross-of, local-of}
+use Rattle.account.specs.Measures.{deviation-of, spread-of, local-of}
 use Rattle.account.specs.Limits.{Limits}
-use Rattle.account.specs.Answers.{class-row, job-locals}
-use Rattle.account.specs.Classes.{class-weight, class-row-of, class-local-of, sum-at, class-sums, class-locals, class-rules}
+use Rattle.account.specs.Answers.{five, class-row, job-figures, job-locals}
+use Rattle.account.specs.Classes.{class-weight, class-row-of, class-local-of, class-sums, class-locals, class-rules}
 use Rattle.account.specs.Refusals.{account-refusal}
-use Rattle.account.proofs.Theorems.{accepted-limits, accepted-sizes, values-taken, spread-one, weight-above}
-use Rattle.account.proofs.Theorems.{locals-add-up, job-locals-length, job-locals-at}
-use Rattle.account.proofs.ClassTheorems.{account-taken, zones-in-range, class-limits, class-sizes}
-use Rattle.account.proofs.ClassTheorems.{class-sums-length, class-sums-at, class-sums-row, class-locals-length, class-locals-at}
-use Rattle.account.proofs.ClassTheorems.{nine-weights, nine-squares, nine-locals}
-use Rattle.coefficients.specs.Steps.{Ratio, Formable, FormableRows, Numerators}
-use Rattle.coefficients.specs.Steps.{apart, Addends, ZoneParts, zone-sums, whole-row, Reportable}
+use Rattle.account.specs.declared.Sums.{Sums}
+use Rattle.account.proofs.Theorems.{accepted-limits, spread-one, weight-above}
+use Rattle.account.proofs.Theorems.{job-locals-length, job-locals-at}
+use Rattle.account.proofs.ClassTheorems.{account-taken, zones-in-range, class-limits}
+use Rattle.account.proofs.ClassTheorems.{class-sums-length, class-sums-row, class-locals-length}
+use Rattle.coefficients.specs.Steps.{Ratio, Formable, FormableRows, Numerators, whole-row, Reportable}
+use Rattle.coefficients.proofs.Ratios.{formable-same, rows-same, numerators-same}
 
--- the numbers of a whole list stand one apart
-alone : (i : ℕ) → i * 1 + 0 ≡ i
-alone i = omega arith
+-- ---- sums that are a job's
+module _ (n : ℕ) (values : List ℤ) (weights : List ℕ) (sums : Sums) (e : five sums ≡ job-figures n values weights) where
+  pub spread-in : sums .spread ≡ spread-of (at values) n
+  unfolding job-figures
+  spread-in = ap (λ (l : List ℤ). at l 1) e
+
+  pub row-in : whole-row sums ≡ class-row (pair-at weights n) (at values) n
+  unfolding job-figures class-row
+  row-in =
+      let weight = ap (λ (l : List ℤ). at l 2) e in
+      let cross = ap (λ (l : List ℤ). at l 3) e in
+      let squares = ap (λ (l : List ℤ). at l 4) e in
+      rw (weight, cross, squares) refl
 
 -- ---- what is within the limits
 module _ (n : ℕ) (values : List ℤ) (weights classes : List ℕ) (lent : List (ℕ × ℕ))
@@ -96,95 +102,14 @@ module _ (n : ℕ) (values : List ℤ) (weights classes : List ℕ) (lent : List
       let range = zones-in-range n values weights classes lent taken in
       record { few = omega (arith, range .1); each = λ t h. class-local-ratio t (omega arith) }
 
-  -- ---- the nine classes add up to the job
-  pub zones-added : zone-sums n (class-locals n values weights classes) ≡ job-locals n values weights
-  unfolding job-locals
-  zones-added =
-      table-cong _ _ n (pos 0)
-      (λ i h.
-      sum-cong _ _ 9 (λ k p. class-locals-at n values weights classes k i p h) ∙ nine-locals n values weights classes lent taken i h)
-
-  -- a sum over the rows that the class account left is one over the rows of the classes
-  over-rows :
-      (place : ℕ) → place < 3 →
-      sum (apart (class-sums n values weights classes) place 3) 9 ≡ sum (λ k. sum-at (class-row-of n values weights classes k) place) 9
-  over-rows place h = sum-cong _ _ 9 (λ k p. class-sums-at n values weights classes k place p h)
-
-  crosses-added : sum (apart (job-locals n values weights) 0 1) n ≡ cross-of (pair-at weights n) (deviation-of (at values) n) n
-  crosses-added =
-      sum-cong _ _ n (λ i h. ap (at (job-locals n values weights)) (alone i) ∙ job-locals-at n values weights i h)
-      ∙ locals-add-up (pair-at weights n) (at values) n
-
-  row-added :
-      whole-row n (class-sums n values weights classes) (job-locals n values weights) ≡ class-row (pair-at weights n) (at values) n
-  unfolding class-row
-  row-added =
-      let weights-added = over-rows 0 (omega arith) ∙ nine-weights n values weights classes lent taken in
-      let squares-added = over-rows 2 (omega arith) ∙ nine-squares n values weights classes lent taken in
-      rw (weights-added, crosses-added, squares-added) refl
-
-  pub whole-added :
-      whole-row n (class-sums n values weights classes) (zone-sums n (class-locals n values weights classes))
-      ≡ class-row (pair-at weights n) (at values) n
-  whole-added = ap (whole-row n (class-sums n values weights classes)) zones-added ∙ row-added
-
-  -- what is added up is small
-  class-local-small : (k i : ℕ) → i < n → natAbs (class-local-of n values weights classes k i) ≤ 92897280000000000
-  unfolding class-local-of
-  class-local-small k = class-sizes n values weights classes lent taken k .local
-
-  row-small : (k : ℕ) → let row = class-row-of n values weights classes k in
-      (natAbs (row .weight) ≤ 92897280000000000) × (natAbs (row .squares) ≤ 92897280000000000)
-  unfolding class-row-of class-row
-  row-small k = let s = class-sizes n values weights classes lent taken k in (omega (arith, s .weight), omega (arith, s .squares))
-
-  zone-parts : ZoneParts n (class-locals n values weights classes)
-  zone-parts = record {
-    zones = zones-in-range n values weights classes lent taken .1;
-    each = λ i h.
-        let l = class-locals-length n values weights classes in
-        let range = zones-in-range n values weights classes lent taken in record {
-          few = omega arith;
-          short = omega (arith, range .1);
-          inside = λ k p. omega (arith, N.mul-le-mul-right n p);
-          small = λ k p. rw (class-locals-at n values weights classes k i p h) (class-local-small k i h);
-        };
-  }
-
-  row-parts : (place : ℕ) → place < 3 → ((k : ℕ) → natAbs (sum-at (class-row-of n values weights classes k) place) ≤ 92897280000000000) →
-      Addends (class-sums n values weights classes) place 3 9
-  row-parts place h small =
-      let l = class-sums-length n values weights classes in record {
-        few = omega arith;
-        short = omega arith;
-        inside = λ k p. omega arith;
-        small = λ k p. rw (class-sums-at n values weights classes k place p h) (small k);
-      }
-
-  own-parts : Addends (job-locals n values weights) 0 1 n
-  own-parts =
-      let l = job-locals-length n values weights in
-      let range = zones-in-range n values weights classes lent taken in record {
-        few = range .1;
-        short = omega (arith, range .1);
-        inside = λ i h. omega arith;
-        small = λ i h.
-            rw (ap (at (job-locals n values weights)) (alone i) ∙ job-locals-at n values weights i h)
-            (accepted-sizes n values weights (job-locals n values weights) none .local i h);
-      }
-
   -- all that the report's work asks for
-  pub reportable : Reportable n values (class-sums n values weights classes) (class-locals n values weights classes)
-  reportable = record {
-    accepted = values-taken n values weights (job-locals n values weights) none;
-    zone-parts = zone-parts;
-    row-parts = rw zones-added (record {
-      weights = row-parts 0 (omega arith) (λ k. row-small k .0);
-      numerators = own-parts;
-      squares = row-parts 2 (omega arith) (λ k. row-small k .1);
-    });
-    whole = rw whole-added job-formable;
-    numerators = rw zones-added job-numerators;
-    class-rows = class-rows;
-    class-numerators = class-numerators;
-  }
+  pub reportable :
+      (sums : Sums) → five sums ≡ job-figures n values weights →
+      Reportable n sums (class-sums n values weights classes) (class-locals n values weights classes) (job-locals n values weights)
+  reportable sums e =
+      let m = spread-in n values weights sums e in record {
+        whole = formable-same m (row-in n values weights sums e) job-formable;
+        numerators = numerators-same m refl job-numerators;
+        class-rows = rows-same m refl class-rows;
+        class-numerators = numerators-same m refl class-numerators;
+      }

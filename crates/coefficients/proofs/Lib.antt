@@ -1,7 +1,5 @@
--- Laws of the float report, each file named by its subject. Demand 3 is proved in Demand3, and of the plain report in Plain.
+-- Laws of the float report, each file named by its subject.
 pub mod Ratios
-pub mod Apart
 pub mod Job
 pub mod Answered
-pub mod Demand3
-pub mod Plain
+pub mod Readable

@@ -2,12 +2,11 @@
 use mathlib.Core.Bool.{cond}
 use mathlib.Core.List.{List}
 use Prim.Native.Nat.{ℕ, _*_, _-_}
-use lib.Ieee.{Float}
 use lib.IntN.{ℤ, pos, _*ℤ_}
 use lib.ListN.{length}
 use Rattle.whole.specs.Integer.{is-zero}
 use Rattle.whole.specs.Table.{table, at, pair-at}
-use Rattle.nearest.specs.Answers.{nearest-float}
+use Rattle.nearest.specs.Answers.{nearest-float, nearest-bits}
 use Rattle.account.specs.Measures.{spread-of}
 use Rattle.account.specs.Answers.{class-row}
 use Rattle.account.specs.Classes.{class-row-of}
@@ -34,6 +33,6 @@ job-pair n values weights = pair-of n (spread-of (at values) n) (class-row (pair
 unfoldable pub class-pair : ℕ → List ℤ → List ℕ → List ℕ → ℕ → Pair
 class-pair n values weights classes k = pair-of n (spread-of (at values) n) (class-row-of n values weights classes k)
 
--- the local Moran L / M of each local numerator of a list
-unfoldable pub local-figures : ℤ → List ℤ → List Float
-local-figures spread numerators = table (λ i. nearest-float (at numerators i) spread) (length numerators)
+-- the bits of the local Moran L / M of each local numerator of a list
+unfoldable pub local-figures : ℤ → List ℤ → List ℕ
+local-figures spread numerators = table (λ i. nearest-bits (at numerators i) spread) (length numerators)

@@ -1,5 +1,4 @@
--- Meaning: Coefficients, FloatReport, and demand 3 at a glance in Demand3. What private functions ask of each other: Steps.
+-- Meaning: Coefficients, FloatReport. What private functions ask of each other: Steps.
 pub mod Coefficients
 pub mod FloatReport
-pub mod Demand3
 pub mod Steps

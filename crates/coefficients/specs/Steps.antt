@@ -1,19 +1,26 @@
 -- What the private functions ask of each other; no part of the public promise. Assumes nothing.
 use mathlib.Core.Path.{_≡_}
+use mathlib.Core.Bool.{not}
 use mathlib.Core.List.{List, []}
-use Prim.Native.Nat.{ℕ, _+_, _*_, _-_, _≤_, _<_}
-use lib.Ieee.{Float}
+use Prim.Native.Nat.{ℕ, _*_, _-_, _≤_, _<_}
+use lib.Dec.{T}
+use lib.Ieee.{isNan}
 use lib.IntN.{ℤ, pos, natAbs, _*ℤ_}
-use lib.ListN.{length}
+use lib.ListN.{length, getD, take}
 use lib.Signed.{_≤ℤ_}
-use Rattle.whole.specs.Rules.{first-broken, ratio-limit}
-use Rattle.whole.specs.Sum.{sum}
-use Rattle.whole.specs.Table.{table, at}
+use Rattle.whole.specs.Rules.{first-broken, unless-refused, ratio-limit}
+use Rattle.whole.specs.Table.{at}
 use Rattle.account.specs.Measures.{spread-of}
-use Rattle.account.specs.Classes.{row-at, class-rules}
-use Rattle.account.specs.Refusals.{values-refusal}
+use Rattle.account.specs.Answers.{job-locals}
+use Rattle.account.specs.Classes.{row-at, class-sums, class-locals, class-rules}
 use Rattle.account.specs.declared.ClassRow.{ClassRow}
-use Rattle.coefficients.specs.FloatReport.{number-of, pair-in, whole-unless, pairs-unless, figures-unless}
+use Rattle.account.specs.declared.Sums.{Sums}
+use Rattle.coefficients.specs.Coefficients.{local-figures}
+use Rattle.coefficients.specs.FloatReport.{number-of, sums-in, pair-in, no-pair}
+use Rattle.coefficients.specs.FloatReport.{sums-unless, whole-unless, pairs-unless, figures-unless}
+use Rattle.coefficients.specs.declared.Coefficient.{Coefficient}
+use Rattle.coefficients.specs.declared.Coefficient.the-variants.{Figure, Weightless}
+use Rattle.coefficients.specs.declared.Pair.{Pair}
 use Rattle.coefficients.specs.declared.Report.{Report}
 
 -- p over q, which part 2 does not refuse
@@ -44,60 +51,59 @@ pub record Numerators (spread : ℤ) (numerators : List ℤ) : Type 0 where
   pub few : length numerators ≤ 576
   pub each : (k : ℕ) → k < length numerators → Ratio (at numerators k) spread
 
--- ---- the whole job's numbers, which those of its nine classes add up to
+-- W, P and G of the whole job, in its sums
+abbrev pub whole-row : Sums → ClassRow
+whole-row sums = record { weight = sums .weight; cross = sums .cross; squares = sums .squares }
 
--- the numbers of a list that stand `stride` apart, from `place` on
-abbrev pub apart : List ℤ → ℕ → ℕ → ℕ → ℤ
-apart numbers place stride k = at numbers (k * stride + place)
-
--- so many of them, each no larger than a local numerator can be
-pub record Addends (numbers : List ℤ) (place stride many : ℕ) : Type 0 where
-  pub few : many ≤ 64
-  pub short : length numbers ≤ 576
-  pub inside : (k : ℕ) → k < many → k * stride + place < length numbers
-  pub small : (k : ℕ) → k < many → natAbs (apart numbers place stride k) ≤ 92897280000000000
-
--- the local numerators of each zone in the nine classes, and what they add up to
-pub record ZoneParts (n : ℕ) (class-locals : List ℤ) : Type 0 where
-  pub zones : n ≤ 64
-  pub each : (i : ℕ) → i < n → Addends class-locals i n 9
-
-abbrev pub zone-sums : ℕ → List ℤ → List ℤ
-zone-sums n class-locals = table (λ i. sum (apart class-locals i n) 9) n
-
--- W and G of the nine rows, the job's own local numerators, and the sums that they add up to
-pub record RowParts (n : ℕ) (rows locals : List ℤ) : Type 0 where
-  pub weights : Addends rows 0 3 9
-  pub numerators : Addends locals 0 1 n
-  pub squares : Addends rows 2 3 9
-
-abbrev pub whole-row : ℕ → List ℤ → List ℤ → ClassRow
-whole-row n rows locals = record {
-  weight = sum (apart rows 0 3) 9;
-  cross = sum (apart locals 0 1) n;
-  squares = sum (apart rows 2 3) 9;
-}
-
--- what the class account of an accepted job left: the nine rows, and the local numerators of each class
-pub record Reportable (n : ℕ) (values rows class-locals : List ℤ) : Type 0 where
-  pub accepted : values-refusal n values ≡ 0
-  pub zone-parts : ZoneParts n class-locals
-  pub row-parts : RowParts n rows (zone-sums n class-locals)
-  pub whole : Formable n (spread-of (at values) n) (whole-row n rows (zone-sums n class-locals))
-  pub numerators : Numerators (spread-of (at values) n) (zone-sums n class-locals)
-  pub class-rows : FormableRows n (spread-of (at values) n) rows
-  pub class-numerators : Numerators (spread-of (at values) n) class-locals
+-- what the class account of an accepted job answered and left: the sums, the nine rows, and the local numerators of each class and of the
+-- job
+pub record Reportable (n : ℕ) (sums : Sums) (rows class-locals locals : List ℤ) : Type 0 where
+  pub whole : Formable n (sums .spread) (whole-row sums)
+  pub numerators : Numerators (sums .spread) locals
+  pub class-rows : FormableRows n (sums .spread) rows
+  pub class-numerators : Numerators (sums .spread) class-locals
 
 -- ---- what a call answers
 
--- the refusal of a job and its classes, where the lists that the call is lent for its floats fit
+-- lists that the report's work can be lent
+pub record Lists (n : ℕ) (rows class-locals locals : List ℤ) (figures parts : List ℕ) : Type 0 where
+  pub zones : n ≤ 64
+  pub rows-fit : length rows ≡ 27
+  pub class-locals-fit : length class-locals ≡ 9 * n
+  pub locals-fit : length locals ≡ n
+  pub figures-fit : length figures ≡ n
+  pub parts-few : length parts ≤ 9 * n
+
+-- the refusal of a job and its classes, where the lists that the call is lent fit
 abbrev pub rest-refusal : ℕ → List ℤ → List ℕ → List ℕ → ℕ
 rest-refusal n values weights classes = first-broken (class-rules n values weights classes [])
 
--- what a call whose refusal has this number promises of its answer r, and of the list that it leaves for the local figures
-pub record Reports (refusal n : ℕ) (values : List ℤ) (weights classes : List ℕ) (figures : List Float) (r : Report)
-    (left : List Float) : Type 0 where
+-- what a call whose refusal has this number promises of its answer r, and of the lists that it leaves of those that it was lent: `parts` for
+-- the local figures of the classes, as many as it has places
+pub record Reports (refusal n : ℕ) (values : List ℤ) (weights classes : List ℕ) (rows locals : List ℤ) (figures parts : List ℕ)
+    (r : Report) (rows-left locals-left : List ℤ) (figures-left parts-left : List ℕ) : Type 0 where
   pub number : number-of (r .whole) ≡ refusal
+  pub sums : sums-in (r .whole) ≡ sums-unless refusal n values weights
   pub whole : pair-in (r .whole) ≡ whole-unless refusal n values weights
   pub pairs : r .classes ≡ pairs-unless refusal n values weights classes
-  pub locals : left ≡ figures-unless refusal n values weights figures
+  pub in-rows : rows-left ≡ unless-refused refusal (class-sums n values weights classes) rows
+  pub in-locals : locals-left ≡ unless-refused refusal (job-locals n values weights) locals
+  pub in-figures : figures-left ≡ figures-unless refusal n values weights figures
+  pub in-parts :
+      parts-left
+      ≡ unless-refused refusal
+      (local-figures (spread-of (at values) n) (take (length parts) (class-locals n values weights classes)))
+      parts
+
+-- ---- a coefficient whose bits can be read
+
+abbrev pub Readable : Coefficient → Type 0
+Readable (Figure x) = T (not (isNan x))
+Readable Weightless = Unit
+
+pub record ReadablePair (pair : Pair) : Type 0 where
+  pub of-moran : Readable (pair .moran)
+  pub of-geary : Readable (pair .geary)
+
+abbrev pub ReadablePairs : List Pair → Type 0
+ReadablePairs pairs = (k : ℕ) → k < length pairs → ReadablePair (getD pairs k no-pair)

@@ -86,8 +86,8 @@ pub(super) fn class_pairs(n: usize, spread: i64, rows: &[i64]) -> [Pair; 9]
     ]
 }
 
-// The local Moran of each local numerator of a list.
-pub(super) fn put_figures(spread: i64, numerators: &[i64], figures: &mut [f64])
+// The local Moran of each local numerator of a list, by its bits.
+pub(super) fn put_figures(spread: i64, numerators: &[i64], figures: &mut [u64])
     requires { ⌜ Numerators spread (now numerators) ⌝ }
     requires { ⌜ length (now figures) ≡ length (now numerators) ⌝ }
     ensures { λ _. ⌜ now (figures .exit) ≡ local-figures spread (now (numerators .entry)) ⌝ }
@@ -96,7 +96,7 @@ pub(super) fn put_figures(spread: i64, numerators: &[i64], figures: &mut [f64])
     while i < numerators.len() {
         let numerator = numerators[i];
         let figure = ratio(numerator, spread);
-        figures[i] = figure;
+        figures[i] = f64::to_bits(figure);
         i += 1;
     }
 }

@@ -2,7 +2,7 @@
 use mathlib.Core.Path.{_≡_, ap, _∙_}
 use Prim.Native.Nat.{ℕ, _-_, _≤_, _<_}
 use native.Mathlib.Omega.{arith}
-use lib.Ieee.{Float, binary64, ofBits}
+use lib.Ieee.{binary64, toBits}
 use lib.IntN.{ℤ}
 use lib.ListN.{length, getD, length-set}
 use mir.Syntax.{w64}
@@ -12,7 +12,8 @@ use Rattle.whole.specs.Rules.{ratio-limit}
 use Rattle.whole.specs.Table.{at}
 use Rattle.whole.proofs.Machine.{val, rd, r64}
 use Rattle.whole.proofs.Table.{is-table, stored}
-use Rattle.nearest.specs.Answers.{nearest-float}
+use Rattle.nearest.specs.Answers.{nearest-float, nearest-bits}
+use Rattle.nearest.proofs.Theorems.{not-nan}
 use Rattle.coefficients.specs.Coefficients.{local-figures}
 use Rattle.coefficients.specs.Steps.{Ratio}
 use Rattle.coefficients.proofs.Ratios.{ratio-same}
@@ -23,7 +24,7 @@ abbrev Inv-loop : tie.InvT-loop
 Inv-loop spread numerators figures₀ i₀ figures i =
     (i ≤ length numerators)
     × ((length figures ≡ length numerators)
-    × ((k : ℕ) → k < i → getD figures k (ofBits binary64 0) ≡ nearest-float (at numerators k) (toZ w64 spread)))
+    × ((k : ℕ) → k < i → getD figures k 0 ≡ nearest-bits (at numerators k) (toZ w64 spread)))
 
 abbrev μ-loop : tie.MeasureT-loop
 μ-loop spread numerators figures₀ i₀ figures i = length numerators - i
@@ -57,6 +58,15 @@ module _ (c : tie.After-numerator Inv-loop μ-loop) where
 ratio-requires : tie.Need-ratio-requires Inv-loop μ-loop
 ratio-requires c κs = ratio-same (numerator-read c) (spread-read c) (ratio c)
 
+-- the nearest float is no NaN, so that its bits are its own
+figure-is :
+    (c : tie.After-ratio Inv-loop μ-loop) →
+    c .ratio .result ≡ nearest-float (numerator (c .before)) (r64 (a (c .before) .args .spread))
+figure-is c = c .ratio .ensures ∙ ap (λ v. nearest-float v (r64 (a (c .before) .args .spread))) (numerator-read (c .before))
+
+float-to-bits-figures : tie.Need-float-to-bits-figures Inv-loop μ-loop
+float-to-bits-figures c = rw (figure-is c) (not-nan (numerator (c .before)) (r64 (a (c .before) .args .spread)))
+
 mul-figures : tie.Need-mul-figures Inv-loop μ-loop
 mul-figures c = let a = c .before .before .before .before .before in omega (arith, c .before .before .loop-test .taken, a .pre .0 .few)
 
@@ -73,13 +83,12 @@ loop-again : tie.Need-loop-again Inv-loop μ-loop
 loop-again c =
     let b = c .before .before .before .loop in
     let s = a (c .before) in
-    let wanted : ℕ → Float = λ k. nearest-float (at (s .args .numerators .now) k) (r64 (s .args .spread)) in
-    let figure = c .ratio .ensures ∙ ap (λ v. nearest-float v (r64 (s .args .spread))) (numerator-read (c .before)) in
+    let wanted : ℕ → ℕ = λ k. nearest-bits (at (s .args .numerators .now) k) (r64 (s .args .spread)) in
     let place : b .i < length (b .figures) = omega (arith, c .before .before .loop-test .taken, b .inv .1 .0) in (
       omega (arith, c .before .before .loop-test .taken),
       (
         simp length-set (b .inv .1 .0),
-        stored wanted (ofBits binary64 0) _ (b .figures) (b .i) place figure (b .inv .1 .1),
+        stored wanted 0 _ (b .figures) (b .i) place (ap (toBits binary64) (figure-is c)) (b .inv .1 .1),
       ),
     )
 
@@ -93,8 +102,8 @@ returns c =
     let s = c .before .before .before in
     let spread = toZ-ofZ w64 (s .args .spread) (s .fits .spread) in
     let l = s .args .numerators .now in
-    is-table (λ k. nearest-float (at l k) (s .args .spread)) (length l) (ofBits binary64 0) (b .figures) (b .inv .1 .0)
-    (λ k p. b .inv .1 .1 k (omega arith) ∙ ap (nearest-float (at l k)) spread)
+    is-table (λ k. nearest-bits (at l k) (s .args .spread)) (length l) 0 (b .figures) (b .inv .1 .0)
+    (λ k p. b .inv .1 .1 k (omega arith) ∙ ap (nearest-bits (at l k)) spread)
 
 pub put-figures-spec : {M : Type 1} → statement M
 put-figures-spec =
@@ -106,6 +115,7 @@ put-figures-spec =
     mul-numerator
     shared-slice-copy-out-numerator
     ratio-requires
+    float-to-bits-figures
     mul-figures
     slice-write-figures
     add-i

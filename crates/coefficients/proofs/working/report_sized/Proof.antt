@@ -1,24 +1,21 @@
 -- `report_sized` meets its contract: the class account judges and works, then the figures are formed. Assumes nothing.
-use mathlib.Core.Path.{_≡_, refl, sym, ap, _∙_}
+use mathlib.Core.Path.{_≡_, sym, ap, _∙_}
 use mathlib.Core.List.{List, []}
 use Prim.Native.Nat.{ℕ, _*_, _≤_}
 use native.Mathlib.Omega.{arith}
-use lib.Ieee.{Float}
 use lib.IntN.{ℤ}
-use lib.ListN.{length, take}
-use lib.Seq.{length-take-le}
-use Rattle.whole.specs.Table.{at}
-use Rattle.whole.proofs.Lists.{front, front-le, front-length}
+use lib.ListN.{length}
 use Rattle.whole.proofs.Rules.{worked-when-taken, kept-when-refused}
-use Rattle.account.specs.Measures.{spread-of}
+use Rattle.account.specs.Answers.{five, job-figures, job-locals}
 use Rattle.account.specs.Classes.{class-sums, class-locals, class-refusal}
-use Rattle.account.proofs.ClassTheorems.{class-sums-length, class-locals-length}
-use Rattle.coefficients.specs.Coefficients.{local-figures}
+use Rattle.account.specs.Classes.{class-account-rows, class-account-locals, class-account-own}
+use Rattle.account.specs.declared.Answer.the-variants.{Accounted}
+use Rattle.account.specs.declared.Sums.{Sums}
+use Rattle.account.proofs.Theorems.{job-locals-length}
+use Rattle.account.proofs.ClassAnswered.{class-refused, class-accounted}
+use Rattle.account.proofs.ClassTheorems.{class-locals-length}
 use Rattle.coefficients.specs.Steps.{Reportable, rest-refusal}
-use Rattle.coefficients.specs.declared.Answer.the-variants.{Reported}
-use Rattle.coefficients.specs.declared.Pair.{Pair}
-use Rattle.coefficients.specs.declared.Report.{Report}
-use Rattle.coefficients.proofs.Answered.{refused, reported, pairs-are, pair-is, locals-are, account-number}
+use Rattle.coefficients.proofs.Answered.{refused, reported, account-number}
 use Rattle.coefficients.proofs.Job.{reportable}
 use borrow.Author.Needs.{needs}
 use Rattle.coefficients.proofs.working.report_sized.Statement.{statement}
@@ -26,41 +23,15 @@ use Rattle.coefficients.proofs.working.report_sized.Tie as tie
 
 -- the same by other names
 reportable-same :
-    {n : ℕ} {values rows rows′ numerators numerators′ : List ℤ} → rows′ ≡ rows → numerators′ ≡ numerators →
-    Reportable n values rows numerators → Reportable n values rows′ numerators′
-reportable-same e f r = rw (e, f) r
+    {n : ℕ} {sums : Sums} {rows rows′ of-classes of-classes′ locals locals′ : List ℤ} →
+    rows′ ≡ rows → of-classes′ ≡ of-classes → locals′ ≡ locals →
+    Reportable n sums rows of-classes locals → Reportable n sums rows′ of-classes′ locals′
+reportable-same e f g r = rw (e, f, g) r
 
-report-same :
-    {pair pair′ : Pair} {pairs pairs′ : List Pair} → pair ≡ pair′ → pairs ≡ pairs′ →
-    _≡_ {A = Report} (record { whole = Reported pair; classes = pairs }) (record { whole = Reported pair′; classes = pairs′ })
-report-same e f = rw (e, f) refl
-
-mul-places : tie.Need-mul-places
-mul-places c = search needs
-
-slice-aggregate-class-account : tie.Need-slice-aggregate-class-account
-slice-aggregate-class-account c = search needs
-
-array-borrow-prefix-numerators : tie.Need-array-borrow-prefix-numerators
-array-borrow-prefix-numerators c = search needs
-
--- the array has room for the local numerators of nine classes
-room : (s : tie.Start) → 9 * s .args .n ≤ 576
-room s = omega (arith, s .pre .0)
-
-slice-aggregate-class-account-2 : tie.Need-slice-aggregate-class-account-2
-slice-aggregate-class-account-2 c = sym (length-take-le _ _ (room (c .before .before .before .before .before .before)))
-
-class-account-requires : tie.Need-class-account-requires
-class-account-requires c κs = tt
-
-refused-requires : tie.Need-refused-requires
-refused-requires c κs = tt
-
--- what the class account found, and what it left where it refused nothing
+-- what the class account answered and left
 module _ (c : tie.After-class-account) where
   abbrev s : tie.Start
-  s = c .before .before .before .before .before .before .before
+  s = c .before .before .before .before .before .before .before .before
 
   abbrev n : ℕ
   n = s .args .n
@@ -74,65 +45,90 @@ module _ (c : tie.After-class-account) where
   abbrev classes : List ℕ
   classes = s .args .classes .now
 
-  abbrev wanted : ℕ
-  wanted = length (s .args .parts .now)
+  abbrev rows : List ℤ
+  rows = s .args .rows .now
 
-  abbrev numerators : List ℤ
-  numerators = class-locals n values weights classes
+  abbrev of-classes : List ℤ
+  of-classes = s .args .class-locals .now
 
-  as-many : length numerators ≡ 9 * n
-  as-many = class-locals-length n values weights classes
+  abbrev own : List ℤ
+  own = s .args .locals .now
 
-  found : c .class-account .result ≡ rest-refusal n values weights classes
-  found =
-      c .class-account .ensures .0
-      ∙ ap (class-refusal 27 n values weights classes 27) (length-take-le _ _ (room s))
-      ∙ account-number n values weights classes
+  -- its number is that of what is left to judge
+  rest-is : class-refusal n values weights classes rows of-classes own ≡ rest-refusal n values weights classes
+  rest-is =
+      account-number n values weights classes rows of-classes own (s .pre .rows-fit) (s .pre .class-locals-fit) (s .pre .locals-fit)
 
-  module _ (z : c .class-account .result ≡ 0) where
+  -- where there is one, the lists are as they were
+  module _ (some : class-refusal n values weights classes rows of-classes own ≡ 0 → ⊥) where
+    rows-kept : c .class-account .last .1 .1 .1 .1 .0 ≡ rows
+    unfolding class-account-rows
+    rows-kept = c .class-account .ensures .1 .1 .0 ∙ kept-when-refused _ _ _ some
+
+    locals-kept : c .class-account .last .1 .1 .1 .1 .1 .1 .0 ≡ own
+    unfolding class-account-own
+    locals-kept = c .class-account .ensures .1 .1 .1 .1 ∙ kept-when-refused _ _ _ some
+
+  -- where there is none, they hold the job's
+  module _ (none : class-refusal n values weights classes rows of-classes own ≡ 0) where
     taken : rest-refusal n values weights classes ≡ 0
-    taken = sym found ∙ z
+    taken = sym rest-is ∙ none
 
     rows-left : c .class-account .last .1 .1 .1 .1 .0 ≡ class-sums n values weights classes
-    rows-left = c .class-account .ensures .1 .0 ∙ worked-when-taken _ _ _ (sym (c .class-account .ensures .0) ∙ z)
+    unfolding class-account-rows
+    rows-left = c .class-account .ensures .1 .1 .0 ∙ worked-when-taken _ _ _ none
 
-    numerators-left : c .class-account .last .1 .1 .1 .1 .1 .0 ≡ numerators
-    numerators-left = c .class-account .ensures .1 .1 ∙ worked-when-taken _ _ _ (sym (c .class-account .ensures .0) ∙ z)
+    numerators-left : c .class-account .last .1 .1 .1 .1 .1 .0 ≡ class-locals n values weights classes
+    unfolding class-account-locals
+    numerators-left = c .class-account .ensures .1 .1 .1 .0 ∙ worked-when-taken _ _ _ none
 
-returns : tie.Need-returns
-returns c =
-    let t = c .before in
-    let b = t .before .before .before in
-    let some : rest-refusal (n b) (values b) (weights b) (classes b) ≡ 0 → ⊥ = λ z. t .if1 .taken (found b ∙ z) in
-    (refused _ _ _ _ _ _ _ _ (c .refused .ensures) (found b) (t .if1 .taken), sym (kept-when-refused _ _ _ some))
+    locals-left : c .class-account .last .1 .1 .1 .1 .1 .1 .0 ≡ job-locals n values weights
+    unfolding class-account-own
+    locals-left = c .class-account .ensures .1 .1 .1 .1 ∙ worked-when-taken _ _ _ none
 
-slice-aggregate-report-job : tie.Need-slice-aggregate-report-job
-slice-aggregate-report-job c =
-    let e = c .before in
-    let b = e .before .before .before in
-    sym (ap length (rows-left b (e .if1 .left)) ∙ class-sums-length (n b) (values b) (weights b) (classes b))
+-- the two arms
+abbrev answered : tie.After-locals → tie.After-class-account
+answered c = c .before .before .before
 
-array-share-prefix-numerators : tie.Need-array-share-prefix-numerators
-array-share-prefix-numerators c =
-    let e = c .before in
-    let b = e .before .before .before in
-    front-le {A = ℤ} _ _ (numerators b) _ (numerators-left b (e .if1 .left)) (as-many b)
+abbrev in-refused : tie.After-number → tie.After-class-account
+in-refused c = answered (c .before .before)
 
-slice-aggregate-report-job-2 : tie.Need-slice-aggregate-report-job-2
-slice-aggregate-report-job-2 c =
-    let e = c .before .before in
-    let b = e .before .before .before in
-    front-length {A = ℤ} _ _ (numerators b) _ (numerators-left b (e .if1 .left)) (as-many b)
+abbrev in-accounted : tie.After-sums → tie.After-class-account
+in-accounted c = answered (c .before .before)
+
+class-account-requires : tie.Need-class-account-requires
+class-account-requires c κs = tt
+
+enum-known-number : tie.Need-enum-known-number
+enum-known-number c = search needs
+
+refused-requires : tie.Need-refused-requires
+refused-requires c κs = tt
+
+enum-known-sums : tie.Need-enum-known-sums
+enum-known-sums c = search needs
+
+-- the sums, where the answer has them
+sums-known :
+    (b : tie.After-class-account) (sums : Sums) → b .class-account .result ≡ Accounted sums →
+    (class-refusal (n b) (values b) (weights b) (classes b) (rows b) (of-classes b) (own b) ≡ 0)
+    × (five sums ≡ job-figures (n b) (values b) (weights b))
+sums-known b sums e =
+    class-accounted (n b) (values b) (weights b) (classes b) (rows b) (of-classes b) (own b) _ (b .class-account .ensures .0)
+    (b .class-account .ensures .1 .0) sums e
 
 report-job-requires : tie.Need-report-job-requires
 report-job-requires c κs =
-    let e = c .before .before .before .before in
-    let b = e .before .before .before in
-    let z = e .if1 .left in
-    let held = front {A = ℤ} _ _ (numerators b) _ (numerators-left b z) (as-many b) in
-    let work = reportable (n b) (values b) (weights b) (classes b) [] (taken b z) in (
-      reportable-same (rows-left b z) held work,
-      (s b .pre .1 .0, omega (arith, ap length held, as-many b, s b .pre .1 .1)),
+    let a = c .before .before .before .before .before .before in
+    let b = in-accounted a in
+    let k = sums-known b _ (a .sums .given .1) in
+    let z = k .0 in
+    let job = reportable (n b) (values b) (weights b) (classes b) [] (taken b z) _ (k .1) in (
+      reportable-same (rows-left b z) (numerators-left b z) (locals-left b z) job,
+      (
+        s b .pre .figures-fit ∙ sym (ap length (locals-left b z) ∙ job-locals-length (n b) (values b) (weights b)),
+        omega (arith, ap length (numerators-left b z), class-locals-length (n b) (values b) (weights b) (classes b), s b .pre .parts-few),
+      ),
     )
 
 same-length : tie.Need-same-length
@@ -141,40 +137,61 @@ same-length c = search needs
 same-length-2 : tie.Need-same-length-2
 same-length-2 c = search needs
 
+same-length-3 : tie.Need-same-length-3
+same-length-3 c = search needs
+
+returns : tie.Need-returns
+returns c =
+    let a = c .before .before in
+    let b = in-refused a in
+    let k =
+    class-refused (n b) (values b) (weights b) (classes b) (rows b) (of-classes b) (own b) _ (b .class-account .ensures .0)
+    (b .class-account .ensures .1 .0) _ (a .number .given .1) in
+    let some : class-refusal (n b) (values b) (weights b) (classes b) (rows b) (of-classes b) (own b) ≡ 0 → ⊥ = λ z. k .1 (k .0 ∙ z) in
+    refused _ _ _ _ _ _ _ _ _ _ _ _ _ (c .refused .ensures) (k .0 ∙ rest-is b) (k .1) (rows-kept b some) (locals-kept b some)
+
+same-length-4 : tie.Need-same-length-4
+same-length-4 c = search needs
+
+same-length-5 : tie.Need-same-length-5
+same-length-5 c = search needs
+
+same-length-6 : tie.Need-same-length-6
+same-length-6 c = search needs
+
+same-length-7 : tie.Need-same-length-7
+same-length-7 c = search needs
+
+same-length-8 : tie.Need-same-length-8
+same-length-8 c = search needs
+
 returns-2 : tie.Need-returns-2
 returns-2 c =
     let done = c .before .before .before .before in
-    let e = done .before .before .before .before .before in
-    let b = e .before .before .before in
-    let z = e .if1 .left in
+    let a = done .before .before .before .before .before .before .before in
+    let b = in-accounted a in
+    let k = sums-known b _ (a .sums .given .1) in
+    let z = k .0 in
     let said = done .report-job .ensures in
-    let held = front {A = ℤ} _ _ (numerators b) _ (numerators-left b z) (as-many b) in
-    let worked : List ℤ → List Float = λ l. local-figures (spread-of (at (values b)) (n b)) l in
-    let rows-are = rows-left b z in (
-      reported _ _ _ _ _ _ _ _ (taken b z)
-          (said .0
-          ∙ report-same
-          (pair-is (n b) (values b) (weights b) (classes b) _ rows-are _ held (taken b z))
-          (pairs-are (n b) (values b) (weights b) (classes b) _ rows-are))
-          (said .1 .0 ∙ ap worked (locals-are (n b) (values b) (weights b) (classes b) _ rows-are _ held (taken b z))),
-      said .1 .1 ∙ ap (λ l. worked (take (wanted b) l)) held ∙ sym (worked-when-taken _ _ _ (taken b z)),
-    )
+    reported _ _ _ _ _ _ _ _ _ _ _ _ _ _ _ _ (taken b z) (k .1) (rows-left b z) (numerators-left b z) (locals-left b z) (said .0)
+    (said .1 .0) (said .1 .1)
 
 pub report-sized-spec : {M : Type 1} → statement M
 report-sized-spec =
     tie.close
     (tie.spec
-    mul-places
-    slice-aggregate-class-account
-    array-borrow-prefix-numerators
-    slice-aggregate-class-account-2
     class-account-requires
+    enum-known-number
     refused-requires
-    returns
-    slice-aggregate-report-job
-    array-share-prefix-numerators
-    slice-aggregate-report-job-2
+    enum-known-sums
     report-job-requires
     same-length
     same-length-2
+    same-length-3
+    returns
+    same-length-4
+    same-length-5
+    same-length-6
+    same-length-7
+    same-length-8
     returns-2)
