@@ -1,0 +1,3 @@
+-- What a buyer must believe of text in a page.
+pub mod Lines
+pub mod Pages
