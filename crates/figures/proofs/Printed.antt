@@ -22,7 +22,8 @@ use Rattle.coefficients.specs.Coefficients as coefficients
 use Rattle.coefficients.specs.Coefficients.{pair-of, class-pair}
 use Rattle.image.specs.Image.{job-of}
 use Rattle.image.proofs.Sample.{report-job, report-image, report-accepted, report-read}
-use Rattle.report.specs.Lines.{numbers, bits, coefficient}
+use Rattle.pages.specs.Lines.{numbers, bits}
+use Rattle.report.specs.Lines.{coefficient}
 use Rattle.report.specs.Text.{
   job-lines,
   local-line,
@@ -33,6 +34,7 @@ use Rattle.report.specs.Text.{
   class-lines,
   rank-line,
   job-text,
+  image-text,
   refusal-line,
   report-text,
 }
@@ -47,7 +49,7 @@ unfolding job-text job-lines local-lines local-line pair-lines pair-line class-l
 computed = refl
 
 pub report-right : report-text report-image ≡ printed worked-report
-unfolding report-text two-at
+unfolding report-text image-text two-at
 report-right =
     ap (λ refusal. unless-refused refusal (job-text 4 (job-of report-image)) (refusal-line refusal)) report-accepted
     ∙ ap (job-text 4) report-read

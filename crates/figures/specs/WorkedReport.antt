@@ -3,7 +3,7 @@ use mathlib.Core.List.{List, [], _∷_, _++_}
 use Prim.Native.Nat.{ℕ}
 use Prim.Native.String.{String}
 use Rattle.whole.specs.Table.{each}
-use Rattle.report.specs.Lines.{ascii}
+use Rattle.pages.specs.Lines.{ascii}
 
 -- lines of text, each ended by a line feed
 abbrev pub printed : List String → List ℕ

@@ -1,25 +1,21 @@
 -- The classes of pairs: class 0 everywhere, and those of the bands where there are bands. Assumes nothing.
-use mathlib.Core.Path.{_≡_, refl, ap, _∙_}
+use mathlib.Core.Path.{_≡_, ap, _∙_}
 use mathlib.Core.Bool.{false}
-use mathlib.Core.List.{List, [], _∷_}
+use mathlib.Core.List.{List}
 use Prim.Native.Nat.{ℕ, _*_}
 use native.Mathlib.Omega.{arith}
-use borrow.Author.Tests.{eq-eqb}
 use lib.IntN.{ℤ}
 use lib.ListN.{length}
-use Rattle.whole.specs.Rules.{unless-refused}
 use Rattle.whole.specs.Search.{any-above}
 use Rattle.whole.specs.Table.{table}
-use Rattle.whole.proofs.Rules.{worked-when-taken}
 use Rattle.whole.proofs.Search.{all-within}
 use Rattle.whole.proofs.Table.{table-length, table-held}
 use Rattle.whole.proofs.TableRows.{rows-length}
-use Rattle.account.specs.Classes.{class-sums, class-refusal}
 use Rattle.places.specs.Bands.{pair-class, band-classes, band-refusal, bands-left}
 use Rattle.places.specs.Places.{squared-distance}
 use Rattle.places.proofs.Accepted.{bands-accepted}
 use Rattle.places.proofs.Theorems.{bands-never-9, classes-left}
-use Rattle.report.specs.Steps.{Sound, Bandable, Low, Classed}
+use Rattle.report.specs.Steps.{Bandable, Low, Classed}
 
 band-classes-length : (n : ℕ) (places : List ℤ) (bands : List ℕ) → length (band-classes n places bands) ≡ n * n
 unfolding band-classes
@@ -56,16 +52,3 @@ module _ (n : ℕ) (places : List ℤ) (bands lent before : List ℕ) (so : Band
       };
       made = λ g. made;
     }
-
--- ---- classes 0 to 8 of a sound job: the class account refuses nothing, and leaves the sums of the classes
-pub sums-left :
-    (n : ℕ) (values : List ℤ) (weights classes : List ℕ) (rows room : ℕ) (lent left : List ℤ) → Sound n values weights → Low n classes →
-    rows ≡ 27 → room ≡ 9 * n →
-    left ≡ unless-refused (class-refusal 27 n values weights classes rows room) (class-sums n values weights classes) lent →
-    left ≡ class-sums n values weights classes
-unfolding class-refusal
-sums-left n values weights classes rows room lent left so low e f told =
-    told
-    ∙ worked-when-taken _ _ _
-    (so .classed classes ((rows, 27) ∷ (room, 9 * n) ∷ []) (low .classes-fit) (low .low)
-    (rw (eq-eqb rows 27 e, eq-eqb room (9 * n) f) refl))

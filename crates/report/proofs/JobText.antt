@@ -6,40 +6,38 @@ use Prim.Native.Nat.{ℕ, suc, _<_}
 use native.Mathlib.Omega.{arith}
 use borrow.Author.Tests.{eq-eqb, ne-eqb}
 use lib.Dec.{eqb}
-use lib.Ieee.{Float}
 use lib.IntN.{ℤ, pos, natAbs}
 use lib.ListN.{length, getD}
-use mir.Syntax.{w64}
 use Rattle.whole.specs.Integer.{is-zero}
-use Rattle.whole.specs.Rules.{ratio-limit}
 use Rattle.whole.specs.Table.{table, at, pair-at, each}
-use Rattle.whole.proofs.Machine.{back, r64}
 use Rattle.whole.proofs.Rules.{worked-when-taken}
 use Rattle.whole.proofs.Size.{one-some}
 use Rattle.whole.proofs.Stores.{each-same}
 use Rattle.whole.proofs.Table.{table-length, table-at}
-use Rattle.nearest.specs.Answers.{nearest-float}
-use Rattle.nearest.proofs.Theorems.{not-nan}
+use Rattle.nearest.specs.Answers.{nearest-bits}
+use Rattle.pages.specs.Lines.{line, numbers, bits}
 use Rattle.account.specs.Measures.{total-of, deviation-of, spread-of, weight-of, cross-of, squares-of}
 use Rattle.account.specs.Answers.{five, class-row, job-figures, job-locals}
+use Rattle.account.specs.Classes.{class-sums}
 use Rattle.account.specs.Refusals.{account-refusal}
 use Rattle.account.specs.declared.Sums.{Sums}
 use Rattle.account.proofs.Theorems.{accepted-limits, weight-one, spread-one, job-locals-length}
-use Rattle.hot_list.specs.HotList.{hot-list}
+use Rattle.hot_list.specs.HotList.{in-order, hot-list}
 use Rattle.hot_list.proofs.HotTheorems.{hot-list-length, hot-list-each}
 use Rattle.coefficients.specs.Coefficients.{pair-of, job-pair, class-pair, local-figures}
 use Rattle.coefficients.specs.Coefficients as coefficients
-use Rattle.coefficients.specs.FloatReport.{pair-in, no-pair, plain-refusal, plain-whole, plain-classes, plain-figures}
+use Rattle.coefficients.specs.FloatReport.{sums-in, pair-in, no-pair, plain-refusal, plain-sums, plain-whole, plain-classes}
+use Rattle.coefficients.specs.FloatReport.{plain-rows, plain-locals, plain-figures}
 use Rattle.coefficients.specs.declared.Answer.{Answer}
 use Rattle.coefficients.specs.declared.Answer.the-variants.{Refused, Reported}
 use Rattle.coefficients.specs.declared.Pair.{Pair}
 use Rattle.coefficients.specs.declared.Report.{Report}
-use Rattle.report.specs.Lines.{line, numbers, bits, coefficient}
+use Rattle.coefficients.specs.declared.Whole.{Whole}
+use Rattle.report.specs.Lines.{coefficient}
 use Rattle.report.specs.Text.{job-lines, local-line, local-lines, pair-lines, rank-line, class-line, class-lines}
 use Rattle.report.specs.Text.{numbered, where-given, job-text}
-use Rattle.report.specs.Steps.{float-at, PrintablePair, Within, Listed, Sound, Low, Classed, lists}
+use Rattle.report.specs.Steps.{Within, Sound, Low, Classed, lists}
 use Rattle.report.specs.Steps.{sum-lines, ratio-lines, zone-line}
-use Rattle.report.proofs.Readable.{pair-printable}
 
 -- ---- the zones in hot-list order
 module _ (n : ℕ) (values : List ℤ) (weights : List ℕ) where
@@ -49,52 +47,36 @@ module _ (n : ℕ) (values : List ℤ) (weights : List ℕ) where
   abbrev locals : List ℤ
   locals = job-locals n values weights
 
-  abbrev figures : List Float
+  abbrev figures : List ℕ
   figures = local-figures M locals
 
-  figures-length : length figures ≡ length locals
+  pub figures-length : length figures ≡ length locals
   unfolding local-figures
-  figures-length = table-length (λ i. nearest-float (at locals i) M) (length locals)
+  figures-length = table-length (λ i. nearest-bits (at locals i) M) (length locals)
 
-  figure-at : (i : ℕ) → i < length locals → float-at figures i ≡ nearest-float (at locals i) M
+  figure-at : (i : ℕ) → i < length locals → getD figures i 0 ≡ nearest-bits (at locals i) M
   unfolding local-figures
-  figure-at i h = table-at (λ i. nearest-float (at locals i) M) (length locals) i (nearest-float (pos 0) (pos 1)) h
+  figure-at i h = table-at (λ i. nearest-bits (at locals i) M) (length locals) i 0 h
+
+  one-zone : (zone : ℕ) → zone < length locals → zone-line locals figures M zone ≡ local-line n values weights zone
+  unfolding zone-line local-line
+  one-zone zone h = ap (λ x. line "local" (numbers (pos zone ∷ at locals zone ∷ M ∷ []) ++ bits x)) (figure-at zone h)
 
   below : (k : ℕ) → k < length (hot-list n values weights) → getD (hot-list n values weights) k 0 < length locals
   below k h =
       let into = hot-list-each n values weights .into k (omega (arith, hot-list-length n values weights)) in
       omega (arith, job-locals-length n values weights)
 
-  all-listed : Listed (hot-list n values weights) locals figures
-  all-listed = record {
-    there = below;
-    as-many = figures-length;
-    readable = λ k h. rw (figure-at k (omega (arith, figures-length))) (not-nan (at locals k) M);
-  }
-
-  one-zone : (zone : ℕ) → zone < length locals → zone-line locals figures M zone ≡ local-line n values weights zone
-  unfolding zone-line local-line coefficient
-  one-zone zone h = ap (λ x. line "local" (numbers (pos zone ∷ at locals zone ∷ M ∷ []) ++ bits x)) (figure-at zone h)
-
-  all-lines : each (zone-line locals figures M) (hot-list n values weights) ≡ local-lines n values weights
-  unfolding local-lines
+  all-lines : each (zone-line locals figures M) (in-order locals) ≡ local-lines n values weights
+  unfolding local-lines hot-list
   all-lines =
       each-same (zone-line locals figures M) (local-line n values weights) 0 (hot-list n values weights) (λ k h. one-zone _ (below k h))
 
   -- as the lists and the spread that were handed out hold them
-  module _ {zones : List ℕ} {held : List ℤ} {floats : List Float}
-      (e : zones ≡ hot-list n values weights) (g : held ≡ locals) (h : floats ≡ figures) where
-    pub listed : Listed zones held floats
-    listed = rw (e, g, h) all-listed
-
-    pub zones-are : {spread : ℤ} → spread ≡ M → each (zone-line held floats spread) zones ≡ local-lines n values weights
-    zones-are f = rw (e, f, g, h) all-lines
-
--- ---- the pair of a job can be printed
-pub job-printable :
-    (n : ℕ) (values : List ℤ) (weights : List ℕ) (pair : Pair) → pair ≡ job-pair n values weights → PrintablePair pair
-unfolding job-pair
-job-printable n values weights pair e = rw e (pair-printable n (spread-of (at values) n) (class-row (pair-at weights n) (at values) n))
+  pub zones-are :
+      {held : List ℤ} {floats : List ℕ} {spread : ℤ} → held ≡ locals → floats ≡ figures → spread ≡ M →
+      each (zone-line held floats spread) (in-order held) ≡ local-lines n values weights
+  zones-are g h f = rw (f, g, h) all-lines
 
 -- ---- the sums that the account answers
 module _ (n : ℕ) (values : List ℤ) (weights : List ℕ) (sound : Sound n values weights) where
@@ -113,7 +95,7 @@ module _ (n : ℕ) (values : List ℤ) (weights : List ℕ) (sound : Sound n val
     unfolding job-figures
     total-is = ap (λ l. at l 0) e
 
-    spread-is : sums .spread ≡ spread-of (at values) n
+    pub spread-is : sums .spread ≡ spread-of (at values) n
     unfolding job-figures
     spread-is = ap (λ l. at l 1) e
 
@@ -140,12 +122,6 @@ module _ (n : ℕ) (values : List ℤ) (weights : List ℕ) (sound : Sound n val
           geary-divisor = rw (weight-is, spread-is) (limits .geary-divisor);
         }
 
-    -- and M comes back from a machine word as it was
-    pub spread-read : r64 (sums .spread) ≡ spread-of (at values) n
-    spread-read =
-        let limits = accepted-limits n values weights (job-locals n values weights) taken in
-        ap r64 spread-is ∙ back w64 (spread-of (at values) n) ratio-limit (limits .local-divisor) tt
-
     with-pair : sum-lines n sums ++ ratio-lines n sums (job-pair n values weights) ≡ job-lines n values weights
     unfolding sum-lines ratio-lines job-lines job-pair pair-of class-row coefficient coefficients.coefficient
     with-pair =
@@ -161,40 +137,56 @@ module _ (n : ℕ) (values : List ℤ) (weights : List ℕ) (sound : Sound n val
 
 -- ---- the plain report refuses nothing
 
--- it answers the pair of the job and those of the classes, and leaves the local figures
-pub record Reports (n : ℕ) (values : List ℤ) (weights classes : List ℕ) (report : Report) (left : List Float) : Type 0 where
+-- it answers the sums and the pair of the job and the pairs of the classes, and leaves the rows, the local numerators and figures
+pub record Reports (n : ℕ) (values : List ℤ) (weights classes : List ℕ) (report : Report) (rows locals : List ℤ) (figures : List ℕ)
+    : Type 0 where
+  pub sums : sums-in (report .whole) ≡ job-figures n values weights
   pub of-job : pair-in (report .whole) ≡ job-pair n values weights ∷ []
   pub of-classes : report .classes ≡ table (class-pair n values weights classes) 9
-  pub of-zones : left ≡ local-figures (spread-of (at values) n) (job-locals n values weights)
+  pub in-rows : rows ≡ class-sums n values weights classes
+  pub in-locals : locals ≡ job-locals n values weights
+  pub of-zones : figures ≡ local-figures (spread-of (at values) n) (job-locals n values weights)
 
-module _ {n : ℕ} {values : List ℤ} {weights classes : List ℕ} (sound : Sound n values weights) (low : Low n classes) where
-  plain-taken : (figures : List Float) → length figures ≡ n → plain-refusal n values weights classes figures ≡ 0
+module _ {n : ℕ} {values : List ℤ} {weights classes : List ℕ} (sound : Sound n values weights) (low : Low n classes)
+    (rows locals : List ℤ) (figures : List ℕ) (rows-fit : length rows ≡ 27) (locals-fit : length locals ≡ n)
+    (figures-fit : length figures ≡ n) where
+  plain-taken : plain-refusal n values weights classes rows locals figures ≡ 0
   unfolding plain-refusal
-  plain-taken figures e =
-      sound .classed classes ((length figures, n) ∷ []) (low .classes-fit) (low .low) (rw (eq-eqb (length figures) n e) refl)
+  plain-taken =
+      sound .classed classes ((length rows, 27) ∷ (length locals, n) ∷ (length figures, n) ∷ []) (low .classes-fit) (low .low)
+      (rw (eq-eqb (length rows) 27 rows-fit, eq-eqb (length locals) n locals-fit, eq-eqb (length figures) n figures-fit) refl)
 
   pub reports :
-      (figures : List Float) {report : Report} {left : List Float} → length figures ≡ n →
-      pair-in (report .whole) ≡ plain-whole n values weights classes figures →
-      report .classes ≡ plain-classes n values weights classes figures →
-      left ≡ plain-figures n values weights classes figures →
-      Reports n values weights classes report left
-  unfolding plain-whole plain-classes plain-figures
-  reports figures e whole pairs zones =
-      let z = plain-taken figures e in record {
-        of-job = whole ∙ worked-when-taken _ _ _ z;
-        of-classes = pairs ∙ worked-when-taken _ _ _ z;
-        of-zones = zones ∙ worked-when-taken _ _ _ z;
-      }
+      {report : Report} {in-rows in-locals : List ℤ} {in-figures : List ℕ} →
+      sums-in (report .whole) ≡ plain-sums n values weights classes rows locals figures →
+      pair-in (report .whole) ≡ plain-whole n values weights classes rows locals figures →
+      report .classes ≡ plain-classes n values weights classes rows locals figures →
+      in-rows ≡ plain-rows n values weights classes rows locals figures →
+      in-locals ≡ plain-locals n values weights classes rows locals figures →
+      in-figures ≡ plain-figures n values weights classes rows locals figures →
+      Reports n values weights classes report in-rows in-locals in-figures
+  unfolding plain-sums plain-whole plain-classes plain-rows plain-locals plain-figures
+  reports sums whole pairs e f g = record {
+    sums = sums ∙ worked-when-taken _ _ _ plain-taken;
+    of-job = whole ∙ worked-when-taken _ _ _ plain-taken;
+    of-classes = pairs ∙ worked-when-taken _ _ _ plain-taken;
+    in-rows = e ∙ worked-when-taken _ _ _ plain-taken;
+    in-locals = f ∙ worked-when-taken _ _ _ plain-taken;
+    of-zones = g ∙ worked-when-taken _ _ _ plain-taken;
+  }
 
 -- an answer that has a pair is no refusal
 pub never-refused : {r : Answer} {pair : Pair} {k : ℕ} → pair-in r ≡ pair ∷ [] → r ≡ Refused k → ⊥
 unfolding pair-in
 never-refused e f = let z : _≡_ {A = ℕ} 0 1 = ap length (sym (ap pair-in f) ∙ e) in omega arith
 
-pub pair-is : {r : Answer} {pair other : Pair} → pair-in r ≡ other ∷ [] → r ≡ Reported pair → pair ≡ other
+pub pair-is : {r : Answer} {whole : Whole} {other : Pair} → pair-in r ≡ other ∷ [] → r ≡ Reported whole → whole .pair ≡ other
 unfolding pair-in
 pair-is e f = ap (λ l. getD l 0 no-pair) (sym (ap pair-in f) ∙ e)
+
+pub sums-are : {r : Answer} {whole : Whole} {list : List ℤ} → sums-in r ≡ list → r ≡ Reported whole → five (whole .sums) ≡ list
+unfolding sums-in
+sums-are e f = sym (ap sums-in f) ∙ e
 
 -- ---- the class lines, where there are bands
 pub class-lines-are :

@@ -1,10 +1,10 @@
 -- Laws of what is put into a page, and of the lines of a report.
 pub mod Puts
 pub mod LineLaws
-pub mod Readable
 pub mod Listed
 pub mod Classing
 pub mod JobText
 pub mod ReadJob
-pub mod Paged
+pub mod Printing
+pub mod FirstBytes
 pub mod Theorems

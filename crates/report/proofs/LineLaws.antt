@@ -5,7 +5,6 @@ use mathlib.Core.List.{List, [], _∷_, _++_}
 use Prim.Native.Nat.{ℕ, zero, suc, _+_, _*_, _-_, _^_, _≤_, _<_}
 use native.Mathlib.Omega.{arith}
 use borrow.Author.Needs.{sfits-of}
-use lib.Ieee.{Float}
 use lib.IntN.{ℤ, pos, negsuc, _*ℤ_}
 use lib.ListN.{length, getD}
 use lib.Signed.{mag, ltZ}
@@ -18,11 +17,11 @@ use Rattle.whole.proofs.Machine.{Is, rd, nat, r64}
 use Rattle.whole.proofs.Size.{one-some}
 use Rattle.account.specs.declared.Sums.{Sums}
 use Rattle.coefficients.specs.FloatReport.{no-pair}
-use Rattle.coefficients.specs.declared.Coefficient.the-variants.{Figure}
 use Rattle.coefficients.specs.declared.Pair.{Pair}
 use Rattle.coefficients.proofs.Ratios.{left-le, ordered-le}
-use Rattle.report.specs.Lines.{line, numbers, coefficient}
-use Rattle.report.specs.Steps.{Within, float-at, sum-lines, ratio-lines, zone-line, table-line, row-line}
+use Rattle.pages.specs.Lines.{line, numbers, bits}
+use Rattle.report.specs.Lines.{coefficient}
+use Rattle.report.specs.Steps.{Within, sum-lines, ratio-lines, zone-line, table-line, row-line}
 
 -- an item that is there, whatever stands for one that is not
 pub there : {A : Type 0} (l : List A) (k : ℕ) (d e : A) → k < length l → getD l k d ≡ getD l k e
@@ -119,9 +118,9 @@ module _ (n : ℕ) (sums : Sums) (reads : Read sums) where
 
 -- ---- the line of an item
 pub zone-text :
-    (locals : List ℤ) (figures : List Float) (spread : ℤ) (zone : ℕ) {zone′ numerator : ℤ} {figure : Float} → zone′ ≡ pos zone →
-    numerator ≡ at locals zone → figure ≡ float-at figures zone →
-    line "local" (numbers (zone′ ∷ numerator ∷ spread ∷ []) ++ coefficient (Figure figure)) ≡ zone-line locals figures spread zone
+    (locals : List ℤ) (figures : List ℕ) (spread : ℤ) (zone : ℕ) {zone′ numerator : ℤ} {figure : ℕ} → zone′ ≡ pos zone →
+    numerator ≡ at locals zone → figure ≡ getD figures zone 0 →
+    line "local" (numbers (zone′ ∷ numerator ∷ spread ∷ []) ++ bits figure) ≡ zone-line locals figures spread zone
 unfolding zone-line
 zone-text locals figures spread zone e1 e2 e3 = rw (e1, e2, e3) refl
 

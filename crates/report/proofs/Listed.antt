@@ -1,5 +1,5 @@
 -- Lines from what the calls answer are the lines of the text. Assumes nothing.
-use mathlib.Core.Path.{_≡_, refl, sym, ap, _∙_, subst}
+use mathlib.Core.Path.{_≡_, refl, ap, _∙_}
 use mathlib.Core.Bool.{cond}
 use mathlib.Core.List.{List, [], _∷_, _++_}
 use Prim.Native.Nat.{ℕ, suc, _+_, _*_, _≤_, _<_}
@@ -27,10 +27,10 @@ use Rattle.joins.proofs.Theorems.{join-table-at}
 use Rattle.coefficients.specs.Coefficients.{class-pair}
 use Rattle.coefficients.specs.FloatReport.{no-pair}
 use Rattle.coefficients.specs.declared.Pair.{Pair}
-use Rattle.report.specs.Lines.{line, numbers, coefficient}
+use Rattle.pages.specs.Lines.{line, numbers}
+use Rattle.report.specs.Lines.{coefficient}
 use Rattle.report.specs.Text.{numbered, whole, where-given, pair-line, pair-lines, class-line, rank-line}
-use Rattle.report.specs.Steps.{PrintablePair, PrintablePairs, table-line, row-line}
-use Rattle.report.proofs.Readable.{pair-printable}
+use Rattle.report.specs.Steps.{table-line, row-line}
 
 -- ---- lines that need a list
 module _ {A : Type 0} where
@@ -90,14 +90,6 @@ module _ (n : ℕ) (values : List ℤ) (weights classes : List ℕ) (pairs : Lis
       (λ k h. ap (λ (row : ClassRow). of-class k row (getD pairs k no-pair))
       (ap (λ (l : List ℤ). row-at l k) f ∙ class-sums-row n values weights classes k (omega arith))
       ∙ ap (of-class k _) (table-held (class-pair n values weights classes) 9 no-pair pairs e k (omega arith)))
-
-  -- the pair of each class can be printed
-  pub class-pairs-printable : PrintablePairs pairs
-  unfolding class-pair
-  class-pairs-printable k h =
-      let f = class-pair n values weights classes in
-      let few : k < 9 = omega (arith, ap length e, table-length f 9) in
-      subst PrintablePair (sym (table-held f 9 no-pair pairs e k few)) (pair-printable n _ _)
 
 -- ---- the rank line
 module _ (n : ℕ) (values : List ℤ) (weights shuffles : List ℕ) (counts : Counts)

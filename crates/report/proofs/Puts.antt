@@ -4,12 +4,16 @@ use mathlib.Core.List.{List, [], _∷_, _++_, append-assoc, append-nil}
 use Prim.Native.Nat.{ℕ, _+_, _*_, _≤_, _<_}
 use native.Mathlib.Nat.{mul-suc}
 use native.Mathlib.Omega.{arith}
+use lib.IntN.{ℤ}
 use lib.ListN.{length, getD, take, drop, length-append}
 use lib.Seq.{sets, length-sets, take-at}
 use Rattle.whole.specs.Table.{each, over}
 use Rattle.whole.proofs.Table.{table-length, table-at}
 use Rattle.whole.proofs.Stores.{Stored, stored-next, stored-over, front-next, front-all, each-none, each-both}
-use Rattle.report.specs.Steps.{Put}
+use Rattle.pages.specs.Lines.{numbers}
+use Rattle.pages.specs.Pages.{Puts}
+use Rattle.pages.proofs.Widths.{fitting}
+use Rattle.report.specs.Steps.{Put, Short}
 use Rattle.report.specs.Text.{numbered}
 
 module _ {old : List ℕ} {at : ℕ} where
@@ -42,6 +46,30 @@ module _ {old : List ℕ} {at : ℕ} where
       behind = omega (arith, put .behind, next .behind, length-append text further);
       few = omega (arith, put .few, next .few);
     }
+
+-- ---- what a call of `pages` has put, where there is room for it
+pub put-of :
+    {old new text : List ℕ} {at place : ℕ} (most : ℕ) → Puts old new at place text → length text ≤ most → at + most ≤ length old →
+    Put old new at place most text
+put-of most puts h room =
+    let end = fitting puts (omega (arith, h, room)) in
+    record { same = puts .same; behind = end; few = omega (arith, end, h) }
+
+-- a word and its numbers, and the line feed
+module _ (word : List ℕ) (list : List ℤ) (short : Short word list) (width : length (numbers list) ≤ 21 * length list) where
+  pub start-width : length (word ++ numbers list) ≤ 92
+  start-width = omega (arith, length-append word (numbers list), width, short .letters, short .items)
+
+  pub line-width : length (word ++ (numbers list ++ (10 ∷ []))) ≤ 96
+  line-width =
+      omega (
+        arith,
+        length-append word (numbers list ++ (10 ∷ [])),
+        length-append (numbers list) (10 ∷ []),
+        width,
+        short .letters,
+        short .items,
+      )
 
 -- the text of a line that is put in four parts
 pub line-parts : (word before after end : List ℕ) → ((word ++ before) ++ after) ++ end ≡ word ++ ((before ++ after) ++ end)

@@ -1,10 +1,10 @@
 -- What a read leaves in the buffers is a job that no call refuses, and the report of the image is its text. Assumes nothing.
 use mathlib.Core.Path.{_≡_, sym, ap, _∙_, subst}
 use mathlib.Core.Bool.{false}
-use mathlib.Core.List.{List}
-use Prim.Native.Nat.{ℕ, _*_}
+use mathlib.Core.List.{List, [], _∷_}
+use Prim.Native.Nat.{ℕ, _*_, _≤_}
 use native.Mathlib.Omega.{arith}
-use lib.ListN.{getD}
+use lib.ListN.{length, getD}
 use Rattle.whole.specs.Rules.{misfits}
 use Rattle.whole.proofs.Rules.{worked-when-taken, kept-when-refused}
 use Rattle.image.specs.Image.{Job, count, job-of, image-refusal}
@@ -14,14 +14,17 @@ use Rattle.image.specs.Writer.{lent-job}
 use Rattle.image.specs.declared.Given.{Given}
 use Rattle.image.proofs.Theorems.{taken-by-all, taken-with-classes, job-counted, job-lengths, job-limits, job-left, lengths-left}
 use Rattle.image.proofs.Theorems.{read-accepted, image-decides}
-use Rattle.reader.specs.Answers.{six, number-of, counts-of}
+use Rattle.reader.specs.Answers.{six, counts-of, number-of as reader-number-of}
 use Rattle.reader.specs.declared.Counts.{Counts}
 use Rattle.reader.specs.declared.Answer.{Answer}
 use Rattle.reader.specs.declared.Answer.the-variants.{Refused, Read}
 use Rattle.reader.proofs.Theorems.{read-answers, never-refused}
-use Rattle.report.specs.Text.{job-text, refusal-line, report-text}
+use Rattle.report.specs.Text.{job-text, image-text, number-of, length-in}
+use Rattle.report.specs.declared.Answer.the-variants as answer
+use Rattle.report.specs.declared.Answer.the-variants.{Printed}
+use Rattle.report.proofs.Puts.{put-over}
 use Rattle.image.proofs.Buffers.{Exact}
-use Rattle.report.specs.Steps.{SoundJob, Held, given-of}
+use Rattle.report.specs.Steps.{Put, Prints, SoundJob, Held, given-of}
 
 -- ---- an image that is read
 module _ (image : List ℕ) (lent : Buffers) (e : read-refusal image lent ≡ 0) where
@@ -38,7 +41,6 @@ module _ (image : List ℕ) (lent : Buffers) (e : read-refusal image lent ≡ 0)
           values-fit = long .values;
           weights-fit = long .weights;
           taken = all .account;
-          hot = all .hot-list;
           classed = taken-with-classes image lent e;
         };
         joined = λ f. all .join-table (λ none. f (long .categories ∙ none));
@@ -96,36 +98,22 @@ module _ (image : List ℕ) (lent : Buffers) (e : read-refusal image lent ≡ 0)
               (subst (λ (j : Job). SoundJob (count image) j) (sym job-same) sound);
         }
 
-    -- and its text is the report
-    text-same : job-text (counts .values) (lent-job (given-of counts) held) ≡ report-text image
-    unfolding report-text
-    text-same =
-        ap (λ n. job-text n (lent-job (given-of counts) held)) zones-same
-        ∙ ap (job-text (count image)) job-same
-        ∙ sym (worked-when-taken (image-refusal image) (job-text (count image) (job-of image)) (refusal-line (image-refusal image))
-        (read-accepted image lent e))
-
--- ---- an image that is refused
-refusal-same :
-    (image : List ℕ) (number : ℕ) → image-refusal image ≡ number → (number ≡ 0 → ⊥) → refusal-line number ≡ report-text image
-unfolding report-text
-refusal-same image number e f =
-    ap refusal-line (sym e)
-    ∙ sym
-    (kept-when-refused (image-refusal image) (job-text (count image) (job-of image)) (refusal-line (image-refusal image))
-    (λ none. f (sym e ∙ none)))
+    -- and its text is the image's
+    text-same : job-text (counts .values) (lent-job (given-of counts) held) ≡ image-text image
+    unfolding image-text
+    text-same = ap (λ n. job-text n (lent-job (given-of counts) held)) zones-same ∙ ap (job-text (count image)) job-same
 
 -- ---- by what the reader answers, and leaves in the buffers
 pub record Told (image : List ℕ) (lent : Buffers) (r : Answer) (held : Buffers) : Type 0 where
-  pub number : number-of r ≡ read-refusal image lent
+  pub number : reader-number-of r ≡ read-refusal image lent
   pub counted : counts-of r ≡ read-counts image lent
   pub left : held ≡ read-left image lent
 
 module _ {image : List ℕ} {lent held : Buffers} {r : Answer} (told : Told image lent r held) where
   module _ {counts : Counts} (g : r ≡ Read counts) where
     taken : read-refusal image lent ≡ 0
-    unfolding number-of
-    taken = sym (told .number) ∙ ap number-of g
+    unfolding reader-number-of
+    taken = sym (told .number) ∙ ap reader-number-of g
 
     its-counts : six counts ≡ counts-in image
     its-counts = read-answers image lent taken r (told .counted) counts g
@@ -133,12 +121,32 @@ module _ {image : List ℕ} {lent held : Buffers} {r : Answer} (told : Told imag
     pub read-held : Held counts held
     read-held = held-job image lent taken counts its-counts held (told .left)
 
-    pub read-text : job-text (counts .values) (lent-job (given-of counts) held) ≡ report-text image
+    pub read-text : job-text (counts .values) (lent-job (given-of counts) held) ≡ image-text image
     read-text = text-same image lent taken counts its-counts held (told .left)
 
-  pub refused-text : {number : ℕ} → r ≡ Refused number → misfits (buffer-lengths lent) ≡ false → refusal-line number ≡ report-text image
-  unfolding number-of
-  refused-text {number} g fits =
-      let e : number ≡ read-refusal image lent = sym (ap number-of g) ∙ told .number in
-      refusal-same image number (sym (image-decides image lent fits) ∙ sym e)
-      (λ none. never-refused image lent (sym e ∙ none) r (told .counted) number g)
+    -- what was put of it is what the page must hold
+    pub read-prints :
+        {old new : List ℕ} {place : ℕ} → Put old new 0 place 16128 (image-text image) → 16128 ≤ length old →
+        Prints image old new (Printed place)
+    unfolding number-of length-in
+    read-prints put room =
+        let z = read-accepted image lent taken in record {
+          number = sym z;
+          long = ap (λ k. k ∷ []) (omega (arith, put .behind)) ∙ sym (worked-when-taken _ _ _ z);
+          page = put-over put (omega (arith, put .behind, put .few, room)) ∙ sym (worked-when-taken _ _ _ z);
+        }
+
+  -- a refusal leaves the page
+  pub refused-prints :
+      {number : ℕ} {old : List ℕ} → r ≡ Refused number → misfits (buffer-lengths lent) ≡ false →
+      Prints image old old (answer.Refused number)
+  unfolding reader-number-of number-of length-in
+  refused-prints {number} g fits =
+      let e : number ≡ read-refusal image lent = sym (ap reader-number-of g) ∙ told .number in
+      let same : number ≡ image-refusal image = e ∙ image-decides image lent fits in
+      let some : image-refusal image ≡ 0 → ⊥ =
+      λ z. never-refused image lent (sym e ∙ same ∙ z) r (told .counted) number g in record {
+        number = same;
+        long = sym (kept-when-refused _ _ _ some);
+        page = sym (kept-when-refused _ _ _ some);
+      }

@@ -1,34 +1,30 @@
 -- What a caller may rely on of the page that it lends. Assumes nothing.
-use mathlib.Core.Path.{_≡_, refl, sym, ap, _∙_}
-use mathlib.Core.Bool.{Bool, true, false, cond}
+use mathlib.Core.Path.{_≡_, refl, ap, _∙_}
 use mathlib.Core.List.{List}
 use Prim.Native.Nat.{ℕ, _≤_}
-use native.Mathlib.Omega.{arith}
-use borrow.Author.Tests.{ltb-false}
-use lib.Dec.{ltb}
-use lib.ListN.{length, take, drop, length-append, length-drop}
+use lib.ListN.{length, take, drop}
 use lib.Seq.{take-at}
 use Rattle.whole.specs.Table.{over}
-use Rattle.report.specs.Text.{report-text, page-left}
-use Rattle.report.proofs.Paged.{page-filled}
+use Rattle.whole.proofs.Rules.{worked-when-taken, kept-when-refused}
+use Rattle.report.specs.Text.{image-text, refusal-line, print-refusal, page-left, line-refusal, line-left}
 
+-- where nothing is refused the text stands at the page's front
 module _ (image page : List ℕ) where
-  abbrev text : List ℕ
-  text = report-text image
-
-  -- the page keeps its length
-  pub page-length : length (page-left image page) ≡ length page
+  pub page-text : print-refusal image page ≡ 0 → take (length (image-text image)) (page-left image page) ≡ image-text image
   unfolding page-left
-  page-length = kept (ltb (length page) (length text)) refl
-    where
-      kept : (short : Bool) → ltb (length page) (length text) ≡ short → length (cond short page (over text page)) ≡ length page
-      kept true e = refl
-      kept false e =
-          let room = ltb-false (length page) (length text) e in
-          omega (arith, length-append text (drop (length text) page), length-drop (length text) page)
+  page-text z =
+      ap (take (length (image-text image))) (worked-when-taken _ _ _ z)
+      ∙ take-at (image-text image) (drop (length (image-text image)) page) (length (image-text image)) refl
 
-  -- where it has room, the text stands at its front
-  pub page-text : length text ≤ length page → take (length text) (page-left image page) ≡ text
-  page-text room =
-      ap (take (length text)) (sym (page-filled image page (length text) refl room))
-      ∙ take-at text (drop (length text) page) (length text) refl
+  -- where something is, the page is as it was
+  pub page-kept : (print-refusal image page ≡ 0 → ⊥) → page-left image page ≡ page
+  unfolding page-left
+  page-kept f = kept-when-refused _ _ _ f
+
+-- so does the line of a refusal
+pub line-text :
+    (number : ℕ) (page : List ℕ) → line-refusal page ≡ 0 → take (length (refusal-line number)) (line-left number page) ≡ refusal-line number
+unfolding line-left
+line-text number page z =
+    ap (take (length (refusal-line number))) (worked-when-taken _ _ _ z)
+    ∙ take-at (refusal-line number) (drop (length (refusal-line number)) page) (length (refusal-line number)) refl

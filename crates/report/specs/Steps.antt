@@ -1,18 +1,15 @@
 -- What the private functions of the report promise each other. Assumes nothing.
 use mathlib.Core.Path.{_≡_}
-use mathlib.Core.Bool.{false, not, cond}
+use mathlib.Core.Bool.{false, cond}
 use mathlib.Core.List.{List, [], _∷_, _++_}
 use Prim.Native.Nat.{ℕ, _+_, _*_, _-_, _≤_, _<_}
-use lib.Dec.{T}
-use lib.Ieee.{Float, isNan}
 use lib.IntN.{ℤ, pos, negsuc, natAbs, _*ℤ_}
 use lib.ListN.{length, getD}
 use lib.Seq.{sets}
 use lib.Signed.{_≤ℤ_, ltZ}
-use Rattle.whole.specs.Rules.{first-broken, misfits, ratio-limit}
+use Rattle.whole.specs.Rules.{first-broken, misfits, unless-refused, ratio-limit}
 use Rattle.whole.specs.Search.{any-above}
-use Rattle.whole.specs.Table.{at}
-use Rattle.nearest.specs.Answers.{nearest-float}
+use Rattle.whole.specs.Table.{at, over}
 use Rattle.account.specs.Refusals.{account-refusal}
 use Rattle.account.specs.Classes.{class-rules, row-at}
 use Rattle.account.specs.Rank.{rank-refusal}
@@ -20,15 +17,16 @@ use Rattle.account.specs.declared.Sums.{Sums}
 use Rattle.joins.specs.Joins.{join-refusal}
 use Rattle.places.specs.Bands.{band-classes, band-refusal}
 use Rattle.coefficients.specs.FloatReport.{no-pair}
-use Rattle.coefficients.specs.declared.Coefficient.{Coefficient}
-use Rattle.coefficients.specs.declared.Coefficient.the-variants.{Figure, Weightless}
 use Rattle.coefficients.specs.declared.Pair.{Pair}
-use Rattle.image.specs.Image.{Job}
+use Rattle.image.specs.Image.{Job, image-refusal}
 use Rattle.image.specs.Reader.{Buffers, buffer-lengths}
 use Rattle.image.specs.Writer.{lent-job}
 use Rattle.image.specs.declared.Given.{Given}
 use Rattle.reader.specs.declared.Counts.{Counts}
-use Rattle.report.specs.Lines.{line, numbers, coefficient}
+use Rattle.pages.specs.Lines.{line, numbers, bits}
+use Rattle.report.specs.Lines.{coefficient}
+use Rattle.report.specs.Text.{image-text, number-of, length-in}
+use Rattle.report.specs.declared.Answer.{Answer}
 
 -- ---- what a call has put into a page
 
@@ -42,28 +40,18 @@ pub record Put (old new : List ℕ) (at place most : ℕ) (text : List ℕ) : Ty
 abbrev pub Room : List ℕ → ℕ → ℕ → Type 0
 Room page at most = at + most ≤ length page
 
+-- what is answered of an image, and what its page then holds
+pub record Prints (image old new : List ℕ) (r : Answer) : Type 0 where
+  pub number : number-of r ≡ image-refusal image
+  pub long : length-in r ≡ unless-refused (image-refusal image) (length (image-text image) ∷ []) []
+  pub page : new ≡ unless-refused (image-refusal image) (over (image-text image) old) old
+
 -- ---- what can be printed
 
 -- a word of at most eight letters, and at most four numbers, which a line has besides its figures
 pub record Short (word : List ℕ) (list : List ℤ) : Type 0 where
   pub letters : length word ≤ 8
   pub items : length list ≤ 4
-
--- the k-th float of a list
-abbrev pub float-at : List Float → ℕ → Float
-float-at figures k = getD figures k (nearest-float (pos 0) (pos 1))
-
--- a coefficient whose bits can be read
-abbrev pub Printable : Coefficient → Type 0
-Printable (Figure x) = T (not (isNan x))
-Printable Weightless = Unit
-
-pub record PrintablePair (pair : Pair) : Type 0 where
-  pub of-moran : Printable (pair .moran)
-  pub of-geary : Printable (pair .geary)
-
-abbrev pub PrintablePairs : List Pair → Type 0
-PrintablePairs pairs = (k : ℕ) → k < length pairs → PrintablePair (getD pairs k no-pair)
 
 -- sums of 2 to 64 zones whose values vary and whose numerators and divisors are within the limit
 pub record Within (n : ℕ) (sums : Sums) : Type 0 where
@@ -74,11 +62,10 @@ pub record Within (n : ℕ) (sums : Sums) : Type 0 where
   pub geary-numerator : natAbs (pos ((n - 1) * n) *ℤ sums .squares) ≤ ratio-limit
   pub geary-divisor : natAbs ((pos 2 *ℤ sums .weight) *ℤ sums .spread) ≤ ratio-limit
 
--- a local figure for each zone that is listed, whose bits can be read
-pub record Listed (zones : List ℕ) (locals : List ℤ) (figures : List Float) : Type 0 where
+-- a local numerator and the bits of a local figure for each zone that is listed
+pub record Listed (zones : List ℕ) (locals : List ℤ) (figures : List ℕ) : Type 0 where
   pub there : (k : ℕ) → k < length zones → getD zones k 0 < length locals
   pub as-many : length figures ≡ length locals
-  pub readable : (k : ℕ) → k < length figures → T (not (isNan (float-at figures k)))
 
 -- ---- a job that no call refuses
 
@@ -89,7 +76,6 @@ pub record Sound (n : ℕ) (values : List ℤ) (weights : List ℕ) : Type 0 whe
   pub values-fit : length values ≡ n
   pub weights-fit : length weights ≡ n * n
   pub taken : (locals : List ℤ) → length locals ≡ n → account-refusal n values weights locals ≡ 0
-  pub hot : (zones : List ℕ) → length zones ≡ n → account-refusal n values weights zones ≡ 0
   pub classed :
       (classes : List ℕ) (further : List (ℕ × ℕ)) → length classes ≡ n * n → any-above 8 classes ≡ false → misfits further ≡ false →
       first-broken (class-rules n values weights classes further) ≡ 0
@@ -179,9 +165,9 @@ ratio-lines n sums pair =
     ++ line "expected" (numbers (negsuc 0 ∷ pos (n - 1) ∷ [])))
 
 -- the line of a zone
-unfoldable pub zone-line : List ℤ → List Float → ℤ → ℕ → List ℕ
+unfoldable pub zone-line : List ℤ → List ℕ → ℤ → ℕ → List ℕ
 zone-line locals figures spread zone =
-    line "local" (numbers (pos zone ∷ at locals zone ∷ spread ∷ []) ++ coefficient (Figure (float-at figures zone)))
+    line "local" (numbers (pos zone ∷ at locals zone ∷ spread ∷ []) ++ bits (getD figures zone 0))
 
 -- the line of two categories
 unfoldable pub table-line : List ℤ → ℕ → ℕ → List ℕ

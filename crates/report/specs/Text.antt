@@ -1,13 +1,13 @@
 -- A whole report, as document 01 writes it out: the text of an image, which is the lines of its job, or `refused` and the number.
 -- Assumes nothing.
+use mathlib.Core.Path.{_≡_}
 use mathlib.Core.Bool.{cond}
 use mathlib.Core.List.{List, [], _∷_, _++_}
 use Prim.Native.Nat.{ℕ, suc, _-_, _*_}
-use lib.Dec.{ltb}
 use lib.IntN.{ℤ, pos, negsuc, _*ℤ_}
-use lib.ListN.{length}
+use lib.ListN.{length, take}
 use lib.Signed.{ltZ}
-use Rattle.whole.specs.Rules.{unless-refused}
+use Rattle.whole.specs.Rules.{first-broken, misfits, unless-refused}
 use Rattle.whole.specs.Table.{table, at, pair-at, each, over}
 use Rattle.account.specs.Measures.{total-of, deviation-of, spread-of, weight-of, cross-of, squares-of}
 use Rattle.account.specs.Answers.{job-locals}
@@ -17,8 +17,11 @@ use Rattle.hot_list.specs.HotList.{hot-list}
 use Rattle.joins.specs.Joins.{category-at, joins-of}
 use Rattle.places.specs.Bands.{band-classes}
 use Rattle.coefficients.specs.Coefficients.{class-pair}
-use Rattle.image.specs.Image.{Job, count, job-of, image-refusal}
-use Rattle.report.specs.Lines.{line, numbers, figure, coefficient}
+use Rattle.image.specs.Image.{Job, count, job-of, image-rules, image-refusal}
+use Rattle.pages.specs.Lines.{line, numbers}
+use Rattle.report.specs.Lines.{figure, coefficient}
+use Rattle.report.specs.declared.Answer.{Answer}
+use Rattle.report.specs.declared.Answer.the-variants.{Refused, Printed}
 
 -- 0, 1, .., n − 1
 abbrev pub numbered : ℕ → List ℕ
@@ -113,13 +116,57 @@ job-text n job =
     ++ (where-given (job .bands) (class-lines n (job .values) (job .weights) (job .places) (job .bands))
     ++ where-given (job .shuffles) (rank-line n (job .values) (job .weights) (job .shuffles)))))
 
+-- ---- the report of an image
+
+-- the text of an image that is accepted
+unfoldable pub image-text : List ℕ → List ℕ
+image-text image = job-text (count image) (job-of image)
+
+-- the line of one that is refused
 unfoldable pub refusal-line : ℕ → List ℕ
 refusal-line number = line "refused" (numbers (pos number ∷ []))
 
--- the report of an image
+-- what the report program prints
 unfoldable pub report-text : List ℕ → List ℕ
-report-text image = unless-refused (image-refusal image) (job-text (count image) (job-of image)) (refusal-line (image-refusal image))
+report-text image = unless-refused (image-refusal image) (image-text image) (refusal-line (image-refusal image))
 
--- what the lent page holds after the call: the text at its front, where there is room for all of it
-unfoldable pub page-left : List ℕ → List ℕ → List ℕ
-page-left image page = cond (ltb (length page) (length (report-text image))) page (over (report-text image) page)
+-- so many first bytes of an image decide its report
+abbrev pub Decides : ℕ → Type 0
+Decides many = (image : List ℕ) → report-text (take many image) ≡ report-text image
+
+-- ---- what the calls answer, by its cases
+
+-- the number of the refusal, 0 where nothing is refused
+unfoldable pub number-of : Answer → ℕ
+number-of (Refused number) = number
+number-of (Printed long) = 0
+
+-- the length of the text, none where the call is refused
+unfoldable pub length-in : Answer → List ℕ
+length-in (Refused number) = []
+length-in (Printed long) = long ∷ []
+
+-- ---- the report: a page of 16,384 places is lent
+module _ (image page : List ℕ) where
+  -- 2, then the image's rules by place; the refusal is 0 where no rule is broken
+  unfoldable pub print-refusal : ℕ
+  print-refusal = first-broken ((misfits ((length page, 16384) ∷ []), 2) ∷ image-rules image)
+
+  unfoldable pub print-length : List ℕ
+  print-length = unless-refused print-refusal (length (image-text image) ∷ []) []
+
+  -- the text stands at the page's front
+  unfoldable pub page-left : List ℕ
+  page-left = unless-refused print-refusal (over (image-text image) page) page
+
+-- ---- the line of a refusal: such a page is lent
+
+-- 2 alone
+unfoldable pub line-refusal : List ℕ → ℕ
+line-refusal page = first-broken ((misfits ((length page, 16384) ∷ []), 2) ∷ [])
+
+unfoldable pub line-length : ℕ → List ℕ → List ℕ
+line-length number page = unless-refused (line-refusal page) (length (refusal-line number) ∷ []) []
+
+unfoldable pub line-left : ℕ → List ℕ → List ℕ
+line-left number page = unless-refused (line-refusal page) (over (refusal-line number) page) page

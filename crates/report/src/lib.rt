@@ -5,28 +5,38 @@ mod reading;
 mod working;
 
 ghost use mathlib.Core.Path.{_≡_};
-ghost use Prim.Native.Nat.{_≤_};
-ghost use lib.ListN.{length};
-ghost use Rattle.report.specs.Text.{report-text, page-left};
+ghost use Rattle.report.specs.Text.{number-of, length-in, print-refusal, print-length, page-left};
+ghost use Rattle.report.specs.Text.{line-refusal, line-length, line-left};
 
-// A page that every report fits. Only its length is promised, so that the list stays small in proofs.
-fn blank() -> [u8; 16384]
-    ensures { λ r. ⌜ 16384 ≡ length r ⌝ }
-{
-    [0; 16384]
+// The number of the refusal, or the length of the text.
+pub enum Answer {
+    Refused(u8),
+    Printed(usize),
 }
 
-// Puts the text of an image's report at the front of `page`: the lines of its job, or `refused` and the number. Answers the text's length,
-// which is at most 16,384; where the page has no room for all of it, it is left as it was.
-pub fn report(image: &[u8], page: &mut [u8]) -> usize
-    ensures length { λ r. ⌜ r ≡ length (report-text (now (image .entry))) ⌝ }
-    ensures few { λ r. ⌜ r ≤ 16384 ⌝ }
+// Puts the text of an image's report, the lines of its job, at the front of `page`, which has 16,384 places, and answers its length. Where
+// the page has another length, or the image is refused, the page is left as it was.
+pub fn report(image: &[u8], page: &mut [u8]) -> Answer
+    ensures number { λ r. ⌜ number-of r ≡ print-refusal (now (image .entry)) (now (page .entry)) ⌝ }
+    ensures length { λ r. ⌜ length-in r ≡ print-length (now (image .entry)) (now (page .entry)) ⌝ }
     ensures page { λ _. ⌜ now (page .exit) ≡ page-left (now (image .entry)) (now (page .entry)) ⌝ }
 {
-    let mut own = blank();
-    let length = reading::put_report(&mut own, image);
-    if page.len() < length {
-        return length;
+    if page.len() != 16384 {
+        return Answer::Refused(2);
     }
-    putting::put(page, 0, &own[..length])
+    reading::put_report(page, image)
+}
+
+// Puts the line of an image that is refused by that number, `refused` and the number, at the front of such a page, and answers its length.
+// Where the page has another length it is left as it was.
+pub fn refusal(number: u8, page: &mut [u8]) -> Answer
+    ensures number { λ r. ⌜ number-of r ≡ line-refusal (now (page .entry)) ⌝ }
+    ensures length { λ r. ⌜ length-in r ≡ line-length number (now (page .entry)) ⌝ }
+    ensures page { λ _. ⌜ now (page .exit) ≡ line-left number (now (page .entry)) ⌝ }
+{
+    if page.len() != 16384 {
+        return Answer::Refused(2);
+    }
+    let list = [number as i64];
+    Answer::Printed(putting::put_line(page, 0, b"refused", &list))
 }

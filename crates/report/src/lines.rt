@@ -1,14 +1,14 @@
 // The lines of a report, from what the calls answer.
 use crate::putting;
 use account::Sums;
-use coefficients::Coefficient;
 use coefficients::Pair;
 ghost use mathlib.Core.Path.{_≡_};
 ghost use Prim.Native.Nat.{suc, _*_, _≤_, _<_};
 ghost use lib.ListN.{length};
 ghost use Rattle.whole.specs.Table.{each};
 ghost use Rattle.report.specs.Text.{numbered};
-ghost use Rattle.report.specs.Steps.{Put, Room, PrintablePair, PrintablePairs, Within, Listed};
+ghost use Rattle.report.specs.Steps.{Put, Room, Within, Listed};
+ghost use Rattle.coefficients.specs.Steps.{ReadablePair, ReadablePairs};
 ghost use Rattle.report.specs.Steps.{sum-lines, ratio-lines, zone-line, table-line, row-line};
 
 // n S M, then W P G.
@@ -31,7 +31,7 @@ pub(super) fn put_sums(page: &mut [u8], at: usize, n: usize, sums: Sums) -> usiz
 // Moran's I, Geary's c and the expected I, each as a ratio.
 pub(super) fn put_ratios(page: &mut [u8], at: usize, n: usize, sums: Sums, pair: Pair) -> usize
     requires { ⌜ Within n sums ⌝ }
-    requires { ⌜ PrintablePair pair ⌝ }
+    requires { ⌜ ReadablePair pair ⌝ }
     requires { ⌜ Room (now page) at 352 ⌝ }
     ensures { λ r. ⌜ Put (now (page .entry)) (now (page .exit)) at r 352 (ratio-lines n sums pair) ⌝ }
 {
@@ -55,7 +55,7 @@ pub(super) fn put_zones(
     at: usize,
     zones: &[u8],
     locals: &[i64],
-    figures: &[f64],
+    figures: &[u64],
     spread: i64,
 ) -> usize
     requires { ⌜ Listed (now zones) (now locals) (now figures) ⌝ }
@@ -68,13 +68,7 @@ pub(super) fn put_zones(
     while i < zones.len() {
         let zone = zones[i] as usize;
         let list = [zone as i64, locals[zone], spread];
-        place = putting::put_figure_line(
-            page,
-            place,
-            b"local",
-            &list,
-            Coefficient::Figure(figures[zone]),
-        );
+        place = putting::put_bits_line(page, place, b"local", &list, figures[zone]);
         i += 1;
     }
     place
@@ -125,7 +119,7 @@ pub(super) fn put_rows(
     last: usize,
 ) -> usize
     requires { ⌜ length (now rows) ≡ 27 ⌝ }
-    requires { ⌜ PrintablePairs pairs ⌝ }
+    requires { ⌜ ReadablePairs pairs ⌝ }
     requires { ⌜ last ≤ 8 ⌝ }
     requires { ⌜ Room (now page) at (128 * suc last) ⌝ }
     ensures { λ r. ⌜ Put (now (page .entry)) (now (page .exit)) at r (128 * suc last)

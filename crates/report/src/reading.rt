@@ -1,23 +1,13 @@
-// The text of an image: it is read, and its job's lines are put, or its refusal.
-use crate::putting;
+// The text of an image: it is read, and its job's lines are put. A refused image leaves the page as it was.
+use crate::Answer;
 use crate::working;
-use reader::Answer;
 use reader::Counts;
 ghost use mathlib.Core.Path.{_≡_};
 ghost use lib.ListN.{length};
 ghost use Rattle.image.specs.Reader.{buffers};
 ghost use Rattle.image.specs.Writer.{lent-job};
-ghost use Rattle.report.specs.Text.{job-text, refusal-line, report-text};
-ghost use Rattle.report.specs.Steps.{Put, Room, Exact, Held, given-of};
-
-// The line of an image that is refused.
-fn put_refusal(page: &mut [u8], number: u8) -> usize
-    requires { ⌜ Room (now page) 0 96 ⌝ }
-    ensures { λ r. ⌜ Put (now (page .entry)) (now (page .exit)) 0 r 96 (refusal-line number) ⌝ }
-{
-    let list = [number as i64];
-    putting::put_line(page, 0, b"refused", &list)
-}
+ghost use Rattle.report.specs.Text.{job-text};
+ghost use Rattle.report.specs.Steps.{Put, Room, Exact, Held, given-of, Prints};
 
 // The lines of the job in the buffers: the first entries of each, as many as the counts say.
 fn put_read(
@@ -65,14 +55,14 @@ fn put_text(
     places: &mut [i32],
     bands: &mut [u32],
     shuffles: &mut [u8],
-) -> usize
+) -> Answer
     requires { ⌜ Exact (buffers (now values) (now categories) (now weights) (now places) (now bands) (now shuffles)) ⌝ }
     requires { ⌜ Room (now page) 0 16128 ⌝ }
-    ensures { λ r. ⌜ Put (now (page .entry)) (now (page .exit)) 0 r 16128 (report-text (now (image .entry))) ⌝ }
+    ensures { λ r. ⌜ Prints (now (image .entry)) (now (page .entry)) (now (page .exit)) r ⌝ }
 {
     match reader::read(image, values, categories, weights, places, bands, shuffles) {
-        Answer::Refused(number) => put_refusal(page, number),
-        Answer::Read(counts) => put_read(
+        reader::Answer::Refused(number) => Answer::Refused(number),
+        reader::Answer::Read(counts) => Answer::Printed(put_read(
             page,
             counts,
             values,
@@ -81,7 +71,7 @@ fn put_text(
             places,
             bands,
             shuffles,
-        ),
+        )),
     }
 }
 
@@ -99,9 +89,9 @@ fn shuffle_room() -> [u8; 31936]
 }
 
 // The text of an image at the front of a page.
-pub(super) fn put_report(page: &mut [u8], image: &[u8]) -> usize
+pub(super) fn put_report(page: &mut [u8], image: &[u8]) -> Answer
     requires { ⌜ Room (now page) 0 16128 ⌝ }
-    ensures { λ r. ⌜ Put (now (page .entry)) (now (page .exit)) 0 r 16128 (report-text (now (image .entry))) ⌝ }
+    ensures { λ r. ⌜ Prints (now (image .entry)) (now (page .entry)) (now (page .exit)) r ⌝ }
 {
     let mut values: [i32; 64] = [0; 64];
     let mut categories: [u8; 64] = [0; 64];

@@ -2,22 +2,22 @@
 // be reached.
 use crate::lines;
 use crate::putting;
-use account::Answer;
 use account::RankAnswer;
 use coefficients::Pair;
+use coefficients::Whole;
 ghost use mathlib.Core.Path.{_≡_};
 ghost use mathlib.Core.Bool.{cond};
 ghost use mathlib.Core.List.{[], _++_};
-ghost use Prim.Native.Nat.{suc, _*_, _≤_};
+ghost use Prim.Native.Nat.{suc, _≤_};
 ghost use lib.Dec.{eqb};
 ghost use lib.ListN.{length};
-ghost use Rattle.whole.specs.Table.{table, at as Table·at, each};
-ghost use Rattle.account.specs.Measures.{spread-of};
-ghost use Rattle.account.specs.Answers.{job-locals};
+ghost use Rattle.whole.specs.Table.{table, each};
 ghost use Rattle.account.specs.Rank.{rank-refusal};
-ghost use Rattle.coefficients.specs.Coefficients.{job-pair, class-pair, local-figures};
-ghost use Rattle.report.specs.Text.{numbered, job-lines, local-lines, pair-lines, class-line, rank-line, where-given, job-text};
-ghost use Rattle.report.specs.Steps.{Put, Room, Sound, SoundLists, Joinable, Bandable, Low, Classed, lists};
+ghost use Rattle.hot_list.specs.HotList.{in-order};
+ghost use Rattle.coefficients.specs.Steps.{ReadablePair, ReadablePairs};
+ghost use Rattle.report.specs.Text.{numbered, pair-lines, rank-line, where-given, job-text};
+ghost use Rattle.report.specs.Steps.{Put, Room, Within, SoundLists, Joinable, Bandable, Classed};
+ghost use Rattle.report.specs.Steps.{sum-lines, ratio-lines, zone-line, row-line, lists};
 
 // Every pair of zones in class 0.
 fn unclass(classes: &mut [u8])
@@ -42,57 +42,37 @@ fn class_pairs(n: usize, places: &[i32], bands: &[u32], classes: &mut [u8])
 }
 
 // The zones in hot-list order.
-fn put_hot_list(
-    page: &mut [u8],
-    at: usize,
-    n: usize,
-    values: &[i32],
-    weights: &[u8],
-    locals: &[i64],
-    figures: &[f64],
-    spread: i64,
-) -> usize
-    requires { ⌜ Sound n (now values) (now weights) ⌝ }
-    requires { ⌜ spread ≡ spread-of (Table·at (now values)) n ⌝ }
-    requires { ⌜ now locals ≡ job-locals n (now values) (now weights) ⌝ }
-    requires { ⌜ now figures ≡ local-figures spread (job-locals n (now values) (now weights)) ⌝ }
+fn put_hot_list(page: &mut [u8], at: usize, locals: &[i64], figures: &[u64], spread: i64) -> usize
+    requires { ⌜ 2 ≤ length (now locals) ⌝ }
+    requires { ⌜ length (now locals) ≤ 64 ⌝ }
+    requires { ⌜ length (now figures) ≡ length (now locals) ⌝ }
     requires { ⌜ Room (now page) at 8192 ⌝ }
     ensures { λ r. ⌜ Put (now (page .entry)) (now (page .exit)) at r 8192
-        (local-lines n (now (values .entry)) (now (weights .entry))) ⌝ }
+        (each (zone-line (now (locals .entry)) (now (figures .entry)) spread) (in-order (now (locals .entry)))) ⌝ }
 {
     let mut space: [u8; 64] = [0; 64];
-    let zones = &mut space[..n];
-    hot_list::hot_list(n, values, weights, zones);
+    let zones = &mut space[..locals.len()];
+    hot_list::order(locals, zones);
     lines::put_zones(page, at, zones, locals, figures, spread)
 }
 
 // The lines that every report has: those of the whole job, then those of its zones.
-fn put_account(
-    page: &mut [u8],
-    n: usize,
-    values: &[i32],
-    weights: &[u8],
-    pair: Pair,
-    figures: &[f64],
-) -> usize
-    requires { ⌜ Sound n (now values) (now weights) ⌝ }
-    requires { ⌜ pair ≡ job-pair n (now values) (now weights) ⌝ }
-    requires { ⌜ now figures ≡ local-figures (spread-of (Table·at (now values)) n) (job-locals n (now values) (now weights)) ⌝ }
+fn put_account(page: &mut [u8], n: usize, whole: Whole, locals: &[i64], figures: &[u64]) -> usize
+    requires { ⌜ Within n (whole .sums) ⌝ }
+    requires { ⌜ ReadablePair (whole .pair) ⌝ }
+    requires { ⌜ length (now locals) ≡ n ⌝ }
+    requires { ⌜ length (now figures) ≡ n ⌝ }
     requires { ⌜ Room (now page) 0 8736 ⌝ }
     ensures { λ r. ⌜ Put (now (page .entry)) (now (page .exit)) 0 r 8736
-        (job-lines n (now (values .entry)) (now (weights .entry)) ++ local-lines n (now (values .entry)) (now (weights .entry))) ⌝ }
+        ((sum-lines n (whole .sums) ++ ratio-lines n (whole .sums) (whole .pair))
+        ++ each (zone-line (now (locals .entry)) (now (figures .entry)) (whole .sums .spread)) (in-order (now (locals .entry)))) ⌝ }
 {
-    let mut space: [i64; 64] = [0; 64];
-    let locals = &mut space[..n];
-    match account::account(n, values, weights, locals) {
-        Answer::Refused(_) => 0,
-        Answer::Accounted(sums) => {
-            let spread = sums.spread;
-            let place = lines::put_sums(page, 0, n, sums);
-            let end = lines::put_ratios(page, place, n, sums, pair);
-            put_hot_list(page, end, n, values, weights, locals, figures, spread)
-        }
-    }
+    let sums = whole.sums;
+    let pair = whole.pair;
+    let spread = sums.spread;
+    let place = lines::put_sums(page, 0, n, sums);
+    let end = lines::put_ratios(page, place, n, sums, pair);
+    put_hot_list(page, end, locals, figures, spread)
 }
 
 // The pair lines, which need categories.
@@ -111,40 +91,18 @@ fn put_pairs(page: &mut [u8], at: usize, n: usize, categories: &[u8], weights: &
 }
 
 // The class lines, which need bands, of which there are so many.
-fn put_classes(
-    page: &mut [u8],
-    at: usize,
-    n: usize,
-    values: &[i32],
-    weights: &[u8],
-    classes: &[u8],
-    pairs: [Pair; 9],
-    bands: usize,
-) -> usize
-    requires { ⌜ Sound n (now values) (now weights) ⌝ }
-    requires { ⌜ Low n (now classes) ⌝ }
-    requires { ⌜ pairs ≡ table (class-pair n (now values) (now weights) (now classes)) 9 ⌝ }
+fn put_classes(page: &mut [u8], at: usize, rows: &[i64], pairs: [Pair; 9], bands: usize) -> usize
+    requires { ⌜ length (now rows) ≡ 27 ⌝ }
+    requires { ⌜ ReadablePairs pairs ⌝ }
     requires { ⌜ bands ≤ 8 ⌝ }
     requires { ⌜ Room (now page) at 1152 ⌝ }
     ensures { λ r. ⌜ Put (now (page .entry)) (now (page .exit)) at r 1152
-        (cond (eqb bands 0) []
-        (each (class-line n (now (values .entry)) (now (weights .entry)) (now (classes .entry))) (numbered (suc bands)))) ⌝ }
+        (cond (eqb bands 0) [] (each (row-line (now (rows .entry)) pairs) (numbered (suc bands)))) ⌝ }
 {
     if bands == 0 {
         return at;
     }
-    let mut rows: [i64; 27] = [0; 27];
-    let mut numerators: [i64; 576] = [0; 576];
-    let places = 9 * n;
-    account::class_account(
-        n,
-        values,
-        weights,
-        classes,
-        &mut rows,
-        &mut numerators[..places],
-    );
-    lines::put_rows(page, at, &rows, pairs, bands)
+    lines::put_rows(page, at, rows, pairs, bands)
 }
 
 // The rank line, which needs a shuffle.
@@ -203,28 +161,30 @@ pub(super) fn put_job(
 {
     let pairs = n * n;
     let mut class_space = class_room();
-    let mut figure_space: [f64; 64] = [0.0; 64];
     let classes = &mut class_space[..pairs];
-    let figures = &mut figure_space[..n];
     class_pairs(n, places, bands, classes);
-    let report = coefficients::plain_report(n, values, weights, classes, figures);
-    let whole = report.whole;
+    let mut rows: [i64; 27] = [0; 27];
+    let mut local_space: [i64; 64] = [0; 64];
+    let locals = &mut local_space[..n];
+    let mut figure_space: [u64; 64] = [0; 64];
+    let figures = &mut figure_space[..n];
+    let report = coefficients::plain_report(
+        n,
+        values,
+        weights,
+        classes,
+        &mut rows,
+        locals,
+        figures,
+    );
+    let answer = report.whole;
     let of_classes = report.classes;
-    match whole {
+    match answer {
         coefficients::Answer::Refused(_) => 0,
-        coefficients::Answer::Reported(pair) => {
-            let at_pairs = put_account(page, n, values, weights, pair, figures);
+        coefficients::Answer::Reported(whole) => {
+            let at_pairs = put_account(page, n, whole, locals, figures);
             let at_classes = put_pairs(page, at_pairs, n, categories, weights);
-            let at_rank = put_classes(
-                page,
-                at_classes,
-                n,
-                values,
-                weights,
-                classes,
-                of_classes,
-                bands.len(),
-            );
+            let at_rank = put_classes(page, at_classes, &rows, of_classes, bands.len());
             put_rank(page, at_rank, n, values, weights, shuffles)
         }
     }

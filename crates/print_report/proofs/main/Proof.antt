@@ -1,7 +1,5 @@
 -- `main` asks for no more than there is. Assumes nothing.
-use mathlib.Core.Path.{_≡_, sym}
-use native.Mathlib.Omega.{arith}
-use lib.ListN.{length}
+use mathlib.Core.Path.{sym}
 use lib.Seq.{length-take-le}
 use borrow.Author.Needs.{needs}
 use Rattle.print_report.proofs.main.Statement.{statement}
@@ -22,25 +20,20 @@ read-full-requires c κs = search needs
 array-share-prefix-input : tie.Need-array-share-prefix-input
 array-share-prefix-input c = search needs
 
-slice-aggregate-report : tie.Need-slice-aggregate-report
-slice-aggregate-report c = search needs
+slice-aggregate-print-text : tie.Need-slice-aggregate-print-text
+slice-aggregate-print-text c = search needs
 
-slice-aggregate-report-2 : tie.Need-slice-aggregate-report-2
-slice-aggregate-report-2 c = search needs
+slice-aggregate-print-text-2 : tie.Need-slice-aggregate-print-text-2
+slice-aggregate-print-text-2 c = search needs
 
-report-requires : tie.Need-report-requires
-report-requires c κs = search needs
+print-text-requires : tie.Need-print-text-requires
+print-text-requires c κs = sym (c .before .before .before .before .before .page-room .ensures)
 
 array-share-prefix-page : tie.Need-array-share-prefix-page
-array-share-prefix-page c = search needs
+array-share-prefix-page c = c .before .print-text .ensures .0
 
 slice-aggregate-write-all : tie.Need-slice-aggregate-write-all
-slice-aggregate-write-all c =
-    let b = c .before .before in
-    let page = b .report .last .1 .0 in
-    let room = b .before .before .before .before .before .before .page-room in
-    let long : length page ≡ length (room .result) = b .report .kept .1 .0 in
-    sym (length-take-le (b .report .result) page (omega (arith, b .report .ensures .1 .0, long, room .ensures)))
+slice-aggregate-write-all c = sym (length-take-le _ _ (c .before .before .print-text .ensures .0))
 
 write-all-requires : tie.Need-write-all-requires
 write-all-requires c κs = search needs
@@ -57,9 +50,9 @@ main-spec =
     slice-aggregate-read-full
     read-full-requires
     array-share-prefix-input
-    slice-aggregate-report
-    slice-aggregate-report-2
-    report-requires
+    slice-aggregate-print-text
+    slice-aggregate-print-text-2
+    print-text-requires
     array-share-prefix-page
     slice-aggregate-write-all
     write-all-requires

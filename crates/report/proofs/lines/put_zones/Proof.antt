@@ -10,10 +10,9 @@ use mir.Val.{toZ}
 use mir.ValLaws.{toZ-ofZ}
 use Rattle.whole.specs.Table.{each}
 use Rattle.whole.proofs.Machine.{nat, fits-le}
-use Rattle.nearest.specs.Answers.{nearest-float}
 use Rattle.report.specs.Steps.{Put, zone-line}
 use Rattle.report.proofs.Puts.{put-length, put-as, put-each-none, put-each-next, put-each-all}
-use Rattle.report.proofs.LineLaws.{there, zone-text}
+use Rattle.report.proofs.LineLaws.{zone-text}
 use Rattle.report.proofs.lines.put_zones.Statement.{statement}
 use Rattle.report.proofs.lines.put_zones.Tie as tie
 
@@ -54,30 +53,23 @@ mul-t12 c = omega (arith, c .shared-slice-known3 .given (c .before .before .loop
 shared-slice-copy-out-t18 : tie.Need-shared-slice-copy-out-t18 Inv-loop μ-loop
 shared-slice-copy-out-t18 c = start (c .before) .pre .0 .there (c .before .before .loop .i) (omega arith)
 
-slice-aggregate-put-figure-line : tie.Need-slice-aggregate-put-figure-line Inv-loop μ-loop
-slice-aggregate-put-figure-line c = refl
+slice-aggregate-put-bits-line : tie.Need-slice-aggregate-put-bits-line Inv-loop μ-loop
+slice-aggregate-put-bits-line c = refl
 
-slice-aggregate-put-figure-line-2 : tie.Need-slice-aggregate-put-figure-line-2 Inv-loop μ-loop
-slice-aggregate-put-figure-line-2 c = refl
+slice-aggregate-put-bits-line-2 : tie.Need-slice-aggregate-put-bits-line-2 Inv-loop μ-loop
+slice-aggregate-put-bits-line-2 c = refl
 
-mul-t12-2 : tie.Need-mul-t12-2 Inv-loop μ-loop
-mul-t12-2 c =
+mul-put-bits-line : tie.Need-mul-put-bits-line Inv-loop μ-loop
+mul-put-bits-line c =
     let l = c .before .before .before .before in omega (arith, l .shared-slice-known3 .given (l .before .before .loop .i))
 
-shared-slice-read-t26 : tie.Need-shared-slice-read-t26 Inv-loop μ-loop
-shared-slice-read-t26 c = known (c .before .before .before .before .before .before)
+shared-slice-read-put-bits-line : tie.Need-shared-slice-read-put-bits-line Inv-loop μ-loop
+shared-slice-read-put-bits-line c = known (c .before .before .before .before .before .before)
 
-put-figure-line-requires : tie.Need-put-figure-line-requires Inv-loop μ-loop
-put-figure-line-requires c κs =
+put-bits-line-requires : tie.Need-put-bits-line-requires Inv-loop μ-loop
+put-bits-line-requires c κs =
     let t = c .before .before .before .before .before .before in
-    let s = start t in
-    let figures = s .args .figures .now in (
-      record { letters = omega arith; items = omega arith },
-      (
-        rw (there figures (zone t) _ (nearest-float (pos 0) (pos 1)) (known t)) (s .pre .0 .readable (zone t) (known t)),
-        omega (arith, put-length (t .before .loop .inv .1)),
-      ),
-    )
+    (record { letters = omega arith; items = omega arith }, omega (arith, put-length (t .before .loop .inv .1)))
 
 add-i : tie.Need-add-i Inv-loop μ-loop
 add-i c = omega arith
@@ -95,8 +87,7 @@ loop-again c =
     let number = nat w64 (zone t) 255 (omega (arith, k .shared-slice-known3 .given (l .i))) tt .same in
     let fits = b .before .before .before .before .before .t18 .given in
     let numerator = toZ-ofZ w64 (getD (a .locals .now) (zone t) (pos 0)) (sfits-of fits) in
-    let figure = there (a .figures .now) (zone t) _ _ (known t) in
-    let put = put-as (b .put-figure-line .ensures) (zone-text (a .locals .now) (a .figures .now) _ (zone t) number numerator figure) in
+    let put = put-as (b .put-bits-line .ensures) (zone-text (a .locals .now) (a .figures .now) _ (zone t) number numerator refl) in
     let here = t .loop-test .taken in
     (omega arith, put-each-next (zone-line _ _ _) {size = 128} (a .zones .now) (l .i) 0 here (l .inv .1) put)
 
@@ -122,11 +113,11 @@ put-zones-spec =
     cast-t16
     mul-t12
     shared-slice-copy-out-t18
-    slice-aggregate-put-figure-line
-    slice-aggregate-put-figure-line-2
-    mul-t12-2
-    shared-slice-read-t26
-    put-figure-line-requires
+    slice-aggregate-put-bits-line
+    slice-aggregate-put-bits-line-2
+    mul-put-bits-line
+    shared-slice-read-put-bits-line
+    put-bits-line-requires
     add-i
     loop-less
     loop-again

@@ -2,7 +2,8 @@
 use mathlib.Core.List.{[], _∷_, _++_}
 use native.Mathlib.Omega.{arith}
 use borrow.Author.Needs.{needs}
-use Rattle.report.specs.Lines.{numbers, coefficient}
+use Rattle.pages.specs.Lines.{numbers}
+use Rattle.report.specs.Lines.{coefficient}
 use Rattle.report.proofs.Puts.{put-most, put-as, put-then, line-parts}
 use Rattle.report.proofs.putting.put_pair_line.Statement.{statement}
 use Rattle.report.proofs.putting.put_pair_line.Tie as tie
@@ -16,11 +17,8 @@ put-coefficient-requires c κs = search needs
 put-coefficient-requires-2 : tie.Need-put-coefficient-requires-2
 put-coefficient-requires-2 c κs = search needs
 
-slice-aggregate-put : tie.Need-slice-aggregate-put
-slice-aggregate-put c = search needs
-
-put-requires : tie.Need-put-requires
-put-requires c κs = search needs
+put-end-requires : tie.Need-put-end-requires
+put-end-requires c κs = search needs
 
 same-length : tie.Need-same-length
 same-length c = search needs
@@ -28,12 +26,12 @@ same-length c = search needs
 returns : tie.Need-returns
 returns c =
     let b = c .before .before in
-    let g = b .before .before .before .before .before in
+    let g = b .before .before .before .before in
     let m = g .before .before .before .before in
     let s = m .before .before .before .before in
     let a = s .before .before .before .before .args in
     let pair = put-then (m .put-coefficient .ensures) (g .put-coefficient2 .ensures) in
-    let put = put-then (put-then (s .put-start .ensures) pair) (b .put .ensures) in
+    let put = put-then (put-then (s .put-start .ensures) pair) (b .put-end .ensures) in
     put-as (put-most put (omega arith))
     (line-parts (a .word .now) (numbers (a .list .now)) (coefficient (a .pair .moran) ++ coefficient (a .pair .geary)) (10 ∷ []))
 
@@ -44,7 +42,6 @@ put-pair-line-spec =
     put-start-requires
     put-coefficient-requires
     put-coefficient-requires-2
-    slice-aggregate-put
-    put-requires
+    put-end-requires
     same-length
     returns)

@@ -1,15 +1,11 @@
--- `put_start` meets its contract: the numbers stand behind the word. Assumes nothing.
-use native.Mathlib.Omega.{arith}
+-- `put_start` meets its contract: there is room for all that is put. Assumes nothing.
 use borrow.Author.Needs.{needs}
-use Rattle.report.proofs.Puts.{put-most, put-then}
+use Rattle.report.proofs.Puts.{put-of, start-width}
 use Rattle.report.proofs.putting.put_start.Statement.{statement}
 use Rattle.report.proofs.putting.put_start.Tie as tie
 
-put-requires : tie.Need-put-requires
-put-requires c κs = search needs
-
-put-numbers-requires : tie.Need-put-numbers-requires
-put-numbers-requires c κs = search needs
+put-start-requires : tie.Need-put-start-requires
+put-start-requires c κs = tt
 
 same-length : tie.Need-same-length
 same-length c = search needs
@@ -17,7 +13,9 @@ same-length c = search needs
 returns : tie.Need-returns
 returns c =
     let b = c .before .before in
-    put-most (put-then (b .before .before .before .before .put .ensures) (b .put-numbers .ensures)) (omega arith)
+    let said = b .put-start .ensures in
+    let s = b .before .before .before .before in
+    put-of 92 (said .0) (start-width (s .args .word .now) (s .args .list .now) (s .pre .0) (said .1)) (s .pre .1)
 
 pub put-start-spec : {M : Type 1} → statement M
-put-start-spec = tie.close (tie.spec put-requires put-numbers-requires same-length returns)
+put-start-spec = tie.close (tie.spec put-start-requires same-length returns)

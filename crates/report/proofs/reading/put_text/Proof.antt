@@ -1,9 +1,8 @@
 -- `put_text` meets its contract. Assumes nothing.
-use native.Mathlib.Omega.{arith}
 use borrow.Author.Needs.{needs}
 use Rattle.image.specs.Reader.{Buffers, buffers}
-use Rattle.report.proofs.Puts.{put-as, put-most}
-use Rattle.report.proofs.ReadJob.{Told, read-held, read-text, refused-text}
+use Rattle.report.proofs.Puts.{put-as}
+use Rattle.report.proofs.ReadJob.{Told, read-held, read-text, read-prints, refused-prints}
 use Rattle.report.proofs.reading.put_text.Statement.{statement}
 use Rattle.report.proofs.reading.put_text.Tie as tie
 
@@ -30,18 +29,21 @@ read-requires c κs = search needs
 enum-known-number : tie.Need-enum-known-number
 enum-known-number c = search needs
 
-put-refusal-requires : tie.Need-put-refusal-requires
-put-refusal-requires c κs = search needs
-
 enum-known-counts : tie.Need-enum-known-counts
 enum-known-counts c = search needs
 
+-- back from the arms to the read
+abbrev in-number : tie.After-number → tie.After-read
+in-number c = c .before .before .before .before .before .before .before .before .before .before .before .before
+
+abbrev in-counts : tie.After-counts → tie.After-read
+in-counts c = c .before .before .before .before .before .before .before .before .before .before .before .before
+
 put-read-requires : tie.Need-put-read-requires
 put-read-requires c κs =
-    let g = c .before .before .before .before .before .before .before .before .counts .given in
-    let b = c .before .before .before .before .before .before .before .before .before .before .before .before .before
-    .before .before .before .before .before .before .before in
-    (read-held (told b) (g .1), start b .pre .1)
+    let k = c .before .before .before .before .before .before .before .before in
+    let b = in-counts k in
+    (read-held (told b) (k .counts .given .1), start b .pre .1)
 
 same-length : tie.Need-same-length
 same-length c = search needs
@@ -61,16 +63,14 @@ same-length-5 c = search needs
 same-length-6 : tie.Need-same-length-6
 same-length-6 c = search needs
 
-same-length-7 : tie.Need-same-length-7
-same-length-7 c = search needs
-
 returns : tie.Need-returns
 returns c =
-    let g = c .before .before .before .before .before .number .given in
-    let b = c .before .before .before .before .before .before .before .before .before .before .before .before .before
-    .before .before .before .before in
-    let put = c .before .before .put-refusal .ensures in
-    put-as (put-most put (omega arith)) (refused-text (told b) (g .1) (start b .pre .0))
+    let k = c .before in
+    let b = in-number k in
+    refused-prints (told b) (k .number .given .1) (start b .pre .0)
+
+same-length-7 : tie.Need-same-length-7
+same-length-7 c = search needs
 
 same-length-8 : tie.Need-same-length-8
 same-length-8 c = search needs
@@ -90,15 +90,12 @@ same-length-12 c = search needs
 same-length-13 : tie.Need-same-length-13
 same-length-13 c = search needs
 
-same-length-14 : tie.Need-same-length-14
-same-length-14 c = search needs
-
 returns-2 : tie.Need-returns-2
 returns-2 c =
-    let b = c .before .before .before .before .before .before .before .before .before .before .before .before .before
-    .before .before .before .before .before .before .before .before .before .before in
-    let g = c .before .before .before .before .before .before .before .before .before .before .before .counts .given in
-    put-as (c .before .before .put-read .ensures) (read-text (told b) (g .1))
+    let p = c .before .before in
+    let k = p .before .before .before .before .before .before .before .before .before in
+    let b = in-counts k in
+    read-prints (told b) (k .counts .given .1) (put-as (p .put-read .ensures) (read-text (told b) (k .counts .given .1))) (start b .pre .1)
 
 pub put-text-spec : {M : Type 1} → statement M
 put-text-spec =
@@ -106,7 +103,6 @@ put-text-spec =
     (tie.spec
     read-requires
     enum-known-number
-    put-refusal-requires
     enum-known-counts
     put-read-requires
     same-length
@@ -115,13 +111,12 @@ put-text-spec =
     same-length-4
     same-length-5
     same-length-6
-    same-length-7
     returns
+    same-length-7
     same-length-8
     same-length-9
     same-length-10
     same-length-11
     same-length-12
     same-length-13
-    same-length-14
     returns-2)
