@@ -7,7 +7,7 @@ use Prim.Native.Nat.{ℕ, _*_, _<_}
 use native.Mathlib.Omega.{arith}
 use borrow.Author.Tests.{eq-eqb, ne-eqb}
 use lib.Dec.{T, eqb}
-use lib.Ieee.{Float}
+use lib.Ieee.{Float, binary64, toBits, isNan}
 use lib.IntN.{ℤ}
 use lib.ListN.{length, getD, set}
 use Rattle.whole.specs.Integer.{is-zero}
@@ -17,6 +17,7 @@ use Rattle.whole.specs.Table.{table}
 use Rattle.whole.proofs.Rules.{kept-when-refused, worked-when-taken, holds, beside, sizes-first}
 use Rattle.whole.proofs.Table.{table-cong, table-held}
 use Rattle.nearest.specs.Answers.{number-of, figures-of, nearest-refusal, nearest-float, nearest-figures}
+use Rattle.nearest.proofs.Theorems.{not-nan}
 use Rattle.nearest.specs.declared.Answer.{Answer}
 use Rattle.nearest.specs.declared.Answer.the-variants.{Refused, Rounded}
 use Rattle.account.specs.Classes.{class-rules, class-row-of}
@@ -27,17 +28,20 @@ use Rattle.coefficients.specs.FloatReport.{no-pair, plain-refusal, plain-whole,
 use Rattle.coefficients.specs.declared.Answer as report-answer
 use Rattle.coefficients.specs.declared.Answer.the-variants as reported
 use Rattle.coefficients.specs.declared.Coefficient.the-variants.{Figure, Weightless}
+use Rattle.coefficients.specs.Steps.{ReadablePair, ReadablePairs}
 use Rattle.coefficients.specs.declared.Pair.{Pair}
+use Rattle.coefficients.specs.declared.Whole.{Whole}
+use Rattle.coefficients.proofs.Readable.{job-readable, classes-readable}
 use Rattle.exports.specs.Floats.{nearest-number, nearest-after, pairs-over}
 use Rattle.exports.specs.Floats.{report-number, globals-after, figures-after, pairs-after, has-pair-after}
 use Rattle.exports.specs.Steps.{put-figure, tells}
-use Rattle.exports.proofs.Numbers.{own, own-fits}
+use Rattle.exports.proofs.Numbers.{own, own-fits, among}
 use Rattle.exports.proofs.PairList.{one-pair, pairs-same}
 use Rattle.exports.proofs.Puts.{all-set}
 
 -- ---- the nearest float
-module _ (p q : ℤ) (out : List Float) where
-  abbrev Nearest : ℕ → List Float → Type 0
+module _ (p q : ℤ) (out : List ℕ) where
+  abbrev Nearest : ℕ → List ℕ → Type 0
   Nearest number left = (number ≡ nearest-number p q out) × (left ≡ nearest-after p q out)
 
   nearest-refused : (k : ℕ) → k ≡ nearest-number p q out → (k ≡ 0 → ⊥) → Nearest k out
@@ -66,34 +70,42 @@ module _ (p q : ℤ) (out : List Float) where
         let none : k ≡ 0 → ⊥ = λ z. let f : _≡_ {A = ℕ} 0 1 = ap length (sym (ap figures-of e) ∙ answered (sym found ∙ z)) in omega arith in
         nearest-refused k (found ∙ sym below) none
 
-    pub nearest-by-float : (x : Float) → r ≡ Rounded x → Nearest 0 (set out 0 x)
-    unfolding number-of figures-of nearest-after
-    nearest-by-float x e =
-        let taken : nearest-refusal p q ≡ 0 = sym number ∙ ap number-of e in
-        let z = below ∙ taken in
-        (sym z, all-set out (x ∷ []) (sym fit) ∙ sym (ap figures-of e) ∙ answered taken ∙ sym (worked-when-taken _ _ _ z))
+    -- the float that is answered is the nearest, which is no NaN
+    module _ (x : Float) (e : r ≡ Rounded x) where
+      taken-float : nearest-refusal p q ≡ 0
+      unfolding number-of
+      taken-float = sym number ∙ ap number-of e
+
+      pub float-is : x ≡ nearest-float p q
+      unfolding figures-of
+      float-is = let f = sym (ap figures-of e) ∙ answered taken-float in cc
+
+      pub float-readable : T (not (isNan x))
+      float-readable = rw float-is (not-nan p q)
+
+      pub nearest-by-float : Nearest 0 (set out 0 (toBits binary64 x))
+      unfolding nearest-after
+      nearest-by-float =
+          let z = below ∙ taken-float in (
+            sym z,
+            all-set out (toBits binary64 x ∷ []) (sym fit)
+                ∙ ap (λ (v : Float). toBits binary64 v ∷ []) float-is
+                ∙ sym (worked-when-taken _ _ _ z),
+          )
 
 -- ---- the float report
-
--- where a list does not fit, it and others do not
-among : (a b c g : Bool) (others : Bool) → (a || (b || (g || false))) ≡ true → (a || (b || (c || (g || others)))) ≡ true
-among true b c g others e = refl
-among false true c g others e = refl
-among false false true g others e = refl
-among false false false true others e = refl
-among false false false false others e = absurd (subst T (sym e) tt)
 
 -- whether a class has its pair is whether it has weight
 tells-weight : (b : Bool) (x : Float) → tells (cond b Weightless (Figure x)) ≡ cond b 0 1
 tells-weight true x = refl
 tells-weight false x = refl
 
-module _ (n : ℕ) (values : List ℤ) (weights classes : List ℕ) (globals locals pairs : List Float) (has-pair : List ℕ) where
+module _ (n : ℕ) (values : List ℤ) (weights classes : List ℕ) (globals locals pairs has-pair : List ℕ) where
   abbrev said : ℕ
   said = report-number n values weights classes globals locals pairs has-pair
 
   -- what the call promises of its number and of the four lists that it leaves
-  abbrev Reports : ℕ → List Float → List Float → List Float → List ℕ → Type 0
+  abbrev Reports : ℕ → List ℕ → List ℕ → List ℕ → List ℕ → Type 0
   Reports number globals′ locals′ pairs′ has-pair′ =
       (number ≡ said)
       × ((globals′ ≡ globals-after n values weights classes globals locals pairs has-pair)
@@ -156,40 +168,47 @@ module _ (n : ℕ) (values : List ℤ) (weights classes : List ℕ) (globals loc
         (rw (ne-eqb (length has-pair) 9 f)
         (beside (not (eqb (length locals) n)) _ (beside (not (eqb (length pairs) 18)) true refl)))
 
-    module _ (eighteen : length pairs ≡ 18) (nine : length has-pair ≡ 9) where
-      plainly : said ≡ plain-refusal n values weights classes locals
+    module _
+        (eighteen : length pairs ≡ 18) (nine : length has-pair ≡ 9)
+        (rows own-locals : List ℤ) (rows-fit : length rows ≡ 27) (own-locals-fit : length own-locals ≡ n) where
+      plainly : said ≡ plain-refusal n values weights classes rows own-locals locals
       unfolding report-number plain-refusal class-rules call-rules
       plainly =
           rw (
             eq-eqb (length globals) 2 (own-fits n values weights (length globals) 2 fit),
             eq-eqb (length pairs) 18 eighteen,
             eq-eqb (length has-pair) 9 nine,
+            eq-eqb (length rows) 27 rows-fit,
+            eq-eqb (length own-locals) n own-locals-fit,
           )
           refl
 
       -- what the plain report promises of its answer, of the pairs of the classes and of the list that it leaves
       module _
-          (r : report-answer.Answer) (of-classes : List Pair) (left : List Float)
-          (number : report.number-of r ≡ plain-refusal n values weights classes locals)
-          (whole : report.pair-in r ≡ plain-whole n values weights classes locals)
-          (in-classes : of-classes ≡ plain-classes n values weights classes locals)
-          (lent : left ≡ plain-figures n values weights classes locals) where
-        one-pair-told : plain-refusal n values weights classes locals ≡ 0 → report.pair-in r ≡ job-pair n values weights ∷ []
+          (r : report-answer.Answer) (of-classes : List Pair) (left : List ℕ)
+          (number : report.number-of r ≡ plain-refusal n values weights classes rows own-locals locals)
+          (whole : report.pair-in r ≡ plain-whole n values weights classes rows own-locals locals)
+          (in-classes : of-classes ≡ plain-classes n values weights classes rows own-locals locals)
+          (lent : left ≡ plain-figures n values weights classes rows own-locals locals) where
+        one-pair-told : plain-refusal n values weights classes rows own-locals locals ≡ 0 → report.pair-in r ≡ job-pair n values weights ∷ []
         unfolding plain-whole
         one-pair-told taken = whole ∙ worked-when-taken _ _ _ taken
 
         pub report-by-refusal : (k : ℕ) → r ≡ reported.Refused k → Reports k globals left pairs has-pair
         unfolding report.number-of report.pair-in plain-figures
         report-by-refusal k e =
-            let found : k ≡ plain-refusal n values weights classes locals = sym (ap report.number-of e) ∙ number in
+            let found : k ≡ plain-refusal n values weights classes rows own-locals locals = sym (ap report.number-of e) ∙ number in
             let some : k ≡ 0 → ⊥ = λ z.
             let f : _≡_ {A = ℕ} 0 1 = ap length (sym (ap report.pair-in e) ∙ one-pair-told (sym found ∙ z)) in omega arith in
             let kept : left ≡ locals = lent ∙ kept-when-refused _ _ _ (λ z. some (found ∙ z)) in
             let all = report-refused k (found ∙ sym plainly) some in
             (all .0, (all .1 .0, (kept ∙ all .1 .1 .0, all .1 .1 .1)))
 
-        module _ (pair : Pair) (e : r ≡ reported.Reported pair) where
-          taken : plain-refusal n values weights classes locals ≡ 0
+        module _ (whole-job : Whole) (e : r ≡ reported.Reported whole-job) where
+          abbrev pair : Pair
+          pair = whole-job .pair
+
+          taken : plain-refusal n values weights classes rows own-locals locals ≡ 0
           unfolding report.number-of
           taken = sym number ∙ ap report.number-of e
 
@@ -205,6 +224,14 @@ module _ (n : ℕ) (values : List ℤ) (weights classes : List ℕ) (globals loc
           class-is k h =
               table-held (class-pair n values weights classes) 9 no-pair of-classes (in-classes ∙ worked-when-taken _ _ _ taken) k h
 
+          pub pair-readable : ReadablePair (whole-job .pair)
+          pair-readable = job-readable n values weights (whole-job .pair) pair-is
+
+          pub pairs-readable : ReadablePairs of-classes
+          unfolding plain-classes
+          pairs-readable =
+              classes-readable n values weights classes of-classes (in-classes ∙ worked-when-taken _ _ _ taken)
+
           weight-told :
               (k : ℕ) →
               tells (class-pair n values weights classes k .moran) ≡ cond (is-zero (class-row-of n values weights classes k .weight)) 0 1
@@ -212,7 +239,7 @@ module _ (n : ℕ) (values : List ℤ) (weights classes : List ℕ) (globals loc
           weight-told k = tells-weight (is-zero (class-row-of n values weights classes k .weight)) _
 
           pub report-by-pair :
-              (globals′ pairs′ : List Float) (has-pair′ : List ℕ) →
+              (globals′ pairs′ : List ℕ) (has-pair′ : List ℕ) →
               globals′ ≡ put-figure (put-figure globals 0 (pair .moran)) 1 (pair .geary) →
               pairs′ ≡ pairs-over 9 (λ k. getD of-classes k no-pair) pairs →
               has-pair′ ≡ table (λ k. tells (getD of-classes k no-pair .moran)) 9 →

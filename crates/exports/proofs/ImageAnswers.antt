@@ -1,14 +1,15 @@
 -- The ways out of the calls on an image: what is refused below is refused here and leaves every list, and what is answered there is put
 -- into the lent lists. Assumes nothing.
 use mathlib.Core.Path.{_≡_, refl, sym, ap, _∙_}
-use mathlib.Core.Bool.{false}
+use mathlib.Core.Bool.{true, false, not}
 use mathlib.Core.List.{List, [], _∷_}
 use Prim.Native.Nat.{ℕ, _≤_}
 use native.Mathlib.Omega.{arith}
-use borrow.Author.Tests.{le-ltb, eq-eqb, ne-eqb}
+use borrow.Author.Tests.{eq-eqb, ne-eqb}
+use lib.Dec.{eqb}
 use lib.ListN.{length}
 use Rattle.whole.specs.Rules.{Rule, first-broken, outside, misfits}
-use Rattle.whole.proofs.Rules.{kept-when-refused, worked-when-taken, holds, first-here}
+use Rattle.whole.proofs.Rules.{kept-when-refused, worked-when-taken, holds, first-here, beside}
 use Rattle.image.specs.Image.{zone-count-rule}
 use Rattle.image.specs.Reader.{Buffers, read-rules, read-refusal, read-counts, read-left}
 use Rattle.image.specs.Writer.{write-rules, write-refusal, write-length, write-left}
@@ -23,7 +24,10 @@ use Rattle.writer.specs.Answers as writer
 use Rattle.writer.specs.declared.Answer as writer-answer
 use Rattle.writer.specs.declared.Answer.the-variants as written
 use Rattle.writer.proofs.Theorems as writer-theorems
-use Rattle.report.specs.Text.{report-text, page-left}
+use Rattle.report.specs.Text as report
+use Rattle.report.specs.Text.{print-refusal, print-length, page-left}
+use Rattle.report.specs.declared.Answer as report-answer
+use Rattle.report.specs.declared.Answer.the-variants as printed
 use Rattle.exports.specs.Images.{read-number, buffers-after, counts-after, given-by}
 use Rattle.exports.specs.Images.{write-number, out-after, length-after, text-number, text-after, text-length-after}
 
@@ -151,32 +155,47 @@ module _ (image text bytes : List ℕ) where
       (number ≡ text-number image text bytes)
       × ((left ≡ text-after image text bytes) × (left-bytes ≡ text-length-after image text bytes))
 
-  report-refused : 2 ≡ text-number image text bytes → Reports 2 text bytes
+  report-refused : (k : ℕ) → k ≡ text-number image text bytes → (k ≡ 0 → ⊥) → Reports k text bytes
   unfolding text-after text-length-after
-  report-refused e =
-      let some : text-number image text bytes ≡ 0 → ⊥ = λ z. let f : _≡_ {A = ℕ} 2 0 = e ∙ z in omega arith in
+  report-refused k e f =
+      let some : text-number image text bytes ≡ 0 → ⊥ = λ z. f (e ∙ z) in
       (e, (sym (kept-when-refused _ _ _ some), sym (kept-when-refused _ _ _ some)))
 
-  pub report-by-text : (length text ≡ 16384 → ⊥) → Reports 2 text bytes
+  pub report-by-place : (length bytes ≡ 1 → ⊥) → Reports 2 text bytes
   unfolding text-number
-  report-by-text f = report-refused (rw (ne-eqb (length text) 16384 f) refl)
+  report-by-place f =
+      let some : misfits ((length text, 16384) ∷ (length bytes, 1) ∷ []) ≡ true =
+      rw (ne-eqb (length bytes) 1 f) (beside (not (eqb (length text) 16384)) true refl) in
+      report-refused 2 (rw some refl) (λ z. omega arith)
 
-  module _ (room : length text ≡ 16384) where
-    pub report-by-place : (length bytes ≡ 1 → ⊥) → Reports 2 text bytes
-    unfolding text-number
-    report-by-place f = report-refused (rw (eq-eqb (length text) 16384 room, ne-eqb (length bytes) 1 f) refl)
+  -- what the report promises of its answer and of the page that it leaves
+  module _
+      (fit : length bytes ≡ 1) (r : report-answer.Answer) (left : List ℕ)
+      (number : report.number-of r ≡ print-refusal image text)
+      (long : report.length-in r ≡ print-length image text)
+      (stored : left ≡ page-left image text) where
+    report-below : text-number image text bytes ≡ print-refusal image text
+    unfolding text-number print-refusal
+    report-below = rw (eq-eqb (length bytes) 1 fit) refl
 
-    -- what the report promises of its answer and of the page that it leaves
-    pub report-by-length :
-        length bytes ≡ 1 → (many : ℕ) (left put : List ℕ) → many ≡ length (report-text image) → many ≤ 16384 →
-        left ≡ page-left image text → put ≡ many ∷ [] → Reports 0 left put
-    unfolding text-number page-left text-after text-length-after
-    report-by-length fit many left put e few stored f =
-        let z : 0 ≡ text-number image text bytes = rw (eq-eqb (length text) 16384 room, eq-eqb (length bytes) 1 fit) refl in
-        let held = le-ltb (length text) (length (report-text image)) (omega arith) in (
-          z,
-          (
-            stored ∙ rw held refl ∙ sym (worked-when-taken _ _ _ (sym z)),
-            f ∙ ap (λ k. k ∷ []) e ∙ sym (worked-when-taken _ _ _ (sym z)),
-          ),
+    pub report-by-refusal : (k : ℕ) → r ≡ printed.Refused k → Reports k left bytes
+    unfolding report.number-of report.length-in print-length page-left
+    report-by-refusal k e =
+        let found : k ≡ print-refusal image text = sym (ap report.number-of e) ∙ number in
+        let some : k ≡ 0 → ⊥ = λ z.
+        let f : _≡_ {A = ℕ} 0 1 =
+        ap length (sym (ap report.length-in e) ∙ long ∙ worked-when-taken _ _ _ (sym found ∙ z)) in
+        omega arith in
+        let kept : left ≡ text = stored ∙ kept-when-refused _ _ _ (λ z. some (found ∙ z)) in
+        let told = report-refused k (found ∙ sym report-below) some in
+        (told .0, (kept ∙ told .1 .0, told .1 .1))
+
+    pub report-by-length : (many : ℕ) (put : List ℕ) → r ≡ printed.Printed many → put ≡ many ∷ [] → Reports 0 left put
+    unfolding report.number-of report.length-in print-length page-left text-after text-length-after
+    report-by-length many put e f =
+        let taken : print-refusal image text ≡ 0 = sym number ∙ ap report.number-of e in
+        let z = report-below ∙ taken in
+        let told = sym (ap report.length-in e) ∙ long ∙ worked-when-taken _ _ _ taken in (
+          sym z,
+          (stored ∙ worked-when-taken _ _ _ taken ∙ sym (worked-when-taken _ _ _ z), f ∙ told ∙ sym (worked-when-taken _ _ _ z)),
         )

@@ -7,6 +7,7 @@ use lib.IntN.{ℤ}
 use lib.ListN.{length}
 use Rattle.whole.proofs.Rules.{kept-when-refused, worked-when-taken}
 use Rattle.account.specs.Answers.{five, number-of, figures-of, account-figures, account-locals}
+use Rattle.account.specs.Classes.{class-refusal, class-account-figures, class-account-rows, class-account-locals}
 use Rattle.account.specs.Rank as rank
 use Rattle.account.specs.Refusals.{account-refusal}
 use Rattle.account.specs.declared.Sums.{Sums}
@@ -16,9 +17,11 @@ use Rattle.account.specs.declared.Counts.{Counts}
 use Rattle.account.specs.declared.RankAnswer.{RankAnswer}
 use Rattle.account.specs.declared.RankAnswer.the-variants as rank-answer
 use Rattle.account.proofs.Theorems.{never-refused, accounted-sums, locals-left}
+use Rattle.account.proofs.ClassAnswered.{class-refused, class-accounted}
 use Rattle.account.proofs.RankTheorems as rank-theorems
 use Rattle.exports.specs.Jobs.{account-number, locals-after, sums-after, rank-number, rank-after}
-use Rattle.exports.proofs.Numbers.{own, account-sizes, account-below, rank-sizes, rank-below}
+use Rattle.exports.specs.Jobs.{class-number, rows-after, class-locals-after}
+use Rattle.exports.proofs.Numbers.{own, account-sizes, account-below, rank-sizes, rank-below, class-sizes, class-below}
 
 module _ (n : ℕ) (values : List ℤ) (weights : List ℕ) where
   -- ---- the account
@@ -100,3 +103,55 @@ module _ (n : ℕ) (values : List ℤ) (weights : List ℕ) where
           let taken : rank.rank-refusal n values weights shuffles ≡ 0 = sym number ∙ ap rank.number-of e in
           let z = under ∙ taken in
           (sym z, f ∙ rank-theorems.ranked-counts n values weights shuffles taken r told three e ∙ sym (worked-when-taken _ _ _ z))
+
+  -- ---- the class account
+  module _ (classes : List ℕ) (rows locals : List ℤ) where
+    abbrev Classes : ℕ → List ℤ → List ℤ → Type 0
+    Classes number left-rows left-locals =
+        (number ≡ class-number n values weights classes rows locals)
+        × ((left-rows ≡ rows-after n values weights classes rows locals)
+        × (left-locals ≡ class-locals-after n values weights classes rows locals))
+
+    class-left : (k : ℕ) → k ≡ class-number n values weights classes rows locals → (k ≡ 0 → ⊥) → Classes k rows locals
+    unfolding rows-after class-locals-after
+    class-left k e f =
+        let some : class-number n values weights classes rows locals ≡ 0 → ⊥ = λ z. f (e ∙ z) in
+        (e, (sym (kept-when-refused _ _ _ some), sym (kept-when-refused _ _ _ some)))
+
+    pub class-by-sizes : (k : ℕ) → k ≡ own n values weights (length rows) 27 → (k ≡ 0 → ⊥) → Classes k rows locals
+    class-by-sizes k e f = class-left k (class-sizes n values weights classes rows locals k e f) f
+
+    -- what the class account promises of its answer r and of the lists that it leaves; `places` is not lent to the call itself
+    module _
+        (places : List ℤ) (fit : length places ≡ n) (r : Answer) (left-rows left-locals : List ℤ)
+        (number : number-of r ≡ class-refusal n values weights classes rows locals places)
+        (figures : figures-of r ≡ class-account-figures n values weights classes rows locals places)
+        (in-rows : left-rows ≡ class-account-rows n values weights classes rows locals places)
+        (in-locals : left-locals ≡ class-account-locals n values weights classes rows locals places) where
+      class-same : class-number n values weights classes rows locals ≡ class-refusal n values weights classes rows locals places
+      class-same = class-below n values weights classes rows locals places fit
+
+      pub class-by-refusal : (k : ℕ) → r ≡ Refused k → Classes k left-rows left-locals
+      unfolding class-account-rows class-account-locals
+      class-by-refusal k e =
+          let found = class-refused n values weights classes rows locals places r number figures k e in
+          let some : class-refusal n values weights classes rows locals places ≡ 0 → ⊥ = λ z. found .1 (found .0 ∙ z) in
+          let told = class-left k (found .0 ∙ sym class-same) (found .1) in (
+            told .0,
+            (
+              in-rows ∙ kept-when-refused _ _ _ some ∙ told .1 .0,
+              in-locals ∙ kept-when-refused _ _ _ some ∙ told .1 .1,
+            ),
+          )
+
+      pub class-by-sums : (five-sums : Sums) → r ≡ Accounted five-sums → Classes 0 left-rows left-locals
+      unfolding class-account-rows class-account-locals rows-after class-locals-after
+      class-by-sums five-sums e =
+          let taken = class-accounted n values weights classes rows locals places r number figures five-sums e .0 in
+          let z = class-same ∙ taken in (
+            sym z,
+            (
+              in-rows ∙ worked-when-taken _ _ _ taken ∙ sym (worked-when-taken _ _ _ z),
+              in-locals ∙ worked-when-taken _ _ _ taken ∙ sym (worked-when-taken _ _ _ z),
+            ),
+          )

@@ -8,7 +8,7 @@ use Rattle.image.specs.Image.{job-of, job-bytes, image-rules, zone-count-rule}
 use Rattle.image.specs.Reader.{Buffers, buffer-lengths, counts-in, filled}
 use Rattle.image.specs.Writer.{lent-job, write-rules}
 use Rattle.image.specs.declared.Given.{Given}
-use Rattle.report.specs.Text.{report-text}
+use Rattle.report.specs.Text.{image-text}
 
 -- ---- dca_read: six counts are lent beside the six buffers
 module _ (image : List ℕ) (lent : Buffers) (counts : List ℕ) where
@@ -58,13 +58,13 @@ module _ (lent : Buffers) (counts out bytes : List ℕ) where
 
 -- ---- dca_report: 16,384 bytes are lent for the text, and one place for its length
 module _ (image text bytes : List ℕ) where
-  -- 2 alone: the text of an image that is refused says so
+  -- 2, then the image by place; 0 where no rule is broken
   unfoldable pub text-number : ℕ
-  text-number = first-broken ((misfits ((length text, 16384) ∷ (length bytes, 1) ∷ []), 2) ∷ [])
+  text-number = first-broken ((misfits ((length text, 16384) ∷ (length bytes, 1) ∷ []), 2) ∷ image-rules image)
 
   -- the text at the front after the call, and its length
   unfoldable pub text-after : List ℕ
-  text-after = unless-refused text-number (over (report-text image) text) text
+  text-after = unless-refused text-number (over (image-text image) text) text
 
   unfoldable pub text-length-after : List ℕ
-  text-length-after = unless-refused text-number (length (report-text image) ∷ []) bytes
+  text-length-after = unless-refused text-number (length (image-text image) ∷ []) bytes

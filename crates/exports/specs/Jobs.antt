@@ -1,5 +1,5 @@
 -- The calls on values and weights for other software: what the account and the rank answer is put into one more lent list, whose length is
--- judged with the others'. Every other call is the one of its own crate. Assumes nothing.
+-- judged with the others'; the class account answers its number alone. Every other call is the one of its own crate. Assumes nothing.
 use mathlib.Core.List.{List, [], _∷_}
 use Prim.Native.Nat.{ℕ, _*_}
 use lib.IntN.{ℤ}
@@ -7,6 +7,7 @@ use lib.ListN.{length}
 use Rattle.whole.specs.Rules.{first-broken, unless-refused}
 use Rattle.shuffles.specs.Shuffles.{shuffle-count, any-lacking}
 use Rattle.account.specs.Answers.{job-figures, job-locals}
+use Rattle.account.specs.Classes.{class-sums, class-locals, class-rules}
 use Rattle.account.specs.Rank.{job-rank}
 use Rattle.account.specs.Refusals.{call-rules}
 
@@ -23,6 +24,20 @@ module _ (n : ℕ) (values : List ℤ) (weights : List ℕ) where
 
   unfoldable pub sums-after : List ℤ → List ℤ → List ℤ
   sums-after locals sums = unless-refused (account-number locals sums) (job-figures n values weights) sums
+
+  -- ---- dca_class_account: the 27 sums of the nine rows and the 9 × n local numerators of the classes are lent
+
+  -- 1 to 7, then 9; 0 where no rule is broken
+  unfoldable pub class-number : List ℕ → List ℤ → List ℤ → ℕ
+  class-number classes rows locals =
+      first-broken (class-rules n values weights classes ((length rows, 27) ∷ (length locals, 9 * n) ∷ []))
+
+  -- W, P and G of class 0, of class 1, .. and the local numerators of class 0, of class 1, .. after the call
+  unfoldable pub rows-after : List ℕ → List ℤ → List ℤ → List ℤ
+  rows-after classes rows locals = unless-refused (class-number classes rows locals) (class-sums n values weights classes) rows
+
+  unfoldable pub class-locals-after : List ℕ → List ℤ → List ℤ → List ℤ
+  class-locals-after classes rows locals = unless-refused (class-number classes rows locals) (class-locals n values weights classes) locals
 
   -- ---- dca_rank: three counts are lent
 

@@ -1,4 +1,4 @@
-// The nearest float and the float report.
+// The nearest float and the float report. Lists of floats are lent as their bits, so that what a refusal leaves in them is said to the bit.
 use crate::storing;
 ghost use mathlib.Core.Path.{_≡_};
 ghost use Rattle.exports.specs.Floats.{nearest-number, nearest-after};
@@ -6,7 +6,7 @@ ghost use Rattle.exports.specs.Floats.{report-number, globals-after, fig
 
 // The nearest float to p / q goes to `out`, 1 place.
 #[no_mangle]
-pub extern "C" fn dca_nearest(p: i64, q: i64, out: &mut [f64]) -> u8
+pub extern "C" fn dca_nearest(p: i64, q: i64, out: &mut [u64]) -> u8
     ensures number { λ r. ⌜ r ≡ nearest-number p q (now (out .entry)) ⌝ }
     ensures lent { λ _. ⌜ now (out .exit) ≡ nearest-after p q (now (out .entry)) ⌝ }
 {
@@ -16,7 +16,7 @@ pub extern "C" fn dca_nearest(p: i64, q: i64, out: &mut [f64]) -> u8
     match nearest::nearest(p, q) {
         nearest::Answer::Refused(number) => number,
         nearest::Answer::Rounded(x) => {
-            out[0] = x;
+            out[0] = f64::to_bits(x);
             0
         }
     }
@@ -31,9 +31,9 @@ pub extern "C" fn dca_float_report(
     values: &[i32],
     weights: &[u8],
     classes: &[u8],
-    globals: &mut [f64],
-    locals: &mut [f64],
-    pairs: &mut [f64],
+    globals: &mut [u64],
+    locals: &mut [u64],
+    pairs: &mut [u64],
     has_pair: &mut [u8],
 ) -> u8
     ensures number { λ r. ⌜ r ≡ report-number n (now (values .entry)) (now (weights .entry)) (now (classes .entry))
@@ -57,12 +57,24 @@ pub extern "C" fn dca_float_report(
     if has_pair.len() != 9 {
         return 2;
     }
-    let report = coefficients::plain_report(n, values, weights, classes, locals);
-    let whole = report.whole;
+    // The whole numbers are not asked for.
+    let mut rows: [i64; 27] = [0; 27];
+    let mut space: [i64; 64] = [0; 64];
+    let report = coefficients::plain_report(
+        n,
+        values,
+        weights,
+        classes,
+        &mut rows,
+        &mut space[..n],
+        locals,
+    );
+    let answer = report.whole;
     let of_classes = report.classes;
-    match whole {
+    match answer {
         coefficients::Answer::Refused(number) => number,
-        coefficients::Answer::Reported(pair) => {
+        coefficients::Answer::Reported(whole) => {
+            let pair = whole.pair;
             storing::put_pair(globals, 0, pair);
             storing::put_pairs(pairs, of_classes);
             storing::put_having(has_pair, of_classes);

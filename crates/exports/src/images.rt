@@ -99,20 +99,21 @@ pub extern "C" fn dca_write(
     }
 }
 
-// The report of the image, or `refused` and the number, goes to the front of `text`, 16,384 places, and its length to `filled`, 1 place.
+// The report of the image goes to the front of `text`, 16,384 places, and its length to `filled`, 1 place.
 #[no_mangle]
 pub extern "C" fn dca_report(image: &[u8], text: &mut [u8], filled: &mut [u64]) -> u8
     ensures number { λ r. ⌜ r ≡ text-number (now (image .entry)) (now (text .entry)) (now (filled .entry)) ⌝ }
     ensures text { λ _. ⌜ now (text .exit) ≡ text-after (now (image .entry)) (now (text .entry)) (now (filled .entry)) ⌝ }
     ensures filled { λ _. ⌜ now (filled .exit) ≡ text-length-after (now (image .entry)) (now (text .entry)) (now (filled .entry)) ⌝ }
 {
-    if text.len() != 16384 {
-        return 2;
-    }
     if filled.len() != 1 {
         return 2;
     }
-    let bytes = report::report(image, text);
-    storing::put_length(bytes, filled);
-    0
+    match report::report(image, text) {
+        report::Answer::Refused(number) => number,
+        report::Answer::Printed(bytes) => {
+            storing::put_length(bytes, filled);
+            0
+        }
+    }
 }

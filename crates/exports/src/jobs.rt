@@ -1,11 +1,10 @@
 // The account, the class account, the hot list and the rank.
 use crate::storing;
 ghost use mathlib.Core.Path.{_≡_};
-ghost use lib.ListN.{length};
-ghost use Rattle.account.specs.Classes.{class-refusal, class-account-sums, class-account-locals};
 ghost use Rattle.account.specs.Refusals.{account-refusal};
 ghost use Rattle.hot_list.specs.HotList.{hot-zones};
 ghost use Rattle.exports.specs.Jobs.{account-number, locals-after, sums-after, rank-number, rank-after};
+ghost use Rattle.exports.specs.Jobs.{class-number, rows-after, class-locals-after};
 
 // The local numerators go to `locals`, n places, and S, M, W, P, G to `sums`, 5 places.
 #[no_mangle]
@@ -46,16 +45,31 @@ pub extern "C" fn dca_class_account(
     rows: &mut [i64],
     class_locals: &mut [i64],
 ) -> u8
-    ensures number { λ r. ⌜ r ≡ class-refusal 27 n
-        (now (values .entry)) (now (weights .entry)) (now (classes .entry))
-        (length (now (rows .entry))) (length (now («class_locals» .entry))) ⌝ }
-    ensures sums { λ _. ⌜ now (rows .exit) ≡ class-account-sums n
+    ensures number { λ r. ⌜ r ≡ class-number n (now (values .entry)) (now (weights .entry)) (now (classes .entry))
+        (now (rows .entry)) (now («class_locals» .entry)) ⌝ }
+    ensures rows { λ _. ⌜ now (rows .exit) ≡ rows-after n (now (values .entry)) (now (weights .entry)) (now (classes .entry))
+        (now (rows .entry)) (now («class_locals» .entry)) ⌝ }
+    ensures numerators { λ _. ⌜ now («class_locals» .exit) ≡ class-locals-after n
         (now (values .entry)) (now (weights .entry)) (now (classes .entry)) (now (rows .entry)) (now («class_locals» .entry)) ⌝ }
-    ensures numerators { λ _. ⌜ now («class_locals» .exit) ≡ class-account-locals n
-        (now (values .entry)) (now (weights .entry)) (now (classes .entry)) 27
-        (length (now (rows .entry))) (now («class_locals» .entry)) ⌝ }
 {
-    account::class_account(n, values, weights, classes, rows, class_locals)
+    let sizes = judges::judge_sizes(n, values.len(), weights.len(), rows.len(), 27);
+    if sizes != 0 {
+        return sizes;
+    }
+    // The job's own local numerators are not asked for.
+    let mut space: [i64; 64] = [0; 64];
+    match account::class_account(
+        n,
+        values,
+        weights,
+        classes,
+        rows,
+        class_locals,
+        &mut space[..n],
+    ) {
+        account::Answer::Refused(number) => number,
+        account::Answer::Accounted(_) => 0,
+    }
 }
 
 // The zone numbers by falling L(i), equal ones by rising zone number, go to `zones`, n places.

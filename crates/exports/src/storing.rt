@@ -13,6 +13,7 @@ ghost use Rattle.account.specs.Answers.{five};
 ghost use Rattle.account.specs.Rank.{three};
 ghost use Rattle.reader.specs.Answers.{six};
 ghost use Rattle.coefficients.specs.FloatReport.{no-pair};
+ghost use Rattle.coefficients.specs.Steps.{Readable, ReadablePair, ReadablePairs};
 ghost use Rattle.exports.specs.Floats.{pairs-over};
 ghost use Rattle.exports.specs.Images.{given-by};
 ghost use Rattle.exports.specs.Steps.{put-figure, tells};
@@ -88,23 +89,25 @@ pub(super) fn given(counts: &[u64]) -> Given
     }
 }
 
-// A coefficient into its place, which is left as it was where there is none.
-fn put_coefficient(figures: &mut [f64], place: usize, coefficient: Coefficient)
+// The bits of a coefficient into its place, which is left as it was where there is none.
+fn put_coefficient(figures: &mut [u64], place: usize, coefficient: Coefficient)
     requires { ⌜ place < length (now figures) ⌝ }
+    requires { ⌜ Readable coefficient ⌝ }
     ensures { λ _. ⌜ now (figures .exit) ≡ put-figure (now (figures .entry)) place coefficient ⌝ }
 {
     match coefficient {
         Coefficient::Figure(x) => {
-            figures[place] = x;
+            figures[place] = f64::to_bits(x);
         }
         Coefficient::Weightless => {}
     }
 }
 
 // Moran and Geary of pair k.
-pub(super) fn put_pair(figures: &mut [f64], k: usize, pair: Pair)
+pub(super) fn put_pair(figures: &mut [u64], k: usize, pair: Pair)
     requires { ⌜ k < 9 ⌝ }
     requires { ⌜ k * 2 + 1 < length (now figures) ⌝ }
+    requires { ⌜ ReadablePair pair ⌝ }
     ensures { λ _. ⌜ now (figures .exit)
         ≡ put-figure (put-figure (now (figures .entry)) (k * 2) (pair .moran)) (k * 2 + 1) (pair .geary) ⌝ }
 {
@@ -116,8 +119,9 @@ pub(super) fn put_pair(figures: &mut [f64], k: usize, pair: Pair)
 }
 
 // The pairs of the nine classes.
-pub(super) fn put_pairs(figures: &mut [f64], pairs: [Pair; 9])
+pub(super) fn put_pairs(figures: &mut [u64], pairs: [Pair; 9])
     requires { ⌜ length (now figures) ≡ 18 ⌝ }
+    requires { ⌜ ReadablePairs pairs ⌝ }
     ensures { λ _. ⌜ now (figures .exit) ≡ pairs-over 9 (λ k. getD pairs k no-pair) (now (figures .entry)) ⌝ }
 {
     let mut k: usize = 0;

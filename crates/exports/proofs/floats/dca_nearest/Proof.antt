@@ -5,7 +5,7 @@ use mir.Syntax.{w64}
 use mir.ValLaws.{toZ-ofZ}
 use Rattle.whole.proofs.Machine.{r64}
 use Rattle.nearest.specs.Answers.{number-of, figures-of, nearest-refusal, nearest-figures}
-use Rattle.exports.proofs.FloatAnswers.{nearest-by-length, nearest-by-refusal, nearest-by-float}
+use Rattle.exports.proofs.FloatAnswers.{nearest-by-length, nearest-by-refusal, float-readable, nearest-by-float}
 use borrow.Author.Needs.{needs}
 use Rattle.exports.proofs.floats.dca_nearest.Statement.{statement}
 use Rattle.exports.proofs.floats.dca_nearest.Tie as tie
@@ -42,6 +42,12 @@ enum-known-number c = search needs
 enum-known-x : tie.Need-enum-known-x
 enum-known-x c = search needs
 
+float-to-bits-out : tie.Need-float-to-bits-out
+float-to-bits-out c =
+    let b = c .before .before .before in
+    let a = b .before .before .before .args in
+    float-readable (a .p) (a .q) (a .out .now) (b .before .if1 .left) _ (number b) (figures b) _ (c .before .x .given .1)
+
 slice-write-out : tie.Need-slice-write-out
 slice-write-out c = search needs
 
@@ -70,6 +76,7 @@ dca-nearest-spec =
     nearest-requires
     enum-known-number
     enum-known-x
+    float-to-bits-out
     slice-write-out
     returns-2
     same-length

@@ -1,5 +1,6 @@
 -- `put_coefficient` meets its contract: a store, or none. Assumes nothing.
-use mathlib.Core.Path.{sym, ap}
+use mathlib.Core.Path.{sym, ap, subst}
+use Rattle.coefficients.specs.Steps.{Readable}
 use Rattle.exports.specs.Steps.{put-figure}
 use borrow.Author.Needs.{needs}
 use Rattle.exports.proofs.storing.put_coefficient.Statement.{statement}
@@ -7,6 +8,9 @@ use Rattle.exports.proofs.storing.put_coefficient.Tie as tie
 
 enum-known-coefficient : tie.Need-enum-known-coefficient
 enum-known-coefficient c = search needs
+
+float-to-bits-figures : tie.Need-float-to-bits-figures
+float-to-bits-figures c = subst Readable (c .before .coefficient .given .1) (c .before .before .before .pre .1)
 
 mul-figures : tie.Need-mul-figures
 mul-figures c = search needs
@@ -31,6 +35,7 @@ put-coefficient-spec =
     tie.close
     (tie.spec
     enum-known-coefficient
+    float-to-bits-figures
     mul-figures
     slice-write-figures
     enum-told

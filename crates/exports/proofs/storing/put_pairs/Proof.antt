@@ -1,9 +1,10 @@
 -- `put_pairs` meets its contract. The loop's invariant: the pairs passed are put, and the other places are as they were. Assumes nothing.
 use mathlib.Core.Path.{_≡_, sym, ap, _∙_, subst}
-use Prim.Native.Nat.{_+_, _*_, _-_}
+use Prim.Native.Nat.{_+_, _*_, _-_, _<_}
 use native.Mathlib.Omega.{arith}
-use lib.ListN.{getD}
+use lib.ListN.{length, getD}
 use Rattle.coefficients.specs.FloatReport.{no-pair}
+use Rattle.coefficients.specs.Steps.{ReadablePair}
 use Rattle.coefficients.specs.declared.Pair.{Pair}
 use Rattle.report.proofs.LineLaws.{there}
 use Rattle.exports.specs.Steps.{put-figure}
@@ -18,7 +19,7 @@ abbrev μ-loop : tie.MeasureT-loop
 μ-loop figures₀ pairs k₀ figures k = 9 - k
 
 loop-holds : tie.Need-loop-holds Inv-loop μ-loop
-loop-holds c = none-put 9 _ _ (c .before .pre)
+loop-holds c = none-put 9 _ _ (c .before .pre .0)
 
 mul-pair : tie.Need-mul-pair Inv-loop μ-loop
 mul-pair c = omega (arith, c .loop-test .taken)
@@ -28,9 +29,17 @@ array-copy-out-pair c = c .loop-test .taken
 
 put-pair-requires : tie.Need-put-pair-requires Inv-loop μ-loop
 put-pair-requires c κs =
-    let l = c .before .before .before .loop in
-    let inside = c .before .before .loop-test .taken in
-    (inside, omega (arith, inside, l .inv .count))
+    let t = c .before .before in
+    let l = t .before .loop in
+    let s = t .before .before .before in
+    let inside = t .loop-test .taken in
+    let here : l .k < length (s .args .t2) = omega (arith, inside, s .good .1 .0 .1) in (
+      inside,
+      (
+        omega (arith, inside, l .inv .count),
+        subst ReadablePair (sym (there (s .args .t2) (l .k) _ no-pair here)) (s .pre .1 (l .k) here),
+      ),
+    )
 
 add-k : tie.Need-add-k Inv-loop μ-loop
 add-k c = omega (arith, c .before .before .before .before .before .loop-test .taken)
@@ -51,7 +60,7 @@ loop-again c =
     (one-put 9 _ _ (l .figures) (l .k) (l .inv) (t .loop-test .taken))
 
 same-length : tie.Need-same-length Inv-loop μ-loop
-same-length c = c .before .loop .inv .count ∙ sym (c .before .before .before .pre)
+same-length c = c .before .loop .inv .count ∙ sym (c .before .before .before .pre .0)
 
 returns : tie.Need-returns Inv-loop μ-loop
 returns c =
