@@ -11,7 +11,10 @@
  * Answer: each call returns a number. 0: done, the out lists are filled. Any other: refused, the number is that of document 01's table
  * (enum dca_refusal), and all lent memory holds what it held before. No value that is lent, and no length, makes a call
  * fail in any other way: there is no precondition besides the duties below. A call gives the least number that applies to what it
- * was lent, and once 1 or 2 applies nothing further is judged; dca_read and dca_write judge by place, as said there.
+ * was lent, and once 1 or 2 applies nothing further is judged; dca_read, dca_write and dca_report judge by place, as said there.
+ *
+ * Floats that a call leaves as they were, all of a refused call and the pair of a class without weight, are kept to the bit: a NaN, quiet
+ * or signalling, keeps its sign and its payload.
  *
  * Duties of the caller:
  * - A pointer is valid for as many entries as its length says, aligned for its type, and never null, not even of a list of length 0.
@@ -127,7 +130,8 @@ uint8_t dca_class_account(size_t n,
  *   n, values, weights, classes   as dca_class_account
  *   globals   out   2: Moran's I and Geary's c of the job
  *   locals    out   n: the local Moran L(i) / M of each zone
- *   pairs     out   18: Moran's I and Geary's c of class k at 2 * k and 2 * k + 1; a class without weight leaves its two as they were
+ *   pairs     out   18: Moran's I and Geary's c of class k at 2 * k and 2 * k + 1; a class without weight leaves its two as they were,
+ *                   to the bit
  *   has_pair  out   9: 1 where class k has weight, else 0
  * Refusals: 1 2 3 4 5 6 7 9.
  */
@@ -255,12 +259,12 @@ uint8_t dca_write(const int32_t *values, size_t values_len,
                   uint64_t *length, size_t length_len);
 
 /*
- * The report of an image as text: its lines, or for an image that is refused the line `refused` and the number. The text is ASCII, each
- * line ends with a newline, and no 0 byte closes it.
+ * The report of an image as text. The text is ASCII, each line ends with a newline, and no 0 byte closes it.
  *   image         any length
  *   text    out   16,384: the text is at the front, the rest is kept
  *   length  out   1: the bytes of the text
- * Refusals: 2. An image that is refused is no refusal of this call: it returns 0.
+ * Refusals: 2 first, then by place in the image, as dca_read: 1 3 4 5 6 7 8 10 11 12 13 14 15 16 17. A refused image has no text: the line
+ * `refused` and the number is what the report program prints of it.
  */
 uint8_t dca_report(const uint8_t *image, size_t image_len,
                    uint8_t *text, size_t text_len,

@@ -6,8 +6,8 @@
  *
  * A thousand inputs of each call, most of them damaged. Each list lies in a heap block of exactly the lent length, made for that one
  * call, so that valgrind sees a read or a write one past. Looked at after each call: the number is one that the call may give, 1 and 2 are
- * given exactly where they apply, lists that are only read are as they were, and so is every lent byte where the call is refused. Ends
- * with 1 at the first fault.
+ * given exactly where they apply, a report is refused as the reader refuses its image, lists that are only read are as they were, and so is
+ * every lent byte where the call is refused. Ends with 1 at the first fault.
  */
 #include <inttypes.h>
 #include <stdint.h>
@@ -26,6 +26,7 @@ enum call { ACCOUNT, CLASS_ACCOUNT, FLOAT_REPORT, NEAREST, HOT_LIST, RANK, JOIN_
 #define UP_TO_7 (BIT(0) | BIT(1) | BIT(2) | BIT(3) | BIT(4) | BIT(5) | BIT(6) | BIT(7))
 #define PLACED (BIT(0) | BIT(1) | BIT(2) | BIT(10) | BIT(11))
 #define IMAGED (UP_TO_7 | BIT(8) | BIT(10) | BIT(11) | BIT(12) | BIT(13) | BIT(15))
+#define READER (IMAGED | BIT(14) | BIT(16) | BIT(17))
 
 static const struct {
     const char *name;
@@ -43,9 +44,9 @@ static const struct {
     {"dca_grid_rook", BIT(0) | BIT(1) | BIT(2)},
     {"dca_grid_bishop", BIT(0) | BIT(1) | BIT(2)},
     {"dca_grid_queen", BIT(0) | BIT(1) | BIT(2)},
-    {"dca_read", IMAGED | BIT(14) | BIT(16) | BIT(17)},
+    {"dca_read", READER},
     {"dca_write", IMAGED | BIT(19)},
-    {"dca_report", BIT(0) | BIT(2)},
+    {"dca_report", READER},
 };
 
 static unsigned given[CALLS][NUMBERS];
@@ -136,6 +137,21 @@ static struct list *lend_exact(size_t exact, size_t size, const void *from, int 
     return lend(len, size, from, exact, out);
 }
 
+/* Floats to be written. Half of them are NaNs, quiet and signalling, of both signs, with any payload: a bit of the exponent decides. */
+static struct list *lend_floats(size_t exact)
+{
+    struct list *list = lend_exact(exact, sizeof(double), NULL, 1);
+    for (size_t i = 0; i < list->len; i++) {
+        uint64_t bits;
+        memcpy(&bits, list->at + 8 * i, sizeof bits);
+        bits |= (bits >> 52 & 1) * UINT64_C(0x7FF0000000000000);
+        memcpy(list->at + 8 * i, &bits, sizeof bits);
+    }
+    if (list->bytes > 0)
+        memcpy(list->before, list->at, list->bytes);
+    return list;
+}
+
 #define IN(exact, from) lend_exact((exact), sizeof *(from), (from), 0)
 #define OUT(exact, type) lend_exact((exact), sizeof(type), NULL, 1)
 #define GIVE(list, type) ((type *)(void *)(list)->at), (list)->len
@@ -150,8 +166,10 @@ static void look(enum call call, uint8_t number, int first)
 {
     if (number >= NUMBERS || !(calls[call].numbers & BIT(number)))
         fault(call, "a number that this call does not give");
-    if (first >= 0 ? number != first : number == 1 || number == 2)
-        fault(call, "1 or 2 given wrongly, or not given");
+    if (first >= 0 && number != first)
+        fault(call, "not the number that must be given");
+    if (first < 0 && (number == 1 || number == 2))
+        fault(call, "1 or 2 given wrongly");
     for (int i = 0; i < lists; i++) {
         if (!lent[i].out && !same(&lent[i], 0))
             fault(call, "a list that is only read was changed");
@@ -284,7 +302,7 @@ static void try_float_report(void)
         if (job.classes[i] == k)
             job.classes[i] = (uint8_t)(k == 0 ? 1 : 0);
     struct list *values = IN(job.n, job.values), *weights = IN(job.n * job.n, job.weights), *classes = IN(job.n * job.n, job.classes);
-    struct list *globals = OUT(2, double), *locals = OUT(job.n, double), *pairs = OUT(18, double), *has_pair = OUT(9, uint8_t);
+    struct list *globals = lend_floats(2), *locals = lend_floats(job.n), *pairs = lend_floats(18), *has_pair = OUT(9, uint8_t);
     uint8_t number = dca_float_report(n, GIVE(values, int32_t), GIVE(weights, uint8_t), GIVE(classes, uint8_t), GIVE(globals, double),
                                       GIVE(locals, double), GIVE(pairs, double), GIVE(has_pair, uint8_t));
     look(FLOAT_REPORT, number, first_number(n));
@@ -308,7 +326,7 @@ static void try_nearest(void)
 {
     int64_t p = wild_whole(), q = wild_whole();
     length_damage = one_in(3) ? 1 : 0;
-    struct list *out = OUT(1, double);
+    struct list *out = lend_floats(1);
     uint8_t number = dca_nearest(p, q, GIVE(out, double));
     int taken = q >= 1 && q <= DCA_RATIO_MOST && p <= DCA_RATIO_MOST && p >= -DCA_RATIO_MOST;
     look(NEAREST, number, wrong_length ? 2 : taken ? 0 : 18);
@@ -528,6 +546,17 @@ static void try_write(void)
     take_back();
 }
 
+/* The number that the reader gives an image. */
+static uint8_t read_number(const struct list *read)
+{
+    static int32_t values[64], places[128];
+    static uint8_t categories[64], weights[4096], shuffles[31936];
+    static uint32_t bands[8];
+    static uint64_t counts[6];
+    return dca_read(GIVE(read, const uint8_t), values, 64, categories, 64, weights, 4096, places, 128, bands, 8, shuffles, 31936,
+                    counts, 6);
+}
+
 static void try_report(void)
 {
     size_t len = draw_image();
@@ -535,11 +564,12 @@ static void try_report(void)
     length_damage = one_in(5) ? 2 : 0;
     struct list *text = OUT(DCA_REPORT_TEXT, uint8_t), *length = OUT(1, uint64_t);
     uint8_t number = dca_report(GIVE(lent_image, uint8_t), GIVE(text, uint8_t), GIVE(length, uint64_t));
-    look(REPORT, number, wrong_length ? 2 : 0);
+    look(REPORT, number, wrong_length ? 2 : read_number(lent_image));
     if (number == 0) {
         uint64_t used;
         memcpy(&used, length->at, sizeof used);
-        if (used < 10 || used > DCA_REPORT_TEXT || text->at[used - 1] != '\n' || !same(text, (size_t)used))
+        if (used < 6 || used > DCA_REPORT_TEXT || memcmp(text->at, "zones ", 6) != 0 || text->at[used - 1] != '\n' ||
+            !same(text, (size_t)used))
             fault(REPORT, "the text, or what lies behind it");
     }
     take_back();

@@ -178,7 +178,23 @@ static void show_report(const uint8_t *image, size_t image_len)
     uint8_t text[DCA_REPORT_TEXT];
     uint64_t length[1];
     done("dca_report", dca_report(image, image_len, LIST(text), LIST(length)));
+    printf("report:\n");
     fwrite(text, 1, (size_t)length[0], stdout);
+}
+
+/* An image that is cut is refused, and the lent lists are as they were. */
+static void show_refused_report(const uint8_t *image, size_t image_len)
+{
+    uint8_t text[DCA_REPORT_TEXT];
+    uint64_t length[1] = {7};
+    memset(text, '#', sizeof text);
+    uint8_t refusal = dca_report(image, image_len, LIST(text), LIST(length));
+    printf("report of the same image without its last byte: refused %d%s\n", refusal,
+           refusal == DCA_REFUSED_CUT ? " (the image ends inside a section or its count)" : "");
+    int kept = length[0] == 7;
+    for (size_t i = 0; i < LEN(text); i++)
+        kept = kept && text[i] == '#';
+    printf("  lent lists as they were: %s\n", kept ? "yes" : "no");
 }
 
 /* Equal values have no spread: the job is refused, and the lent lists are as they were. */
@@ -206,10 +222,8 @@ int main(void)
     show_rank();
     show_networks();
     size_t image_len = show_image(image);
-    printf("report:\n");
     show_report(image, image_len);
-    printf("report of the same image without its last byte:\n");
-    show_report(image, image_len - 1);
+    show_refused_report(image, image_len - 1);
     show_refused_job();
     return 0;
 }

@@ -129,20 +129,35 @@ fn show_image() -> Result<Vec<u8>, Refusal> {
     Ok(image)
 }
 
-fn show_report(image: &[u8]) {
+fn show_report(image: &[u8]) -> Result<(), Refusal> {
     let mut text = [0; dca::REPORT_TEXT];
-    print!("{}", String::from_utf8_lossy(dca::report(image, &mut text)));
+    print!("report:\n{}", String::from_utf8_lossy(dca::report(image, &mut text)?));
+    Ok(())
+}
+
+fn show_refusal<T>(of: &str, answer: Result<T, Refusal>) {
+    match answer {
+        Ok(_) => println!("{of}: taken"),
+        Err(refusal) => println!("{of}: refused {} ({})", refusal.number(), refusal.text()),
+    }
+}
+
+fn show_kept(kept: bool) {
+    println!("  lent lists as they were: {}", if kept { "yes" } else { "no" });
+}
+
+/// An image that is cut is refused, and the lent text is as it was.
+fn show_refused_report(image: &[u8]) {
+    let mut text = [b'#'; dca::REPORT_TEXT];
+    show_refusal("report of the same image without its last byte", dca::report(image, &mut text));
+    show_kept(text == [b'#'; dca::REPORT_TEXT]);
 }
 
 /// Equal values have no spread: the job is refused, and the lent list is as it was.
 fn show_refused_job() {
     let mut locals = [-1; N];
-    match dca::account(N, &[5; N], &WEIGHTS, &mut locals) {
-        Ok(_) => println!("a job of equal values: taken"),
-        Err(refusal) => println!("a job of equal values: refused {} ({})", refusal.number(), refusal.text()),
-    }
-    let kept = locals == [-1; N];
-    println!("  lent lists as they were: {}", if kept { "yes" } else { "no" });
+    show_refusal("a job of equal values", dca::account(N, &[5; N], &WEIGHTS, &mut locals));
+    show_kept(locals == [-1; N]);
 }
 
 fn main() -> Result<(), Refusal> {
@@ -153,10 +168,8 @@ fn main() -> Result<(), Refusal> {
     show_rank()?;
     show_networks()?;
     let image = show_image()?;
-    println!("report:");
-    show_report(&image);
-    println!("report of the same image without its last byte:");
-    show_report(&image[..image.len() - 1]);
+    show_report(&image)?;
+    show_refused_report(&image[..image.len() - 1]);
     show_refused_job();
     Ok(())
 }

@@ -116,7 +116,7 @@ pub fn class_account(
 ///
 /// # Errors
 ///
-/// 1 2 3 4 5 6 7 9: the least that applies; `locals` is then as it was.
+/// 1 2 3 4 5 6 7 9: the least that applies; `locals` is then as it was, to the bit.
 pub fn float_report(n: usize, values: &[i32], weights: &[u8], classes: &[u8], locals: &mut [f64]) -> Result<FloatReport, Refusal> {
     let mut globals = [0.0; 2];
     let mut pairs = [0.0; 2 * CLASSES];

@@ -153,12 +153,15 @@ pub fn write(from: &Buffers, given: Given, out: &mut [u8]) -> Result<usize, Refu
     Ok(length[0] as usize)
 }
 
-/// Puts the report of an image at the front of `text` and returns that part: its lines, or for an image that is refused the line `refused`
-/// and the number. It is ASCII; the rest of `text` keeps what it held.
-pub fn report<'a>(image: &[u8], text: &'a mut [u8; REPORT_TEXT]) -> &'a [u8] {
+/// Puts the lines of an image's report at the front of `text` and returns that part. It is ASCII; the rest of `text` keeps what it held.
+///
+/// # Errors
+///
+/// By place in the image, as [`read`]: 1 3 4 5 6 7 8 10 11 12 13 14 15 16 17. `text` is then as it was.
+pub fn report<'a>(image: &[u8], text: &'a mut [u8; REPORT_TEXT]) -> Result<&'a [u8], Refusal> {
     let mut length = [0u64; 1];
-    // As in `read`. The lengths are right, so that the answer is 0.
-    let answer = unsafe {
+    // As in `read`.
+    Refusal::of(unsafe {
         raw::dca_report(
             image.as_ptr(),
             image.len(),
@@ -167,7 +170,6 @@ pub fn report<'a>(image: &[u8], text: &'a mut [u8; REPORT_TEXT]) -> &'a [u8] {
             length.as_mut_ptr(),
             length.len(),
         )
-    };
-    debug_assert_eq!(answer, 0);
-    &text[..length[0] as usize]
+    })?;
+    Ok(&text[..length[0] as usize])
 }

@@ -2,8 +2,8 @@
 //!
 //! These are safe functions over slices; they call the archive of the proved library (`rt staticlib exports`), whose promises are proved
 //! in crates/exports/src. A call that breaks a rule is refused: its error is the number of the cause, and all lent memory is as it
-//! was. No value and no length makes a call fail in any other way. The library allocates nothing and has no global state, and a call takes
-//! less than 256 KiB of stack.
+//! was, floats to the bit. No value and no length makes a call fail in any other way. The library allocates nothing and has no global
+//! state, and a call takes less than 256 KiB of stack.
 //!
 //! ```
 //! use dca::{account, nearest, Refusal};

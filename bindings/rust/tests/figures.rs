@@ -19,6 +19,23 @@ const GIVEN: Given = Given {
 /// The worked report, which samples/ keeps.
 const REPORT: &str = include_str!("../../../samples/report.report");
 
+/// Of the worked image: the place of a byte, what it is changed to, the refusal.
+const WRONG_BYTES: [(usize, u8, Refusal); 13] = [
+    (0, 1, Refusal::ZONES),
+    (5, 255, Refusal::VALUE),
+    (18, 3, Refusal::COUNT),
+    (20, 8, Refusal::CATEGORY),
+    (26, 4, Refusal::JOINS),
+    (27, 0, Refusal::DIAGONAL),
+    (28, 10, Refusal::WEIGHT),
+    (28, 0, Refusal::WEIGHT),
+    (43, 1, Refusal::COORDINATE),
+    (48, 0, Refusal::ONE_PLACE),
+    (72, 9, Refusal::BANDS),
+    (78, 1, Refusal::BANDS),
+    (84, 3, Refusal::SHUFFLE),
+];
+
 /// All weights 1 but those of the diagonal.
 fn complete(n: usize) -> Vec<u8> {
     (0..n * n).map(|k| u8::from(k % (n + 1) != 0)).collect()
@@ -165,6 +182,11 @@ fn refusals_of_the_other_lists() {
     let mut floats = [-7.0; 4];
     assert_eq!(dca::float_report(4, &VALUES, &WEIGHTS, &classes, &mut floats), Err(Refusal::CLASS));
     assert_eq!(floats, [-7.0; 4]);
+    // Quiet and signalling NaNs of both signs.
+    let bits = [0x7FF8000000ABCDEF, 0xFFF8000000000001, 0x7FF0000000000001, 0xFFF4000000000003];
+    let mut nans = bits.map(f64::from_bits);
+    assert_eq!(dca::float_report(4, &VALUES, &WEIGHTS, &classes, &mut nans), Err(Refusal::CLASS));
+    assert_eq!(nans.map(f64::to_bits), bits);
     let mut table = [-7; 64];
     assert_eq!(dca::join_table(4, &[0, 0, 1, 8], &WEIGHTS, &mut table), Err(Refusal::CATEGORY));
     assert_eq!(table, [-7; 64]);
@@ -252,22 +274,7 @@ fn images_that_are_refused() {
     for length in 0..image.len() {
         assert_eq!(dca::read(&image[..length], &mut kept), Err(Refusal::CUT));
     }
-    // The place of a byte, what it is changed to, the refusal.
-    for (place, byte, refusal) in [
-        (0, 1, Refusal::ZONES),
-        (5, 255, Refusal::VALUE),
-        (18, 3, Refusal::COUNT),
-        (20, 8, Refusal::CATEGORY),
-        (26, 4, Refusal::JOINS),
-        (27, 0, Refusal::DIAGONAL),
-        (28, 10, Refusal::WEIGHT),
-        (28, 0, Refusal::WEIGHT),
-        (43, 1, Refusal::COORDINATE),
-        (48, 0, Refusal::ONE_PLACE),
-        (72, 9, Refusal::BANDS),
-        (78, 1, Refusal::BANDS),
-        (84, 3, Refusal::SHUFFLE),
-    ] {
+    for (place, byte, refusal) in WRONG_BYTES {
         let mut wrong = image.clone();
         wrong[place] = byte;
         assert_eq!(dca::read(&wrong, &mut kept), Err(refusal), "{place} {byte}");
@@ -305,12 +312,27 @@ fn jobs_that_are_not_written() {
 fn reports() {
     let image = worked_image();
     let mut text = [b'#'; dca::REPORT_TEXT];
-    let length = dca::report(&image, &mut text).len();
+    let length = dca::report(&image, &mut text).unwrap().len();
     assert_eq!(std::str::from_utf8(&text[..length]), Ok(REPORT));
     assert!(text[length..].iter().all(|&byte| byte == b'#'));
-    assert_eq!(dca::report(&image[..91], &mut text), b"refused 14\n");
-    assert_eq!(dca::report(&[], &mut text), b"refused 14\n");
-    assert_eq!(dca::report(&[0; 50_000], &mut text), b"refused 1\n");
+}
+
+/// The reader's own numbers, and the text as it was.
+#[test]
+fn reports_that_are_refused() {
+    let image = worked_image();
+    let mut text = [b'#'; dca::REPORT_TEXT];
+    for length in 0..image.len() {
+        assert_eq!(dca::report(&image[..length], &mut text), Err(Refusal::CUT));
+    }
+    for (place, byte, refusal) in WRONG_BYTES {
+        let mut wrong = image.clone();
+        wrong[place] = byte;
+        assert_eq!(dca::report(&wrong, &mut text), Err(refusal), "{place} {byte}");
+    }
+    assert_eq!(dca::report(&[&image[..], &[0]].concat(), &mut text), Err(Refusal::BYTES_AFTER));
+    assert_eq!(dca::report(&[0; 50_000], &mut text), Err(Refusal::ZONES));
+    assert!(text.iter().all(|&byte| byte == b'#'));
 }
 
 #[test]

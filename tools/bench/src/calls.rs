@@ -2,49 +2,146 @@
 //!
 //! Each function of `cases` lends a call its lists and answers a closure that makes the call once.
 
+/// Each call over slices, of those that `raw` declares.
+macro_rules! over_slices {
+    ($($name:ident = $call:ident [$($number:ident: $kind:ty),*]
+        [$($input:ident: $in_kind:ty),*] [$($output:ident: $out_kind:ty),*];)*) => {
+        $(#[allow(clippy::too_many_arguments)]
+        pub fn $name($($number: $kind,)* $($input: &[$in_kind],)* $($output: &mut [$out_kind]),*) -> u8 {
+            // SAFETY: each list is told with its length.
+            unsafe {
+                raw::$call(
+                    $($number,)*
+                    $($input.as_ptr(), $input.len(),)*
+                    $($output.as_mut_ptr(), $output.len()),*
+                )
+            }
+        })*
+    };
+}
+
+/// The declarations of the calls of a copy that build.rs makes, which have something in front of their names.
+#[cfg(before)]
+macro_rules! declare {
+    ($front:literal; $($name:ident = $call:ident [$($number:ident: $kind:ty),*]
+        [$($input:ident: $in_kind:ty),*] [$($output:ident: $out_kind:ty),*];)*) => {
+        extern "C" {
+            $(#[link_name = concat!($front, stringify!($call))]
+            pub fn $call(
+                $($number: $kind,)*
+                $($input: *const $in_kind, _: usize,)*
+                $($output: *mut $out_kind, _: usize),*
+            ) -> u8;)*
+        }
+    };
+}
+
+/// Every call with its numbers, the lists that are read and those that are lent.
+macro_rules! every_call {
+    ($make:ident $($front:literal)?) => {
+        $make! {
+            $($front;)?
+            account = dca_account [n: usize] [values: i32, weights: u8] [locals: i64, sums: i64];
+            class_account = dca_class_account [n: usize] [values: i32, weights: u8, classes: u8] [rows: i64, locals: i64];
+            float_report = dca_float_report [n: usize] [values: i32, weights: u8, classes: u8]
+                [globals: f64, locals: f64, pairs: f64, has_pair: u8];
+            nearest = dca_nearest [p: i64, q: i64] [] [out: f64];
+            hot_list = dca_hot_list [n: usize] [values: i32, weights: u8] [zones: u8];
+            rank = dca_rank [n: usize] [values: i32, weights: u8, shuffles: u8] [counts: u64];
+            join_table = dca_join_table [n: usize] [categories: u8, weights: u8] [table: i64];
+            gabriel = dca_gabriel [n: usize] [places: i32] [weights: u8];
+            bands = dca_bands [n: usize] [places: i32, bands: u32] [classes: u8];
+            grid_rook = dca_grid_rook [rows: usize, columns: usize] [] [weights: u8];
+            grid_bishop = dca_grid_bishop [rows: usize, columns: usize] [] [weights: u8];
+            grid_queen = dca_grid_queen [rows: usize, columns: usize] [] [weights: u8];
+            read = dca_read [] [image: u8]
+                [values: i32, categories: u8, weights: u8, places: i32, bands: u32, shuffles: u8, counts: u64];
+            write = dca_write []
+                [values: i32, categories: u8, weights: u8, places: i32, bands: u32, shuffles: u8, counts: u64]
+                [out: u8, length: u64];
+            report = dca_report [] [image: u8] [text: u8, length: u64];
+        }
+    };
+}
+
 /// The proved calls.
 pub mod proved {
     use dca::raw;
 
-    macro_rules! over_slices {
-        ($($name:ident = $call:ident [$($number:ident: $kind:ty),*]
-            [$($input:ident: $in_kind:ty),*] [$($output:ident: $out_kind:ty),*];)*) => {
-            $(#[allow(clippy::too_many_arguments)]
-            pub fn $name($($number: $kind,)* $($input: &[$in_kind],)* $($output: &mut [$out_kind]),*) -> u8 {
-                // SAFETY: each list is told with its length.
-                unsafe {
-                    raw::$call(
-                        $($number,)*
-                        $($input.as_ptr(), $input.len(),)*
-                        $($output.as_mut_ptr(), $output.len()),*
-                    )
-                }
-            })*
-        };
-    }
-
-    over_slices! {
-        account = dca_account [n: usize] [values: i32, weights: u8] [locals: i64, sums: i64];
-        class_account = dca_class_account [n: usize] [values: i32, weights: u8, classes: u8] [rows: i64, locals: i64];
-        float_report = dca_float_report [n: usize] [values: i32, weights: u8, classes: u8]
-            [globals: f64, locals: f64, pairs: f64, has_pair: u8];
-        nearest = dca_nearest [p: i64, q: i64] [] [out: f64];
-        hot_list = dca_hot_list [n: usize] [values: i32, weights: u8] [zones: u8];
-        rank = dca_rank [n: usize] [values: i32, weights: u8, shuffles: u8] [counts: u64];
-        join_table = dca_join_table [n: usize] [categories: u8, weights: u8] [table: i64];
-        gabriel = dca_gabriel [n: usize] [places: i32] [weights: u8];
-        bands = dca_bands [n: usize] [places: i32, bands: u32] [classes: u8];
-        read = dca_read [] [image: u8]
-            [values: i32, categories: u8, weights: u8, places: i32, bands: u32, shuffles: u8, counts: u64];
-        write = dca_write []
-            [values: i32, categories: u8, weights: u8, places: i32, bands: u32, shuffles: u8, counts: u64]
-            [out: u8, length: u64];
-        report = dca_report [] [image: u8] [text: u8, length: u64];
-    }
+    every_call!(over_slices);
 }
 
+/// A copy of the archive, made as that of the earlier one is.
+#[cfg(before)]
+mod now {
+    mod raw {
+        every_call!(declare "now_");
+    }
+
+    every_call!(over_slices);
+}
+
+/// A copy of an earlier archive.
+#[cfg(before)]
+mod before {
+    mod raw {
+        every_call!(declare "before_");
+    }
+
+    every_call!(over_slices);
+}
+
+/// All the calls, as one place has them.
+pub struct Calls {
+    pub account: cases::Account,
+    pub class_account: cases::ClassAccount,
+    pub float_report: cases::FloatReport,
+    pub nearest: cases::Nearest,
+    pub hot_list: cases::HotList,
+    pub rank: cases::Rank,
+    pub join_table: cases::JoinTable,
+    pub gabriel: cases::Gabriel,
+    pub bands: cases::Bands,
+    pub grid_rook: cases::Grid,
+    pub grid_bishop: cases::Grid,
+    pub grid_queen: cases::Grid,
+    pub read: cases::Read,
+    pub write: cases::Write,
+    pub report: cases::Report,
+}
+
+macro_rules! calls_of {
+    ($place:ident) => {
+        Calls {
+            account: $place::account,
+            class_account: $place::class_account,
+            float_report: $place::float_report,
+            nearest: $place::nearest,
+            hot_list: $place::hot_list,
+            rank: $place::rank,
+            join_table: $place::join_table,
+            gabriel: $place::gabriel,
+            bands: $place::bands,
+            grid_rook: $place::grid_rook,
+            grid_bishop: $place::grid_bishop,
+            grid_queen: $place::grid_queen,
+            read: $place::read,
+            write: $place::write,
+            report: $place::report,
+        }
+    };
+}
+
+pub const PROVED: Calls = calls_of!(proved);
+pub const INDEPENDENT: Calls = calls_of!(differential);
+/// Now and before, if build.rs was told of an earlier archive.
+#[cfg(before)]
+pub const NOW_AND_BEFORE: Option<[Calls; 2]> = Some([calls_of!(now), calls_of!(before)]);
+#[cfg(not(before))]
+pub const NOW_AND_BEFORE: Option<[Calls; 2]> = None;
+
 pub mod cases {
-    use crate::input::Input;
+    use crate::input::{Input, Refused};
     use differential::TEXT;
     use std::hint::black_box;
 
@@ -60,6 +157,7 @@ pub mod cases {
     pub type JoinTable = fn(usize, &[u8], &[u8], &mut [i64]) -> u8;
     pub type Gabriel = fn(usize, &[i32], &mut [u8]) -> u8;
     pub type Bands = fn(usize, &[i32], &[u32], &mut [u8]) -> u8;
+    pub type Grid = fn(usize, usize, &mut [u8]) -> u8;
     #[rustfmt::skip]
     pub type Read = fn(
         &[u8], &mut [i32], &mut [u8], &mut [u8], &mut [i32], &mut [u32], &mut [u8], &mut [u64],
@@ -198,6 +296,26 @@ pub mod cases {
                 black_box(&mut length),
             );
             assert_eq!(number, 0, "write");
+        })
+    }
+
+    /// The grid of 8 rows and 8 columns.
+    pub fn grid<'a>(call: Grid) -> Case<'a> {
+        let mut weights = vec![0; 4096];
+        Box::new(move || {
+            let number = call(black_box(8), black_box(8), black_box(&mut weights));
+            assert_eq!(number, 0, "grid");
+        })
+    }
+
+    /// The report of an image that is refused.
+    pub fn refused(input: &Refused, call: Report) -> Case<'_> {
+        let (mut text, mut length) = (vec![0; TEXT], [0]);
+        Box::new(move || {
+            let image = black_box(&input.image);
+            let number = call(image, black_box(&mut text), black_box(&mut length));
+            // An archive from before this was a refusal gives 0, and the text says the number.
+            assert!([0, input.number].contains(&number), "refused report");
         })
     }
 

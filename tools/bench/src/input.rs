@@ -14,6 +14,12 @@ pub struct Input {
     pub image: Vec<u8>,
 }
 
+/// An image that is refused, and its number.
+pub struct Refused {
+    pub image: Vec<u8>,
+    pub number: u8,
+}
+
 /// The lists as the writer is lent them, at their full length.
 pub struct Buffers {
     pub values: Vec<i32>,
@@ -97,6 +103,20 @@ impl Input {
             bands: full(&self.bands, 8),
             shuffles: full(&self.shuffles, 31_936),
         }
+    }
+
+    /// The image is refused at its first count.
+    pub fn refused_first(&self) -> Refused {
+        let mut image = self.image.clone();
+        image[0] = 65;
+        Refused { image, number: 1 }
+    }
+
+    /// The image is refused at its last shuffle, when all else is judged.
+    pub fn refused_last(&self) -> Refused {
+        let mut image = self.image.clone();
+        *image.last_mut().expect("there are shuffles") = 255;
+        Refused { image, number: 13 }
     }
 
     pub fn counts(&self) -> [u64; 5] {

@@ -2,23 +2,27 @@
 //!
 //!     cargo run --release -- [--goals] [--rounds N]
 //!
-//! Prints two markdown tables: proved against independent, with the goals, and how the proved calls' cost grows. With
+//! Prints three markdown tables: proved against independent, with the goals, and how the proved calls' cost grows. With
 //! `--goals` it ends with status 1 where a ratio is above its goal by more than 0.15, since a machine is never quiet.
-//! DCA_LIB_DIR names the folder of the archive libexports.a, if it is not target/staticlib.
+//! DCA_LIB_DIR names the folder of the archive libexports.a, if it is not target/staticlib. DCA_BEFORE_DIR names the folder of an
+//! earlier libexports.a: then the calls are measured beside those of that archive instead, and one table is printed, now against before.
+//! Both are paths from the root. build.rs links the earlier archive under other names, so that the program is built anew for it.
 
 mod calls;
 mod input;
 
 use calls::cases::{self, Case};
-use calls::proved;
-use differential as own;
-use input::Input;
+use calls::{proved, Calls};
+use input::{Input, Refused};
 use std::process::ExitCode;
 use std::time::{Duration, Instant};
 
 const ROUNDS: usize = 200;
 /// One measurement repeats its call until it takes about so long.
 const BATCH: Duration = Duration::from_micros(1500);
+/// Beside an earlier archive there are more rounds, and shorter ones, so that in most of them neither call is interrupted.
+const SHORT_BATCH: Duration = Duration::from_micros(300);
+const SHORT_ROUNDS: usize = 5;
 /// By how much a ratio may exceed its goal before the program complains.
 const MARGIN: f64 = 0.15;
 
@@ -31,11 +35,11 @@ fn time(case: &mut Case, repeats: u32) -> f64 {
 }
 
 /// How often a call is repeated in one measurement.
-fn repeats(case: &mut Case) -> u32 {
+fn repeats(case: &mut Case, batch: Duration) -> u32 {
     let mut repeats = 1;
     loop {
         let took = time(case, repeats) * f64::from(repeats);
-        if took * 1.5 > BATCH.as_micros() as f64 || repeats > 1_000_000 {
+        if took * 1.5 > batch.as_micros() as f64 || repeats > 1_000_000 {
             return repeats;
         }
         repeats *= 2;
@@ -44,7 +48,8 @@ fn repeats(case: &mut Case) -> u32 {
 
 /// The least time of each case in microseconds, measured in turn round after round.
 fn least(cases: &mut [Case], rounds: usize) -> Vec<f64> {
-    let repeats: Vec<u32> = cases.iter_mut().map(repeats).collect();
+    let own = |case: &mut Case| repeats(case, BATCH);
+    let repeats: Vec<u32> = cases.iter_mut().map(own).collect();
     let mut least = vec![f64::INFINITY; cases.len()];
     for _ in 0..rounds {
         for ((case, &repeats), least) in cases.iter_mut().zip(&repeats).zip(&mut least) {
@@ -52,6 +57,92 @@ fn least(cases: &mut [Case], rounds: usize) -> Vec<f64> {
         }
     }
     least
+}
+
+/// What a quarter, a half and three quarters of the list do not exceed; the half's is the median.
+fn quartiles(mut list: Vec<f64>) -> [f64; 3] {
+    list.sort_by(f64::total_cmp);
+    [1, 2, 3].map(|quarters| list[list.len() * quarters / 4])
+}
+
+/// What is measured.
+struct Inputs {
+    job: Input,
+    no_shuffles: Input,
+    refused_first: Refused,
+    refused_last: Refused,
+    ratios: Vec<(i64, i64)>,
+}
+
+impl Inputs {
+    fn new() -> Self {
+        let job = Input::new(64, 499);
+        Inputs {
+            no_shuffles: Input::new(64, 0),
+            refused_first: job.refused_first(),
+            refused_last: job.refused_last(),
+            ratios: input::ratios(),
+            job,
+        }
+    }
+}
+
+/// A case, with the goal of its ratio to independent code.
+type Row<'a> = (&'static str, Option<f64>, Case<'a>);
+
+/// The cases that have a goal.
+fn goal_rows<'a>(job: &'a Input, calls: &Calls) -> Vec<Row<'a>> {
+    let class_account = cases::class_account(job, calls.class_account);
+    let float_report = cases::float_report(job, calls.float_report);
+    vec![
+        (
+            "rank, 499 shuffles",
+            Some(1.1),
+            cases::rank(job, calls.rank),
+        ),
+        ("account", Some(1.3), cases::account(job, calls.account)),
+        ("class account", Some(1.3), class_account),
+        ("float report", Some(1.3), float_report),
+        ("read", Some(1.3), cases::read(job, calls.read)),
+        ("write", Some(1.3), cases::write(job, calls.write)),
+        ("report", Some(1.3), cases::report(job, calls.report)),
+    ]
+}
+
+/// The others.
+fn other_rows<'a>(inputs: &'a Inputs, calls: &Calls) -> Vec<Row<'a>> {
+    let job = &inputs.job;
+    let no_shuffles = cases::report(&inputs.no_shuffles, calls.report);
+    let refused_last = cases::refused(&inputs.refused_last, calls.report);
+    let refused_first = cases::refused(&inputs.refused_first, calls.report);
+    let nearest = cases::nearest(&inputs.ratios, calls.nearest);
+    vec![
+        ("report, no shuffles", None, no_shuffles),
+        ("report, refused at the last shuffle", None, refused_last),
+        ("report, refused at the first count", None, refused_first),
+        ("hot list", None, cases::hot_list(job, calls.hot_list)),
+        ("join table", None, cases::join_table(job, calls.join_table)),
+        ("gabriel", None, cases::gabriel(job, calls.gabriel)),
+        ("bands", None, cases::bands(job, calls.bands)),
+        ("grid, rook", None, cases::grid(calls.grid_rook)),
+        ("grid, bishop", None, cases::grid(calls.grid_bishop)),
+        ("grid, queen", None, cases::grid(calls.grid_queen)),
+        ("nearest, 256 ratios", None, nearest),
+    ]
+}
+
+/// All cases, of one set of calls and of another.
+fn both<'a>(
+    inputs: &'a Inputs,
+    one: &Calls,
+    other: &Calls,
+) -> impl Iterator<Item = (Row<'a>, Row<'a>)> {
+    let rows = |calls| {
+        let mut rows = goal_rows(&inputs.job, calls);
+        rows.extend(other_rows(inputs, calls));
+        rows
+    };
+    rows(one).into_iter().zip(rows(other))
 }
 
 /// One line of the first table; answers whether the goal is met, the margin with it.
@@ -73,37 +164,52 @@ fn row(name: &str, goal: Option<f64>, rounds: usize, proved: Case, own: Case) ->
 
 /// Measures both versions of each call; answers whether every goal is met.
 fn against(rounds: usize) -> bool {
-    let input = &Input::new(64, 499);
-    let ratios = &input::ratios();
+    let inputs = &Inputs::new();
     println!("| call | proved, us | independent, us | ratio | goal | met |");
     println!("|---|---:|---:|---:|---:|---|");
     let mut met = true;
-    macro_rules! measure {
-        ($($name:literal, $goal:expr, $rounds:expr, $call:ident($input:expr);)*) => {
-            $(met &= row(
-                $name,
-                $goal,
-                $rounds,
-                cases::$call($input, proved::$call),
-                cases::$call($input, own::$call),
-            );)*
-        };
-    }
-    measure! {
-        "rank, 499 shuffles", Some(1.1), rounds, rank(input);
-        "account", Some(1.3), rounds, account(input);
-        "class account", Some(1.3), rounds, class_account(input);
-        "float report", Some(1.3), rounds, float_report(input);
-        "read", Some(1.3), rounds, read(input);
-        "write", Some(1.3), rounds, write(input);
-        "report", Some(1.3), rounds, report(input);
-        "hot list", None, rounds / 2, hot_list(input);
-        "join table", None, rounds / 2, join_table(input);
-        "gabriel", None, rounds / 2, gabriel(input);
-        "bands", None, rounds / 2, bands(input);
-        "nearest, 256 ratios", None, rounds / 2, nearest(ratios);
+    let both = both(inputs, &calls::PROVED, &calls::INDEPENDENT);
+    for ((name, goal, proved), (_, _, own)) in both {
+        let rounds = if goal.is_some() { rounds } else { rounds / 2 };
+        met &= row(name, goal, rounds, proved, own);
     }
     met
+}
+
+/// One line of the table of an earlier archive. The two are measured by turns, each first in every other round, and what counts is the
+/// ratio of one round.
+fn earlier_row(name: &str, rounds: usize, mut now: Case, mut before: Case) {
+    let own = |case: &mut Case| repeats(case, SHORT_BATCH);
+    let repeats = own(&mut now).min(own(&mut before));
+    let (mut nows, mut befores, mut ratios) = (Vec::new(), Vec::new(), Vec::new());
+    for round in 0..rounds {
+        let early = (round % 2 == 0).then(|| time(&mut now, repeats));
+        let other = time(&mut before, repeats);
+        let own = early.unwrap_or_else(|| time(&mut now, repeats));
+        nows.push(own);
+        befores.push(other);
+        ratios.push(own / other);
+    }
+    let least = |list: &[f64]| list.iter().copied().fold(f64::INFINITY, f64::min);
+    let of_least = least(&nows) / least(&befores);
+    let [_, now, _] = quartiles(nows);
+    let [_, before, _] = quartiles(befores);
+    let [low, ratio, high] = quartiles(ratios);
+    println!(
+        "| {name} | {now:.2} | {before:.2} | {ratio:.2} | {low:.2} to {high:.2} | {of_least:.2} |"
+    );
+}
+
+/// Measures each call beside that of an earlier archive.
+fn beside_earlier(rounds: usize, now: &Calls, before: &Calls) {
+    let inputs = &Inputs::new();
+    println!(
+        "| call | now, us | before, us | now/before | half of the rounds | of the least times |"
+    );
+    println!("|---|---:|---:|---:|---:|---:|");
+    for ((name, _, now), (_, _, before)) in both(inputs, now, before) {
+        earlier_row(name, rounds, now, before);
+    }
 }
 
 fn growth_row(name: &str, rounds: usize, mut cases: Vec<Case>) {
@@ -172,8 +278,15 @@ fn main() -> ExitCode {
             }
         }
     }
-    println!("Request A.4's job: 64 zones, 499 shuffles, categories, places, 8 bands. Both built for release; proved and");
-    println!("independent in turn, {rounds} rounds, the least time of a call. Buffers are not cleared between calls.");
+    println!("Request A.4's job: 64 zones, 499 shuffles, categories, places, 8 bands. Buffers are not cleared between calls.");
+    if let Some([now, before]) = calls::NOW_AND_BEFORE {
+        let rounds = SHORT_ROUNDS * rounds;
+        println!("The archive and an earlier one by turns, {rounds} rounds: the medians of the times, and of the ratios of the rounds.");
+        println!();
+        beside_earlier(rounds, &now, &before);
+        return ExitCode::SUCCESS;
+    }
+    println!("Both built for release; proved and independent in turn, {rounds} rounds, the least time of a call.");
     println!();
     let met = against(rounds);
     println!();

@@ -113,8 +113,9 @@ fn run_stored(given: &Arguments, cases: &[Case]) -> bool {
         let own: Vec<&Case> = cases.iter().filter(|case| case.file == file).collect();
         let calls: BTreeSet<&str> = own.iter().map(|case| case.call).collect();
         let refused = own.iter().filter(|case| case.gives != 0).count();
-        let (cases, calls) = (own.len(), calls.len());
-        println!("{file}: {cases} cases of {calls} calls, {refused} of them refused");
+        let cases = own.len();
+        let calls = Vec::from_iter(calls).join(", ");
+        println!("{file}: {cases} cases, {refused} of them refused, of {calls}");
     }
     match stored::compare(cases, given.swapped()) {
         Ok(tally) => {

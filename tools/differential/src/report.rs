@@ -140,11 +140,12 @@ pub fn report(image: &[u8], text: &mut [u8], length: &mut [u64]) -> u8 {
     if text.len() != TEXT || length.len() != 1 {
         return 2;
     }
+    let image = match Image::parse(image) {
+        Ok(image) => image,
+        Err(number) => return number,
+    };
     let mut page = Page { text, length: 0 };
-    match Image::parse(image) {
-        Ok(image) => lines(&mut page, &image),
-        Err(number) => page.line("refused", &[i64::from(number)], &[]),
-    }
+    lines(&mut page, &image);
     length[0] = page.length as u64;
     0
 }

@@ -105,8 +105,8 @@ fn shuffles_of_park_and_miller() {
     assert_eq!(counts, [271, 0, 228]);
 }
 
-#[test]
-fn whole_report() {
+/// The image of document 01's report.
+fn whole_image() -> Vec<u8> {
     let mut values = [0; 64];
     values[..4].copy_from_slice(&[1, 1, 3, 3]);
     let mut categories = [0; 64];
@@ -119,7 +119,7 @@ fn whole_report() {
     bands[..2].copy_from_slice(&[1, 4]);
     let mut shuffles = [0; 31_936];
     shuffles[..8].copy_from_slice(&[0, 1, 2, 3, 2, 1, 0, 3]);
-    let (mut image, mut length) = ([0; 44_908], [0]);
+    let (mut image, mut length) = (vec![0; 44_908], [0]);
     let counts = [4, 4, 4, 2, 2];
     let number = own::write(
         &values,
@@ -133,9 +133,35 @@ fn whole_report() {
         &mut length,
     );
     assert_eq!((number, length), (0, [92]));
+    image.truncate(92);
+    image
+}
 
-    let (mut text, mut text_length) = ([0; own::TEXT], [0]);
-    assert_eq!(own::report(&image[..92], &mut text, &mut text_length), 0);
-    let said = std::str::from_utf8(&text[..text_length[0] as usize]).unwrap();
+#[test]
+fn whole_report() {
+    let (mut text, mut length) = ([7; own::TEXT], [7]);
+    assert_eq!(own::report(&whole_image(), &mut text, &mut length), 0);
+    let (said, rest) = text.split_at(length[0] as usize);
+    let said = std::str::from_utf8(said).unwrap();
     assert_eq!(said, include_str!("../../../samples/report.report"));
+    assert!(rest.iter().all(|&byte| byte == 7));
+}
+
+/// The number, and nothing stored: 2 before the image's own.
+#[test]
+fn refused_reports() {
+    let image = whole_image();
+    for (image, room, places, number) in [
+        (&image[..91], own::TEXT, 1, 14),
+        (&[], own::TEXT, 1, 14),
+        (&[1, 0], own::TEXT, 1, 1),
+        (&image[..], own::TEXT - 1, 1, 2),
+        (&image[..], own::TEXT + 1, 1, 2),
+        (&image[..91], own::TEXT, 0, 2),
+        (&image[..91], own::TEXT, 2, 2),
+    ] {
+        let (mut text, mut length) = (vec![7; room], vec![7; places]);
+        assert_eq!(own::report(image, &mut text, &mut length), number);
+        assert!(text.iter().all(|&byte| byte == 7) && length.iter().all(|&place| place == 7));
+    }
 }

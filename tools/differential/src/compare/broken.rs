@@ -1,10 +1,10 @@
-//! Wrong versions of the independent calls, one for each. With any of them the comparison must find a difference.
+//! Wrong versions of the independent calls, one for each at least. With any of them the comparison must find a difference.
 
 use differential as own;
 use differential::{SHUFFLES, ZONES};
 
 /// The names that `--broken` takes, and what is wrong.
-pub const NAMES: [(&str, &str); 15] = [
+pub const NAMES: [(&str, &str); 16] = [
     (
         "last-local",
         "account: the last local numerator is not stored",
@@ -38,6 +38,10 @@ pub const NAMES: [(&str, &str); 15] = [
         "write: 4 before 5 at a weight of the diagonal",
     ),
     ("lower-case", "report: hexadecimal digits in lower case"),
+    (
+        "refused-as-text",
+        "report: a refused image gives 0 and a text that says so",
+    ),
 ];
 
 pub fn last_local(n: usize, x: &[i32], w: &[u8], locals: &mut [i64], sums: &mut [i64]) -> u8 {
@@ -251,4 +255,16 @@ pub fn lower_case(image: &[u8], text: &mut [u8], length: &mut [u64]) -> u8 {
         text[..length[0] as usize].make_ascii_lowercase();
     }
     number
+}
+
+/// As the report program prints it.
+pub fn refused_as_text(image: &[u8], text: &mut [u8], length: &mut [u64]) -> u8 {
+    let number = own::report(image, text, length);
+    if number == 0 || number == 2 {
+        return number;
+    }
+    let line = format!("refused {number}\n");
+    text[..line.len()].copy_from_slice(line.as_bytes());
+    length[0] = line.len() as u64;
+    0
 }

@@ -72,8 +72,8 @@ macro_rules! calls {
         numbers($($number:ident: $whole:ty),*)
         reads($($input:ident: $read:ty),*)
         lends($($output:ident: $lent:ty),*)
-        independent($right:path, $broken:literal: $wrong:path)
-        faulty($($fault:literal: $spoil:path [$($spoiled:ident),*])?);
+        independent($right:path $(, $broken:literal: $wrong:path)+)
+        faulty($($fault:literal: $spoil:path [$($spoiled:ident),*]),*);
     )*) => {
         $(pub mod $name {
             use super::*;
@@ -96,9 +96,11 @@ macro_rules! calls {
                 };
                 $(if run.swapped.faulty == Some($fault) {
                     proved = $spoil(proved, $($spoiled),*);
-                })?
-                let is_broken = run.swapped.broken == Some($broken);
-                let independent = if is_broken { $wrong } else { $right };
+                })*
+                let independent = match run.swapped.broken {
+                    $(Some($broken) => $wrong,)+
+                    _ => $right,
+                };
                 let own = independent($($number,)* $($input.own(),)* $($output.own_mut()),*);
                 let inputs = [$((stringify!($input), &*$input as &dyn Memory)),*];
                 let outputs = [$((stringify!($output), &*$output as &dyn Memory)),*];
@@ -143,14 +145,18 @@ calls! {
         reads(values: i32, weights: u8, classes: u8)
         lends(globals: f64, locals: f64, pairs: f64, has_pair: u8)
         independent(own::float_report, "weightless": broken::weightless)
-        faulty("weightless-zeros": faulty::weightless_zeros [pairs, has_pair]);
+        faulty(
+            "weightless-zeros": faulty::weightless_zeros [pairs, has_pair],
+            "payload-lost": faulty::payload_lost [pairs, has_pair],
+            "figures-quieted": faulty::figures_quieted [locals]
+        );
 
     nearest: dca_nearest
         numbers(p: i64, q: i64)
         reads()
         lends(out: f64)
         independent(own::nearest, "tie-away": broken::tie_away)
-        faulty("nan-quieted": faulty::nan_quieted [out]);
+        faulty("nan-quieted": faulty::nan_quieted [out], "nan-negated": faulty::nan_negated [out]);
 
     hot_list: dca_hot_list
         numbers(n: usize)
@@ -226,6 +232,10 @@ calls! {
         numbers()
         reads(image: u8)
         lends(text: u8, length: u64)
-        independent(own::report, "lower-case": broken::lower_case)
-        faulty("zero-behind": faulty::zero_behind [text, length]);
+        independent(own::report, "lower-case": broken::lower_case, "refused-as-text": broken::refused_as_text)
+        faulty(
+            "zero-behind": faulty::zero_behind [text, length],
+            "refused-line": faulty::refused_line [text],
+            "refused-length": faulty::refused_length [length]
+        );
 }

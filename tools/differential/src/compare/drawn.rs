@@ -479,16 +479,10 @@ pub fn report_image(run: &mut Run, draw: &mut Draw, image: &[u8]) -> Outcome {
         let k = draw.below(lengths.len());
         draw::spoil_length(draw, &mut lengths[k]);
     }
-    let mut image = Lent::list(draw, image);
-    let mut text = Lent::noise(draw, lengths[0]);
-    let mut length = Lent::noise(draw, lengths[1]);
-    calls::report::compare(run, &mut image, &mut text, &mut length)?;
-    if let ([length], true) = (length.own(), text.len() == TEXT) {
-        let said = std::str::from_utf8(&text.own()[..*length as usize]).unwrap_or("");
-        let number = said
-            .strip_prefix("refused ")
-            .and_then(|n| n.trim_end().parse().ok());
-        run.tally.add("(its text)", number.unwrap_or(0));
-    }
-    Ok(())
+    calls::report::compare(
+        run,
+        &mut Lent::list(draw, image),
+        &mut Lent::noise(draw, lengths[0]),
+        &mut Lent::noise(draw, lengths[1]),
+    )
 }

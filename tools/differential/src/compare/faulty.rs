@@ -6,7 +6,7 @@
 use super::lent::{Entry, Lent};
 
 /// The names that `--faulty` takes, and what is wrong.
-pub const NAMES: [(&str, &str); 11] = [
+pub const NAMES: [(&str, &str); 16] = [
     ("beyond-end", "account: an entry is stored beyond the sums"),
     (
         "stored-then-refused",
@@ -17,8 +17,20 @@ pub const NAMES: [(&str, &str); 11] = [
         "float report: a class without weight gets 0 0",
     ),
     (
+        "payload-lost",
+        "float report: a NaN of a class without weight loses its payload",
+    ),
+    (
+        "figures-quieted",
+        "float report: a refused call quiets the NaNs among the local figures",
+    ),
+    (
         "nan-quieted",
         "nearest: a refused call quiets the NaN that was lent",
+    ),
+    (
+        "nan-negated",
+        "nearest: a refused call flips the sign of the NaN that was lent",
     ),
     ("values-sorted", "hot list: the lent values get sorted"),
     (
@@ -39,6 +51,14 @@ pub const NAMES: [(&str, &str); 11] = [
         "write: the length is stored though the output is too short",
     ),
     ("zero-behind", "report: a 0 is stored behind the text"),
+    (
+        "refused-line",
+        "report: the text says the number of a refused image too",
+    ),
+    (
+        "refused-length",
+        "report: the length is stored though the image is refused",
+    ),
 ];
 
 /// Stores another entry at a place, counted from the list's start.
@@ -62,25 +82,59 @@ pub fn stored_then_refused(number: u8, class_locals: &mut Lent<i64>) -> u8 {
     number
 }
 
-pub fn weightless_zeros(number: u8, pairs: &mut Lent<f64>, has_pair: &mut Lent<u8>) -> u8 {
-    let classes = 0..has_pair.len() as isize;
-    for class in classes.filter(|_| number == 0) {
+/// Changes the two entries of each class without weight.
+fn spoil_weightless(pairs: &mut Lent<f64>, has_pair: &mut Lent<u8>, spoil: fn(&mut f64)) {
+    for class in 0..has_pair.len() as isize {
         if *has_pair.proved_entry(class) == 0 {
-            *pairs.proved_entry(2 * class) = 0.0;
-            *pairs.proved_entry(2 * class + 1) = 0.0;
+            spoil(pairs.proved_entry(2 * class));
+            spoil(pairs.proved_entry(2 * class + 1));
         }
+    }
+}
+
+pub fn weightless_zeros(number: u8, pairs: &mut Lent<f64>, has_pair: &mut Lent<u8>) -> u8 {
+    if number == 0 {
+        spoil_weightless(pairs, has_pair, |entry| *entry = 0.0);
+    }
+    number
+}
+
+// NaNs are changed by their bits: how one passes through arithmetic is not said.
+const SIGN: u64 = 1 << 63;
+const QUIET: u64 = 0x7FF8_0000_0000_0000;
+
+fn change_nan(entry: &mut f64, bits: fn(u64) -> u64) {
+    if entry.is_nan() {
+        *entry = f64::from_bits(bits(entry.to_bits()));
+    }
+}
+
+pub fn payload_lost(number: u8, pairs: &mut Lent<f64>, has_pair: &mut Lent<u8>) -> u8 {
+    if number == 0 {
+        let lose = |entry: &mut f64| change_nan(entry, |bits| bits & SIGN | QUIET);
+        spoil_weightless(pairs, has_pair, lose);
+    }
+    number
+}
+
+pub fn figures_quieted(number: u8, locals: &mut Lent<f64>) -> u8 {
+    if number != 0 {
+        let figures = locals.proved_list().iter_mut();
+        figures.for_each(|entry| change_nan(entry, |bits| bits | QUIET));
     }
     number
 }
 
 pub fn nan_quieted(number: u8, out: &mut Lent<f64>) -> u8 {
-    // By the bits: how a NaN passes through arithmetic is not said.
-    const QUIET: u64 = 0x7FF8_0000_0000_0000;
     if number == 18 {
-        let entry = out.proved_entry(0);
-        if entry.is_nan() {
-            *entry = f64::from_bits(entry.to_bits() | QUIET);
-        }
+        change_nan(out.proved_entry(0), |bits| bits | QUIET);
+    }
+    number
+}
+
+pub fn nan_negated(number: u8, out: &mut Lent<f64>) -> u8 {
+    if number == 18 {
+        change_nan(out.proved_entry(0), |bits| bits ^ SIGN);
     }
     number
 }
@@ -138,6 +192,26 @@ pub fn zero_behind(number: u8, text: &mut Lent<u8>, length: &mut Lent<u64>) -> u
         if end < text.len() as u64 {
             *text.proved_entry(end as isize) = 0;
         }
+    }
+    number
+}
+
+/// Whether this is the number of a refused image: 2 is that of a list's length.
+fn is_of_image(number: u8) -> bool {
+    number != 0 && number != 2
+}
+
+pub fn refused_line(number: u8, text: &mut Lent<u8>) -> u8 {
+    if is_of_image(number) {
+        let line = format!("refused {number}\n");
+        text.proved_list()[..line.len()].copy_from_slice(line.as_bytes());
+    }
+    number
+}
+
+pub fn refused_length(number: u8, length: &mut Lent<u64>) -> u8 {
+    if is_of_image(number) {
+        *length.proved_entry(0) = 0;
     }
     number
 }

@@ -4,6 +4,9 @@ use super::draw::Draw;
 use std::fmt::Debug;
 use std::ops::Range;
 
+#[cfg(test)]
+mod tests;
+
 pub trait Entry: Copy + Debug {
     /// Any content at all: floats are any 64 bits, NaNs too.
     fn of_bits(bits: u64) -> Self;
@@ -28,8 +31,8 @@ whole_entry!(u8, i32, u32, i64, u64);
 
 impl Entry for f64 {
     fn of_bits(bits: u64) -> Self {
-        // Half of them are NaNs with any payload.
-        f64::from_bits(bits | ((bits & 1) * 0x7FF0_0000_0000_0000))
+        // Half of them are NaNs, quiet and signalling, of both signs, with any payload: a bit of the exponent decides.
+        f64::from_bits(bits | ((bits >> 52 & 1) * 0x7FF0_0000_0000_0000))
     }
 
     fn bits(self) -> u64 {

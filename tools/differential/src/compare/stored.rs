@@ -13,13 +13,15 @@ use std::str::FromStr;
 #[cfg(test)]
 mod tests;
 
-pub const FILES: [(&str, &str); 3] = [
+pub const FILES: [(&str, &str); 5] = [
     ("cases/jobs.txt", include_str!("../../cases/jobs.txt")),
+    ("cases/floats.txt", include_str!("../../cases/floats.txt")),
     (
         "cases/networks.txt",
         include_str!("../../cases/networks.txt"),
     ),
     ("cases/images.txt", include_str!("../../cases/images.txt")),
+    ("cases/reports.txt", include_str!("../../cases/reports.txt")),
 ];
 
 /// The stored cases of all files. A text that cannot be read, or that does not fit its call, is said with its file and line.

@@ -2,8 +2,8 @@
 
 use std::collections::BTreeMap;
 
-/// The numbers that each call can give; the text of the report says the refusals of its image.
-const CAN_GIVE: [(&str, &[u8]); 16] = [
+/// The numbers that each call can give.
+const CAN_GIVE: [(&str, &[u8]); 15] = [
     ("dca_account", &[1, 2, 3, 4, 5, 6, 7]),
     ("dca_class_account", &[1, 2, 3, 4, 5, 6, 7, 9]),
     ("dca_float_report", &[1, 2, 3, 4, 5, 6, 7, 9]),
@@ -24,10 +24,9 @@ const CAN_GIVE: [(&str, &[u8]); 16] = [
         "dca_write",
         &[1, 2, 3, 4, 5, 6, 7, 8, 10, 11, 12, 13, 15, 19],
     ),
-    ("dca_report", &[2]),
     (
-        "(its text)",
-        &[1, 3, 4, 5, 6, 7, 8, 10, 11, 12, 13, 14, 15, 16, 17],
+        "dca_report",
+        &[1, 2, 3, 4, 5, 6, 7, 8, 10, 11, 12, 13, 14, 15, 16, 17],
     ),
 ];
 
