@@ -135,7 +135,7 @@ module _ (n : ℕ) (values : List ℤ) (weights classes : List ℕ) (lent : List
 
   -- ---- demand 3
   pub demand-3 : Demand3 n (job-answers n values weights classes) (job-lists n values weights classes)
-  unfolding job-answers job-report job-sums job-lists job-pair account.class-row
+  unfolding job-answers job-report job-sums job-lists job-pair account.class-row account.job-figures
   demand-3 = record {
     sums = job-sums n values weights;
     pair = job-pair n values weights;

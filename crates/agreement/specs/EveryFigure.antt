@@ -4,9 +4,9 @@ use Prim.Native.Nat.{ℕ, _*_}
 use lib.IntN.{ℤ}
 use lib.ListN.{length}
 use Rattle.whole.specs.Rules.{first-broken, unless-refused}
-use Rattle.whole.specs.Table.{table, at, pair-at}
-use Rattle.account.specs.Measures.{total-of, deviation-of, spread-of, weight-of, cross-of, squares-of}
-use Rattle.account.specs.Answers.{job-locals}
+use Rattle.whole.specs.Table.{table, at}
+use Rattle.account.specs.Measures.{spread-of}
+use Rattle.account.specs.Answers.{job-figures, job-locals}
 use Rattle.account.specs.Classes.{class-sums, class-locals, class-rules}
 use Rattle.account.specs.declared.Answer.the-variants as account
 use Rattle.account.specs.declared.Sums.{Sums}
@@ -64,15 +64,11 @@ lent-lengths n lent =
 
 -- ---- what is worked
 
--- S, M, W, P, G of a job
+-- S, M, W, P, G of a job, as a struct
 unfoldable pub job-sums : ℕ → List ℤ → List ℕ → Sums
-job-sums n values weights = record {
-  total = total-of (at values) n;
-  spread = spread-of (at values) n;
-  weight = weight-of (pair-at weights n) n;
-  cross = cross-of (pair-at weights n) (deviation-of (at values) n) n;
-  squares = squares-of (pair-at weights n) (at values) n;
-}
+job-sums n values weights =
+    let figures = job-figures n values weights in
+    record { total = at figures 0; spread = at figures 1; weight = at figures 2; cross = at figures 3; squares = at figures 4 }
 
 -- the float report of a job, and one that is refused, in which no class has a coefficient
 unfoldable pub job-report : ℕ → List ℤ → List ℕ → List ℕ → Report
