@@ -265,21 +265,27 @@ fn the_image_there_and_back() {
     assert_eq!((&long[..92], &long[92..]), (&image[..], &[7, 7, 7][..]));
 }
 
+/// The worked image cut at every length, with each wrong byte, and with a byte after its end: each with its refusal.
+fn damaged_images() -> Vec<(Vec<u8>, Refusal)> {
+    let image = worked_image();
+    let cut = (0..image.len()).map(|length| (image[..length].to_vec(), Refusal::CUT));
+    let wrong = WRONG_BYTES.into_iter().map(|(place, byte, refusal)| {
+        let mut wrong = image.clone();
+        wrong[place] = byte;
+        (wrong, refusal)
+    });
+    let after = ([&image[..], &[0]].concat(), Refusal::BYTES_AFTER);
+    cut.chain(wrong).chain([after]).collect()
+}
+
 #[test]
 fn images_that_are_refused() {
-    let image = worked_image();
     let mut kept = Buffers::new();
     kept.weights = [7; 4096];
     let before = kept.clone();
-    for length in 0..image.len() {
-        assert_eq!(dca::read(&image[..length], &mut kept), Err(Refusal::CUT));
+    for (image, refusal) in damaged_images() {
+        assert_eq!(dca::read(&image, &mut kept), Err(refusal), "{image:?}");
     }
-    for (place, byte, refusal) in WRONG_BYTES {
-        let mut wrong = image.clone();
-        wrong[place] = byte;
-        assert_eq!(dca::read(&wrong, &mut kept), Err(refusal), "{place} {byte}");
-    }
-    assert_eq!(dca::read(&[&image[..], &[0]].concat(), &mut kept), Err(Refusal::BYTES_AFTER));
     assert_eq!(kept, before);
 }
 
@@ -320,17 +326,10 @@ fn reports() {
 /// The reader's own numbers, and the text as it was.
 #[test]
 fn reports_that_are_refused() {
-    let image = worked_image();
     let mut text = [b'#'; dca::REPORT_TEXT];
-    for length in 0..image.len() {
-        assert_eq!(dca::report(&image[..length], &mut text), Err(Refusal::CUT));
+    for (image, refusal) in damaged_images() {
+        assert_eq!(dca::report(&image, &mut text), Err(refusal), "{image:?}");
     }
-    for (place, byte, refusal) in WRONG_BYTES {
-        let mut wrong = image.clone();
-        wrong[place] = byte;
-        assert_eq!(dca::report(&wrong, &mut text), Err(refusal), "{place} {byte}");
-    }
-    assert_eq!(dca::report(&[&image[..], &[0]].concat(), &mut text), Err(Refusal::BYTES_AFTER));
     assert_eq!(dca::report(&[0; 50_000], &mut text), Err(Refusal::ZONES));
     assert!(text.iter().all(|&byte| byte == b'#'));
 }

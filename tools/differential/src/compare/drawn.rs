@@ -364,16 +364,21 @@ pub fn read(run: &mut Run, draw: &mut Draw) -> Outcome {
     read_image(run, draw, &image)
 }
 
+/// Once in 25 jobs, one of the lengths is another.
+fn spoil_one(draw: &mut Draw, lengths: &mut [usize]) {
+    if draw.once_in(25) {
+        let k = draw.below(lengths.len());
+        draw::spoil_length(draw, &mut lengths[k]);
+    }
+}
+
 /// The lengths that the six buffers must have.
 const BUFFERS: [usize; 6] = [ZONES, ZONES, ZONES * ZONES, 2 * ZONES, BANDS, SHUFFLE_BYTES];
 
 pub fn read_image(run: &mut Run, draw: &mut Draw, image: &[u8]) -> Outcome {
     let [v, c, w, p, b, s] = BUFFERS;
     let mut lengths = [v, c, w, p, b, s, 6];
-    if draw.once_in(25) {
-        let k = draw.below(lengths.len());
-        draw::spoil_length(draw, &mut lengths[k]);
-    }
+    spoil_one(draw, &mut lengths);
     calls::read::compare(
         run,
         &mut Lent::list(draw, image),
@@ -475,10 +480,7 @@ pub fn report(run: &mut Run, draw: &mut Draw) -> Outcome {
 
 pub fn report_image(run: &mut Run, draw: &mut Draw, image: &[u8]) -> Outcome {
     let mut lengths = [TEXT, 1];
-    if draw.once_in(25) {
-        let k = draw.below(lengths.len());
-        draw::spoil_length(draw, &mut lengths[k]);
-    }
+    spoil_one(draw, &mut lengths);
     calls::report::compare(
         run,
         &mut Lent::list(draw, image),
