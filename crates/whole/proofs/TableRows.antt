@@ -131,3 +131,10 @@ module _ {A : Type 0} (f : ℕ → ℕ → A) where
   pub rows-done : (n m k : ℕ) (l : List A) → k ≡ m → length l ≡ m * n → take (k * n) l ≡ table-rows f k n → l ≡ table-rows f m n
   rows-done n m k l e h g =
       sym (take-all (k * n) l (omega (arith, h, ap (λ t. t * n) e))) ∙ g ∙ ap (λ t. table-rows f t n) e
+
+-- rows with the same entries are the same list
+pub rows-cong :
+    {A : Type 0} (f g : ℕ → ℕ → A) (m n : ℕ) (d : A) → ((k i : ℕ) → k < m → i < n → f k i ≡ g k i) → table-rows f m n ≡ table-rows g m n
+rows-cong f g m n d h =
+    rows-flat g m n d (table-rows f m n) (rows-length f m n)
+    (λ p q. let s = split m n p q in rows-place f m n p d q ∙ h (p / n) (p % n) (s .row) (s .column))
