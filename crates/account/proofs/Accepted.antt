@@ -4,25 +4,27 @@ use mathlib.Core.Bool.{Bool, true, false, not, _||_, true≢false}
 use mathlib.Core.List.{List, [], _∷_, _++_}
 use Prim.Native.Nat.{ℕ, _*_, _≤_, _<_}
 use native.Mathlib.Omega.{arith}
-use borrow.Author.Tests.{le-ltb, eq-eqb, ltb-false}
+use borrow.Author.Tests.{le-ltb, eq-eqb}
 use lib.Dec.{ltb, eqb}
 use lib.IntN.{ℤ, natAbs}
 use lib.ListN.{length, getD}
 use Rattle.whole.specs.Integer.{is-zero}
 use Rattle.whole.specs.Rules.{Rule, first-broken, misfits, size-rules}
 use Rattle.whole.proofs.Rules.{holds, first-none, both-hold, fits, sizes-hold, sizes-let-in}
-use Rattle.whole.proofs.Search.{some-none, none-beyond, none-above}
+use Rattle.whole.proofs.Search.{none-beyond, none-above}
 use Rattle.whole.proofs.Size.{some-size}
 use Rattle.whole.specs.Table.{at, pair-at}
 use Rattle.whole.specs.Search.{any-beyond, any-above, any-on-diagonal}
 use Rattle.shuffles.specs.Shuffles.{shuffle-count, any-lacking, shuffle-refusal}
 use Rattle.shuffles.specs.Steps.{Shuffles}
 use Rattle.shuffles.proofs.Theorems.{list-taken}
-use Rattle.account.specs.Measures.{weight-of, spread-of}
-use Rattle.account.specs.Refusals.{job-rules, job-lengths, call-rules, account-rules, account-refusal}
+use Rattle.kept.specs.Kept.{kept-count}
+use Rattle.account.specs.Measures.{weight-of}
+use Rattle.account.specs.Refusals.{list-rules, job-spread, sum-rules, job-rules, job-lengths, call-rules, account-rules, account-refusal}
 use Rattle.account.specs.Classes.{class-rules, class-lengths}
 use Rattle.account.specs.Rank.{rank-rules, rank-refusal}
-use Rattle.account.specs.Steps.{Sized, Weighted, Job, ClassJob}
+use Rattle.account.specs.Steps.{Sized, Valued, Weighted, Job, ClassJob}
+use Rattle.account.proofs.KeptJob.{clear-of, two-kept}
 
 -- ---- what a rule that holds tells
 pub near : (limit : ℕ) (numbers : List ℤ) (n : ℕ) → length numbers ≡ n → any-beyond limit numbers ≡ false → Sized limit numbers n
@@ -30,12 +32,6 @@ near limit numbers n l e = record { count = l; size = λ k h. none-beyond limit 
 
 pub weighted : (weights : List ℕ) (n : ℕ) → n ≤ 64 → length weights ≡ n * n → any-above 9 weights ≡ false → Weighted weights n
 weighted weights n zones l e = record { zones = zones; count = l; light = λ k h. none-above 9 weights e k (omega arith) }
-
-pub clear-of : (weights : List ℕ) (n : ℕ) → any-on-diagonal n weights ≡ false → (i : ℕ) → i < n → pair-at weights n i i ≡ 0
-unfolding any-on-diagonal
-clear-of weights n e i h =
-    let q = ltb-false 0 (pair-at weights n i i) (some-none (λ i. ltb 0 (pair-at weights n i i)) n i e h) in
-    omega arith
 
 -- ---- a call on a job in which 1 and 2 hold: the sizes are good
 pub record Fitting (n values weights : ℕ) (lent : List (ℕ × ℕ)) : Type 0 where
@@ -81,30 +77,46 @@ also-misfits n values weights lent = go (not (eqb values n)) (not (eqb weights (
     go false true e = refl
     go false false e = let z : (not (eqb n n) || false) ≡ false = rw (eq-eqb n n refl) refl in absurd (true≢false (sym e ∙ z))
 
+-- ---- a job in which 3, 4 and 5 hold
+pub record Lawful (n : ℕ) (values : List ℤ) (weights : List ℕ) : Type 0 where
+  pub valued : Valued values n
+  pub light : Weighted weights n
+  pub clear : any-on-diagonal n weights ≡ false
+
+pub lawful :
+    (n : ℕ) (values : List ℤ) (weights : List ℕ) → n ≤ 64 → length values ≡ n → length weights ≡ n * n →
+    first-broken (list-rules n values weights) ≡ 0 → Lawful n values weights
+lawful n values weights zones l m e =
+    let e3 = holds (any-beyond 100000 values) 2 _ e in
+    let e4 = holds (any-above 9 weights) 3 _ (e3 .1) in
+    let e5 = holds (any-on-diagonal n weights) 4 0 (e4 .1) in record {
+      valued = record { zones = zones; near = near 100000 values n l (e3 .0) };
+      light = weighted weights n zones m (e4 .0);
+      clear = e5 .0;
+    }
+
 -- ---- a job in which 3 to 7 hold
-pub record Kept (n : ℕ) (values : List ℤ) (weights : List ℕ) : Type 0 where
+pub record Sound (n : ℕ) (values : List ℤ) (weights : List ℕ) : Type 0 where
   pub job : Job values weights n
   pub clear : (i : ℕ) → i < n → pair-at weights n i i ≡ 0
   pub weighty : 1 ≤ natAbs (weight-of (pair-at weights n) n)
-  pub varied : 1 ≤ natAbs (spread-of (at values) n)
+  pub two-kept : 2 ≤ kept-count n weights
+  pub varied : 1 ≤ natAbs (job-spread n values weights)
 
-kept :
+sound :
     (n : ℕ) (values : List ℤ) (weights : List ℕ) → n ≤ 64 → length values ≡ n → length weights ≡ n * n →
-    first-broken (job-rules n values weights) ≡ 0 → Kept n values weights
+    first-broken (job-rules n values weights) ≡ 0 → Sound n values weights
 unfolding job-rules
-kept n values weights zones l m e =
-    let e3 = holds (any-beyond 100000 values) 2 _ e in
-    let e4 = holds (any-above 9 weights) 3 _ (e3 .1) in
-    let e5 = holds (any-on-diagonal n weights) 4 _ (e4 .1) in
-    let e6 = holds (is-zero (weight-of (pair-at weights n) n)) 5 _ (e5 .1) in
-    let e7 = holds (is-zero (spread-of (at values) n)) 6 _ (e6 .1) in record {
-      job = record {
-        valued = record { zones = zones; near = near 100000 values n l (e3 .0) };
-        weighted = weighted weights n zones m (e4 .0);
-      };
-      clear = clear-of weights n (e5 .0);
+sound n values weights zones l m e =
+    let both = first-none (sum-rules n values weights) 0 (list-rules n values weights) (tt, (tt, (tt, tt))) e in
+    let lists = lawful n values weights zones l m (both .0) in
+    let e6 = holds (is-zero (weight-of (pair-at weights n) n)) 5 _ (both .1) in
+    let e7 = holds (is-zero (job-spread n values weights)) 6 0 (e6 .1) in record {
+      job = record { valued = lists .valued; weighted = lists .light };
+      clear = clear-of weights n (lists .clear);
       weighty = some-size (weight-of (pair-at weights n) n) (e6 .0);
-      varied = some-size (spread-of (at values) n) (e7 .0);
+      two-kept = two-kept n values weights (lists .light) (lists .clear) (e6 .0);
+      varied = some-size (job-spread n values weights) (e7 .0);
     }
 
 -- ---- a call on a job in which 1 to 7 hold
@@ -125,8 +137,8 @@ module _ (n : ℕ) (values : List ℤ) (weights : List ℕ) (lent : List (ℕ ×
       (record { sizes = fitting n (length values) (length weights) lent (both .0); job = rest .0 }, rest .1)
 
   module _ (c : Called n values weights lent) where
-    pub good : Kept n values weights
-    good = let f = c .sizes in kept n values weights (f .zones) (f .values-fit) (f .weights-fit) (c .job)
+    pub good : Sound n values weights
+    good = let f = c .sizes in sound n values weights (f .zones) (f .values-fit) (f .weights-fit) (c .job)
 
     -- another call on the job, where its lists fit and what it judges besides holds
     pub let-in :
@@ -142,7 +154,7 @@ module _ (n : ℕ) (values : List ℤ) (weights : List ℕ) (lent : List (ℕ ×
 -- ---- of the account and of the hot list
 pub record Accepted {A : Type 0} (n : ℕ) (values : List ℤ) (weights : List ℕ) (places : List A) : Type 0 where
   pub two : 2 ≤ n
-  pub good : Kept n values weights
+  pub good : Sound n values weights
   pub room : length places ≡ n
 
 pub account-called :
@@ -161,7 +173,7 @@ accepted n values weights places e =
 -- ---- of a call on a job with classes, which is lent further lists
 pub record Classed (n : ℕ) (values : List ℤ) (weights classes : List ℕ) (lent : List (ℕ × ℕ)) : Type 0 where
   pub two : 2 ≤ n
-  pub good : Kept n values weights
+  pub good : Sound n values weights
   pub classes-fit : length classes ≡ n * n
   pub low : (k : ℕ) → k < n * n → getD classes k 0 ≤ 8
   pub lent-fit : misfits lent ≡ false
@@ -216,7 +228,7 @@ class-accepted n values weights classes rows of-classes own e =
 -- ---- of a rank: the shuffles are whole rows, and none lacks a zone number
 pub record RankAccepted (n : ℕ) (values : List ℤ) (weights shuffles : List ℕ) : Type 0 where
   pub two : 2 ≤ n
-  pub good : Kept n values weights
+  pub good : Sound n values weights
   pub rows : Shuffles shuffles n (shuffle-count n (length shuffles))
 
 pub rank-called :

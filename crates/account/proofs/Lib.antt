@@ -10,8 +10,15 @@ pub mod NineClasses
 pub mod ZoneByZone
 pub mod Shuffled
 pub mod Tallied
+pub mod KeptLists
+pub mod Placing
+pub mod KeptJob
+pub mod AllKept
+pub mod KeptWork
+pub mod KeptClasses
 pub mod Accepted
 pub mod Judged
+pub mod Found
 pub mod Answered
 pub mod ClassAnswered
 pub mod Theorems

@@ -12,23 +12,23 @@ use Rattle.whole.proofs.Machine.{Is, told, rd, r64}
 use Rattle.whole.proofs.Sum.{sum-cong}
 use Rattle.whole.proofs.Table.{table-length, table-at, table-held, table-cong}
 use Rattle.account.specs.Measures.{total-of, deviation-of, spread-of, weight-of, cross-of, squares-of, local-of}
-use Rattle.account.specs.Answers.{five, job-figures, job-locals}
-use Rattle.account.specs.Steps.{Sized, Valued, Weighted, Job}
+use Rattle.account.specs.Answers.{listed, zones-figures, zones-local}
+use Rattle.account.specs.Steps.{zones-locals, Sized, Valued, Weighted, Job}
 use Rattle.account.proofs.Adding.{local-alike, locals-sum}
 use Rattle.account.proofs.Reading.{table-sized, weight-le}
 use Rattle.account.proofs.Running.{total-runs}
 use Rattle.account.proofs.Sizes.{deviation-size, spread-of-size, weight-size, squares-size, local-size, cross-size}
 
 -- ---- the local numerators of a job by their places
-pub job-locals-length : (n : ℕ) (values : List ℤ) (weights : List ℕ) → length (job-locals n values weights) ≡ n
-unfolding job-locals
-job-locals-length n values weights = table-length (local-of (pair-at weights n) (deviation-of (at values) n) n) n
+pub zones-locals-length : (n : ℕ) (values : List ℤ) (weights : List ℕ) → length (zones-locals n values weights) ≡ n
+unfolding zones-locals zones-local
+zones-locals-length n values weights = table-length (local-of (pair-at weights n) (deviation-of (at values) n) n) n
 
-pub job-locals-at :
+pub zones-locals-at :
     (n : ℕ) (values : List ℤ) (weights : List ℕ) (i : ℕ) → i < n →
-    at (job-locals n values weights) i ≡ local-of (pair-at weights n) (deviation-of (at values) n) n i
-unfolding job-locals
-job-locals-at n values weights i h = table-at (local-of (pair-at weights n) (deviation-of (at values) n) n) n i (pos 0) h
+    at (zones-locals n values weights) i ≡ local-of (pair-at weights n) (deviation-of (at values) n) n i
+unfolding zones-locals zones-local
+zones-locals-at n values weights i h = table-at (local-of (pair-at weights n) (deviation-of (at values) n) n) n i (pos 0) h
 
 -- ---- in the code's lists
 
@@ -64,16 +64,16 @@ module _ (values : List ℤ) (weights : List ℕ) (n : ℕ) (r : Job values weig
   -- worked from the list of deviations
   pub locals-are :
       (d out : List ℤ) → d ≡ table (deviation-of (at values) n) n → out ≡ table (local-of (pair-at weights n) (at d) n) n →
-      out ≡ job-locals n values weights
-  unfolding job-locals
+      out ≡ zones-locals n values weights
+  unfolding zones-locals zones-local
   locals-are d out e q =
       let f = pair-at weights n in
       let deviation = deviation-of (at values) n in
       q ∙ table-cong _ _ n (pos 0) (local-alike f n (at d) deviation (table-held deviation n (pos 0) d e))
 
-  module _ (out : List ℤ) (q : out ≡ job-locals n values weights) where
+  module _ (out : List ℤ) (q : out ≡ zones-locals n values weights) where
     pub locals-sized : Sized 94371840000000000 out n
-    unfolding job-locals
+    unfolding zones-locals zones-local
     locals-sized =
         let v = r .valued in
         let small = deviation-size (at values) n (v .zones) (v .near .size) in
@@ -81,7 +81,7 @@ module _ (values : List ℤ) (weights : List ℕ) (n : ℕ) (r : Job values weig
 
     -- they add up to P
     pub locals-cross : sum (at out) n ≡ cross-of (pair-at weights n) (deviation-of (at values) n) n
-    unfolding job-locals
+    unfolding zones-locals zones-local
     locals-cross = numerators-cross (pair-at weights n) n (deviation-of (at values) n) out q
 
 -- ---- y, told to be one of the sums, is that number and within an i64
@@ -113,11 +113,11 @@ module _ (values : List ℤ) (weights : List ℕ) (n : ℕ) (r : Job values weig
       told _ 1474560000000000 e
       (squares-size (pair-at weights n) n (r .valued .zones) (weight-le weights n (r .weighted)) (at values) (r .valued .near .size))
 
--- ---- five numbers that are those of the job
+-- ---- listed numbers that are those of the job
 pub same-figures :
     (n : ℕ) (values : List ℤ) (weights : List ℕ) (s m w p g : ℤ) → s ≡ total-of (at values) n → m ≡ spread-of (at values) n →
     w ≡ weight-of (pair-at weights n) n → p ≡ cross-of (pair-at weights n) (deviation-of (at values) n) n →
     g ≡ squares-of (pair-at weights n) (at values) n →
-    five (record { total = s; spread = m; weight = w; cross = p; squares = g }) ≡ job-figures n values weights
-unfolding job-figures
+    listed (record { total = s; spread = m; weight = w; cross = p; squares = g; kept = n }) ≡ zones-figures n values weights
+unfolding zones-figures
 same-figures n values weights s m w p g e1 e2 e3 e4 e5 = rw (e1, e2, e3, e4, e5) refl

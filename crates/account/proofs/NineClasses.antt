@@ -10,7 +10,7 @@ use Rattle.whole.specs.Table.{at, pair-at}
 use Rattle.whole.proofs.Lists.{within}
 use Rattle.account.specs.Measures.{deviation-of, weight-of, cross-of, squares-of, local-of}
 use Rattle.account.specs.Answers.{class-row}
-use Rattle.account.specs.Classes.{class-weight, class-row-of, class-local-of}
+use Rattle.account.specs.Classes.{class-weight, zones-class-row, zones-class-local}
 use Rattle.account.proofs.Adding.{counts-once, weight-parts, cross-parts, squares-parts, local-parts}
 
 module _ (n : ℕ) (values : List ℤ) (weights classes : List ℕ) (low : (p : ℕ) → p < n * n → getD classes p 0 ≤ 8) where
@@ -21,21 +21,21 @@ module _ (n : ℕ) (values : List ℤ) (weights classes : List ℕ) (low : (p : 
   shared z i j p q =
       counts-once (pair-at classes n i j) (pair-at weights n i j) 9 z (omega (arith, low (i * n + j) (within n i j p q)))
 
-  pub weights-together : sum (λ k. class-row-of n values weights classes k .weight) 9 ≡ weight-of (pair-at weights n) n
-  unfolding class-row-of class-row
+  pub weights-together : sum (λ k. zones-class-row n values weights classes k .weight) 9 ≡ weight-of (pair-at weights n) n
+  unfolding zones-class-row class-row
   weights-together = weight-parts (class-weight weights classes n) (pair-at weights n) 9 n shared
 
   pub crosses-together :
-      sum (λ k. class-row-of n values weights classes k .cross) 9 ≡ cross-of (pair-at weights n) (deviation-of (at values) n) n
-  unfolding class-row-of class-row
+      sum (λ k. zones-class-row n values weights classes k .cross) 9 ≡ cross-of (pair-at weights n) (deviation-of (at values) n) n
+  unfolding zones-class-row class-row
   crosses-together = cross-parts (class-weight weights classes n) (pair-at weights n) 9 n shared (deviation-of (at values) n)
 
-  pub squares-together : sum (λ k. class-row-of n values weights classes k .squares) 9 ≡ squares-of (pair-at weights n) (at values) n
-  unfolding class-row-of class-row
+  pub squares-together : sum (λ k. zones-class-row n values weights classes k .squares) 9 ≡ squares-of (pair-at weights n) (at values) n
+  unfolding zones-class-row class-row
   squares-together = squares-parts (class-weight weights classes n) (pair-at weights n) 9 n shared (at values)
 
   pub locals-together :
       (i : ℕ) → i < n →
-      sum (λ k. class-local-of n values weights classes k i) 9 ≡ local-of (pair-at weights n) (deviation-of (at values) n) n i
-  unfolding class-local-of
+      sum (λ k. zones-class-local n values weights classes k i) 9 ≡ local-of (pair-at weights n) (deviation-of (at values) n) n i
+  unfolding zones-class-local
   locals-together i p = local-parts (class-weight weights classes n) (pair-at weights n) 9 n shared (deviation-of (at values) n) i p

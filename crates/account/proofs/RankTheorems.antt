@@ -23,10 +23,12 @@ use Rattle.whole.proofs.Rules.{first-least, first-applies, worked-when-taken}
 use Rattle.whole.proofs.Size.{one-*}
 use Rattle.shuffles.specs.Shuffles.{shuffle-count}
 use Rattle.shuffles.proofs.ShuffleList.{whole-rows}
-use Rattle.account.specs.Measures.{total-of, spread-of, weight-of}
-use Rattle.account.specs.Refusals.{job-rules, call-rules, account-rules, account-refusal}
-use Rattle.account.specs.Answers.{job-figures}
-use Rattle.account.specs.Rank.{shuffled, values-cross, shuffle-cross, compared, job-rank, rank-rules, rank-refusal}
+use Rattle.kept.specs.Kept.{kept-count, kept-values, kept-pairs, kept-shuffles}
+use Rattle.kept.proofs.KeptShuffle.{shuffle-full}
+use Rattle.account.specs.Measures.{total-of, spread-of}
+use Rattle.account.specs.Refusals.{job-spread, job-rules, call-rules, account-rules, account-refusal}
+use Rattle.account.specs.Answers.{zones-figures, job-figures, job-row}
+use Rattle.account.specs.Rank.{shuffled, values-cross, shuffle-cross, compared, zones-rank, job-rank, rank-rules, rank-refusal}
 use Rattle.account.specs.Rank.{three, number-of, counts-of, rank-counts}
 use Rattle.account.specs.declared.Counts.{Counts}
 use Rattle.account.specs.declared.RankAnswer.{RankAnswer}
@@ -49,82 +51,98 @@ shuffled-spread x row n all =
     ∙ ap (λ s. pos n *ℤ sum (λ k. square (x k)) n -ℤ square s) (permuted-sum row (stands row n) n f x)
     ∙ sym (pairs-sum x n)
 
--- ---- the P that the shuffles are compared with is the one that the account answers
-pub own-of-account : (n : ℕ) (values : List ℤ) (weights : List ℕ) → values-cross n weights (at values) ≡ at (job-figures n values weights) 3
-unfolding values-cross job-figures
-own-of-account n values weights = refl
+-- ---- of a job, over the zones kept
+module _ (n : ℕ) (values : List ℤ) (weights : List ℕ) where
+  abbrev m : ℕ
+  m = kept-count n weights
 
--- ---- each shuffle is counted once
-module _ (n : ℕ) (values : List ℤ) (weights shuffles : List ℕ) where
-  pub rank-adds-up :
-      let counts = job-rank n values weights shuffles in
-      getD counts 0 0 + getD counts 1 0 + getD counts 2 0 ≡ shuffle-count n (length shuffles)
-  unfolding job-rank compared
-  rank-adds-up =
-      all-counted (shuffle-cross n values weights shuffles) (values-cross n weights (at values)) (shuffle-count n (length shuffles))
+  abbrev x : List ℤ
+  x = kept-values n weights values
 
--- no rows give 0 0 0
-pub no-rows : (n : ℕ) (values : List ℤ) (weights : List ℕ) → job-rank n values weights [] ≡ 0 ∷ 0 ∷ 0 ∷ []
-unfolding job-rank compared shuffle-count count
-no-rows n values weights = rw (N.zero-div n) refl
+  abbrev w : List ℕ
+  w = kept-pairs n weights weights
 
--- ---- where nothing is refused
-module _ (n : ℕ) (values : List ℤ) (weights shuffles : List ℕ) (taken : rank-refusal n values weights shuffles ≡ 0) where
-  abbrev rows : ℕ
-  rows = shuffle-count n (length shuffles)
+  -- the P that the shuffles are compared with is the one that the account answers
+  pub own-of-account : values-cross m w (at x) ≡ at (job-figures n values weights) 3
+  unfolding values-cross job-figures zones-figures
+  own-of-account = refl
 
-  -- the r-th shuffle
-  abbrev row : ℕ → ℕ → ℕ
-  row = pair-at shuffles n
+  module _ (shuffles : List ℕ) where
+    -- the shuffles by their kept numbers
+    abbrev rows : ℕ
+    rows = shuffle-count n (length shuffles)
 
-  none-lacks : (r : ℕ) → r < rows → lacks (row r) n ≡ false
-  none-lacks = rank-accepted n values weights shuffles taken .rows .full
+    abbrev s : List ℕ
+    s = kept-shuffles n weights rows shuffles
 
-  -- the account refuses nothing either
-  pub account-accepts : {A : Type 0} (places : List A) → length places ≡ n → account-refusal n values weights places ≡ 0
-  unfolding account-refusal account-rules
-  account-accepts places l =
-      let-in n values weights _ (rank-called n values weights shuffles taken .0) ((length places, n) ∷ []) []
-      (rw (eq-eqb (length places) n l) refl)
-      refl
+    -- each shuffle is counted once
+    pub rank-adds-up :
+        let counts = job-rank n values weights shuffles in
+        getD counts 0 0 + getD counts 1 0 + getD counts 2 0 ≡ shuffle-count n (length shuffles)
+    unfolding job-rank zones-rank compared
+    rank-adds-up = all-counted (shuffle-cross m x w s) (values-cross m w (at x)) rows
 
-  -- S and M are those of the job in every shuffle
-  module _ (r : ℕ) (h : r < rows) where
-    pub shuffle-total : total-of (shuffled (at values) (row r)) n ≡ total-of (at values) n
-    shuffle-total = shuffled-total (at values) (row r) n (none-lacks r h)
+  -- no rows give 0 0 0
+  pub no-rows : job-rank n values weights [] ≡ 0 ∷ 0 ∷ 0 ∷ []
+  unfolding job-rank zones-rank compared shuffle-count count
+  no-rows = rw (N.zero-div n) refl
 
-    pub shuffle-spread : spread-of (shuffled (at values) (row r)) n ≡ spread-of (at values) n
-    shuffle-spread = shuffled-spread (at values) (row r) n (none-lacks r h)
+  -- ---- where nothing is refused
+  module _ (shuffles : List ℕ) (taken : rank-refusal n values weights shuffles ≡ 0) where
+    -- the account refuses nothing either
+    pub account-accepts : {A : Type 0} (places : List A) → length places ≡ n → account-refusal n values weights places ≡ 0
+    unfolding account-refusal account-rules
+    account-accepts places l =
+        let-in n values weights _ (rank-called n values weights shuffles taken .0) ((length places, n) ∷ []) []
+        (rw (eq-eqb (length places) n l) refl)
+        refl
 
-    -- so I of the shuffle and of the job, P over W × M each, compare as their P do: multiplied out, by the divisors, which are above 0
-    abbrev own : ℤ
-    own = values-cross n weights (at values)
+    module _ (r : ℕ) (h : r < rows shuffles) where
+      -- the kept numbers of the r-th shuffle, which are a shuffle of the zones kept
+      abbrev row : ℕ → ℕ
+      row = pair-at (s shuffles) m r
 
-    abbrev its : ℤ
-    its = shuffle-cross n values weights shuffles r
+      pub kept-row-lacks-none : lacks row m ≡ false
+      kept-row-lacks-none =
+          shuffle-full n weights (rows shuffles) shuffles r h (rank-accepted n values weights shuffles taken .rows .full r h)
 
-    abbrev divisor : ℤ
-    divisor = weight-of (pair-at weights n) n *ℤ spread-of (at values) n
+      -- S and M are those of the job in every shuffle
+      pub shuffle-total : total-of (shuffled (at x) row) m ≡ total-of (at x) m
+      shuffle-total = shuffled-total (at x) row m kept-row-lacks-none
 
-    abbrev its-divisor : ℤ
-    its-divisor = weight-of (pair-at weights n) n *ℤ spread-of (shuffled (at values) (row r)) n
+      pub shuffle-spread : spread-of (shuffled (at x) row) m ≡ job-spread n values weights
+      unfolding job-spread
+      shuffle-spread = shuffled-spread (at x) row m kept-row-lacks-none
 
-    same-divisor : its-divisor ≡ divisor
-    same-divisor = ap (λ m. weight-of (pair-at weights n) n *ℤ m) shuffle-spread
+      -- so I of the shuffle and of the job, P over W × M each, compare as their P do: multiplied out, by the divisors, which are above 0
+      abbrev own : ℤ
+      own = values-cross m w (at x)
 
-    from-one : pos 1 ≤ℤ divisor
-    from-one =
-        let none = account-accepts values (rank-called n values weights shuffles taken .0 .sizes .values-fit) in
-        one-* _ _ (weight-one n values weights values none) (spread-one n values weights values none)
+      abbrev its : ℤ
+      its = shuffle-cross m x w (s shuffles) r
 
-    pub moran-less : ltZ (its *ℤ divisor) (own *ℤ its-divisor) ≡ ltZ its own
-    moran-less = ap (λ d. ltZ (its *ℤ divisor) (own *ℤ d)) same-divisor ∙ less-scaled its own divisor from-one
+      abbrev divisor : ℤ
+      divisor = job-row n values weights .weight *ℤ job-spread n values weights
 
-    pub moran-equal : equal (its *ℤ divisor) (own *ℤ its-divisor) ≡ equal its own
-    moran-equal = ap (λ d. equal (its *ℤ divisor) (own *ℤ d)) same-divisor ∙ equal-scaled its own divisor from-one
+      abbrev its-divisor : ℤ
+      its-divisor = job-row n values weights .weight *ℤ spread-of (shuffled (at x) row) m
 
-    pub moran-greater : ltZ (own *ℤ its-divisor) (its *ℤ divisor) ≡ ltZ own its
-    moran-greater = ap (λ d. ltZ (own *ℤ d) (its *ℤ divisor)) same-divisor ∙ less-scaled own its divisor from-one
+      same-divisor : its-divisor ≡ divisor
+      same-divisor = ap (λ v. job-row n values weights .weight *ℤ v) shuffle-spread
+
+      from-one : pos 1 ≤ℤ divisor
+      from-one =
+          let none = account-accepts values (rank-called n values weights shuffles taken .0 .sizes .values-fit) in
+          one-* _ _ (weight-one n values weights values none) (spread-one n values weights values none)
+
+      pub moran-less : ltZ (its *ℤ divisor) (own *ℤ its-divisor) ≡ ltZ its own
+      moran-less = ap (λ d. ltZ (its *ℤ divisor) (own *ℤ d)) same-divisor ∙ less-scaled its own divisor from-one
+
+      pub moran-equal : equal (its *ℤ divisor) (own *ℤ its-divisor) ≡ equal its own
+      moran-equal = ap (λ d. equal (its *ℤ divisor) (own *ℤ d)) same-divisor ∙ equal-scaled its own divisor from-one
+
+      pub moran-greater : ltZ (own *ℤ its-divisor) (its *ℤ divisor) ≡ ltZ own its
+      moran-greater = ap (λ d. ltZ (own *ℤ d) (its *ℤ divisor)) same-divisor ∙ less-scaled own its divisor from-one
 
 -- ---- the refusal is the least number that applies: it applies, and no number below it does
 module _ (n : ℕ) (values : List ℤ) (weights shuffles : List ℕ) where
@@ -173,5 +191,5 @@ module _ (n : ℕ) (values : List ℤ) (weights shuffles : List ℕ) (taken : ra
       ∙ whole-rows n (length shuffles) (omega (arith, a .two)) (a .rows .count)
 
   pub never-refused : (k : ℕ) → r ≡ Refused k → ⊥
-  unfolding counts-of job-rank compared
+  unfolding counts-of job-rank zones-rank compared
   never-refused k g = let z : _≡_ {A = ℕ} 0 3 = ap length (sym (ap counts-of g) ∙ answered) in omega arith

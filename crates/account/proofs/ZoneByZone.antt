@@ -21,8 +21,8 @@ use Rattle.whole.proofs.SumSize.{sum-size}
 use Rattle.whole.proofs.TableRows.{rows-length}
 use Rattle.account.specs.Measures.{deviation-of, row-of, pairs-of, weight-of, squares-of}
 use Rattle.account.specs.Answers.{class-row}
-use Rattle.account.specs.Classes.{class-weight, class-row-of, class-local-of, sum-at, class-sums, class-locals}
-use Rattle.account.specs.Steps.{Sized, ClassJob, row-added, counted, zone-part, zone-sum, Zoned}
+use Rattle.account.specs.Classes.{class-weight, zones-class-row, zones-class-local, sum-at}
+use Rattle.account.specs.Steps.{zones-class-sums, zones-class-locals, Sized, ClassJob, row-added, counted, zone-part, zone-sum, Zoned}
 use Rattle.account.specs.declared.ClassRow.{ClassRow}
 use Rattle.account.proofs.Adding.{part-of, locals-sum}
 use Rattle.account.proofs.ByClass.{class-le, by-places, sums-sized, sums-alike, row-more}
@@ -130,14 +130,14 @@ module _ (n : ℕ) (values : List ℤ) (weights classes : List ℕ) where
   -- all zones
   pub all-zones :
       (i : ℕ) (rows locals : List ℤ) → i ≡ n → Zoned n values weights classes (λ k. i) rows locals →
-      (rows ≡ class-sums n values weights classes) × (locals ≡ class-locals n values weights classes)
-  unfolding class-sums class-locals class-row-of class-row weight-of squares-of pairs-of zone-part class-local-of
+      (rows ≡ zones-class-sums n values weights classes) × (locals ≡ zones-class-locals n values weights classes)
+  unfolding zones-class-sums zones-class-locals zones-class-row class-row weight-of squares-of pairs-of zone-part zones-class-local
   all-zones i rows locals a z = (
     sums-alike _ rows (z .sums) _ (λ k s p q. ap (sum (zone-sum n values weights classes k s)) a ∙ whole k s),
     by-places _ 9 n locals (z .count) (λ k j p q. z .numerators k j p (omega arith)),
   )
     where
-      whole : (k s : ℕ) → sum (zone-sum n values weights classes k s) n ≡ sum-at (class-row-of n values weights classes k) s
+      whole : (k s : ℕ) → sum (zone-sum n values weights classes k s) n ≡ sum-at (zones-class-row n values weights classes k) s
       whole k zero = refl
       whole k (suc zero) = locals-sum (class-weight weights classes n k) (deviation-of (at values) n) n
       whole k (suc (suc s)) = refl
@@ -160,7 +160,7 @@ module _ (n : ℕ) (values : List ℤ) (weights classes : List ℕ) where
 
     locals-next :
         (q j : ℕ) → q < 9 → j < zones-in i (k + 1) q → Dec (q ≡ k) → Dec (j ≡ i) →
-        at (set locals (k * n + i) (row .cross)) (q * n + j) ≡ class-local-of n values weights classes q j
+        at (set locals (k * n + i) (row .cross)) (q * n + j) ≡ zones-class-local n values weights classes q j
     locals-next q j p u (yes e) (yes f) =
         rw (e, f)
         (getD-set-same locals (k * n + i) (row .cross) (pos 0) (omega (arith, N.mul-le-mul-right n low, z .count)) ∙ each 1)
@@ -201,8 +201,8 @@ module _ (n : ℕ) (values : List ℤ) (weights classes : List ℕ) (g : ClassJo
   pairs-sized i j l p q e =
       sums-sized _ l e 6039797760000000000 (λ k s t u. N.le-trans (pairs-size i j k s p q) (leb→le 23040000000000 6039797760000000000 tt))
 
-  pub class-local-size : (k i : ℕ) → i < n → natAbs (class-local-of n values weights classes k i) ≤ 94371840000000000
-  unfolding class-local-of
+  pub class-local-size : (k i : ℕ) → i < n → natAbs (zones-class-local n values weights classes k i) ≤ 94371840000000000
+  unfolding zones-class-local
   class-local-size k =
       let v = g .job .valued in
       local-size (class-weight weights classes n k) n (v .zones) (class-light k) (deviation-of (at values) n)
@@ -230,14 +230,14 @@ module _ (n : ℕ) (values : List ℤ) (weights classes : List ℕ) (g : ClassJo
       ))
 
   -- W and G of a class are no larger than a local numerator can be
-  pub class-weight-size : (k : ℕ) → natAbs (class-row-of n values weights classes k .weight) ≤ 94371840000000000
-  unfolding class-row-of class-row
+  pub class-weight-size : (k : ℕ) → natAbs (zones-class-row n values weights classes k .weight) ≤ 94371840000000000
+  unfolding zones-class-row class-row
   class-weight-size k =
       N.le-trans (weight-size (class-weight weights classes n k) n (g .job .valued .zones) (class-light k))
       (leb→le 36864 94371840000000000 tt)
 
-  pub class-squares-size : (k : ℕ) → natAbs (class-row-of n values weights classes k .squares) ≤ 94371840000000000
-  unfolding class-row-of class-row
+  pub class-squares-size : (k : ℕ) → natAbs (zones-class-row n values weights classes k .squares) ≤ 94371840000000000
+  unfolding zones-class-row class-row
   class-squares-size k =
       let v = g .job .valued in
       N.le-trans (squares-size (class-weight weights classes n k) n (v .zones) (class-light k) (at values) (v .near .size))

@@ -1,5 +1,5 @@
 -- The class account: each ordered pair has a class 0 to 8, 0 being unclassed. For each class, W, P, G and L(i) are taken over its pairs
--- only; d and M stay those of the whole job. Assumes nothing.
+-- only; d and M stay those of the whole job, and all are taken over the zones kept. Assumes nothing.
 use mathlib.Core.Bool.{cond}
 use mathlib.Core.List.{List, [], _∷_}
 use Prim.Native.Nat.{ℕ, zero, suc, _+_, _*_}
@@ -9,6 +9,7 @@ use lib.ListN.{length}
 use Rattle.whole.specs.Rules.{Rule, first-broken, unless-refused}
 use Rattle.whole.specs.Search.{any-above}
 use Rattle.whole.specs.Table.{table-rows, at, pair-at}
+use Rattle.kept.specs.Kept.{kept-count, kept-values, kept-pairs, put-back}
 use Rattle.account.specs.Measures.{deviation-of, local-of}
 use Rattle.account.specs.Answers.{class-row, job-figures, job-locals}
 use Rattle.account.specs.Refusals.{call-rules}
@@ -18,15 +19,31 @@ use Rattle.account.specs.declared.ClassRow.{ClassRow}
 unfoldable pub class-weight : List ℕ → List ℕ → ℕ → ℕ → ℕ → ℕ → ℕ
 class-weight weights classes n k i j = cond (eqb (pair-at classes n i j) k) (pair-at weights n i j) 0
 
--- ---- what is worked
+-- ---- of n zones, all of which count
 
 -- the class row of class k
-unfoldable pub class-row-of : ℕ → List ℤ → List ℕ → List ℕ → ℕ → ClassRow
-class-row-of n values weights classes k = class-row (class-weight weights classes n k) (at values) n
+unfoldable pub zones-class-row : ℕ → List ℤ → List ℕ → List ℕ → ℕ → ClassRow
+zones-class-row n values weights classes k = class-row (class-weight weights classes n k) (at values) n
 
 -- the local numerator L(i) of class k
-unfoldable pub class-local-of : ℕ → List ℤ → List ℕ → List ℕ → ℕ → ℕ → ℤ
-class-local-of n values weights classes k i = local-of (class-weight weights classes n k) (deviation-of (at values) n) n i
+unfoldable pub zones-class-local : ℕ → List ℤ → List ℕ → List ℕ → ℕ → ℕ → ℤ
+zones-class-local n values weights classes k i = local-of (class-weight weights classes n k) (deviation-of (at values) n) n i
+
+-- ---- of a job: what holds of the zones kept
+module _ (n : ℕ) (values : List ℤ) (weights classes : List ℕ) where
+  -- the class row of class k
+  unfoldable pub class-row-of : ℕ → ClassRow
+  class-row-of k =
+      zones-class-row (kept-count n weights) (kept-values n weights values) (kept-pairs n weights weights) (kept-pairs n weights classes) k
+
+  -- the local numerator L(i) of class k, 0 at a zone left out
+  unfoldable pub class-local-of : ℕ → ℕ → ℤ
+  class-local-of k i =
+      put-back n weights
+      (zones-class-local (kept-count n weights) (kept-values n weights values) (kept-pairs n weights weights) (kept-pairs n weights classes) k)
+      i
+
+-- ---- in lists
 
 -- W, P and G of a class row by their places
 abbrev pub sum-at : ClassRow → ℕ → ℤ
@@ -64,7 +81,7 @@ module _ (n : ℕ) (values : List ℤ) (weights classes : List ℕ) (rows of-cla
   unfoldable pub class-refusal : ℕ
   class-refusal = first-broken (class-rules n values weights classes (class-lengths n (length rows) (length of-classes) (length own)))
 
-  -- S, M, W, P, G of the whole job, which the call answers
+  -- S, M, W, P, G of the whole job and the number of zones kept, which the call answers
   unfoldable pub class-account-figures : List ℤ
   class-account-figures = unless-refused class-refusal (job-figures n values weights) []
 

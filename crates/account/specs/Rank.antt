@@ -1,5 +1,6 @@
 -- The rank of a job: how many shuffles of its values have a P less than, equal to and greater than its own. The job itself is not counted.
--- A list of shuffles has a row of n zone numbers for each. Assumes nothing.
+-- A list of shuffles has a row of n zone numbers for each. A shuffle acts on the zones kept: in order they take its kept numbers. Assumes
+-- nothing.
 use mathlib.Core.List.{List, [], _∷_}
 use Prim.Native.Nat.{ℕ, _*_}
 use lib.IntN.{ℤ}
@@ -9,6 +10,7 @@ use Rattle.whole.specs.Integer.{equal}
 use Rattle.whole.specs.Rules.{Rule, first-broken, unless-refused}
 use Rattle.whole.specs.Search.{count}
 use Rattle.whole.specs.Table.{at, pair-at}
+use Rattle.kept.specs.Kept.{kept-count, kept-values, kept-pairs, kept-shuffles}
 use Rattle.shuffles.specs.Shuffles.{shuffle-count, any-lacking}
 use Rattle.account.specs.Measures.{deviation-of, cross-of}
 use Rattle.account.specs.Refusals.{call-rules}
@@ -16,13 +18,13 @@ use Rattle.account.specs.declared.Counts.{Counts}
 use Rattle.account.specs.declared.RankAnswer.{RankAnswer}
 use Rattle.account.specs.declared.RankAnswer.the-variants.{Refused, Counted}
 
--- ---- what is worked
+-- ---- of n zones, all of which count
 
 -- zone i takes the value of the zone named at place i
 abbrev pub shuffled : (ℕ → ℤ) → (ℕ → ℕ) → ℕ → ℤ
 shuffled x named i = x (named i)
 
--- the P of the values x between the job's zones
+-- the P of the values x between the zones
 unfoldable pub values-cross : ℕ → List ℕ → (ℕ → ℤ) → ℤ
 values-cross n weights x = cross-of (pair-at weights n) (deviation-of x n) n
 
@@ -35,10 +37,18 @@ unfoldable pub compared : (ℕ → ℤ) → ℤ → ℕ → List ℕ
 compared numbers own many =
     count (λ r. ltZ (numbers r) own) many ∷ count (λ r. equal (numbers r) own) many ∷ count (λ r. ltZ own (numbers r)) many ∷ []
 
+-- so many shuffles counted by their P, beside that of the zones' own values
+unfoldable pub zones-rank : ℕ → ℕ → List ℤ → List ℕ → List ℕ → List ℕ
+zones-rank rows n values weights shuffles = compared (shuffle-cross n values weights shuffles) (values-cross n weights (at values)) rows
+
+-- ---- of a job: what holds of the zones kept
+
 -- the shuffles counted by their P, beside the job's own
 unfoldable pub job-rank : ℕ → List ℤ → List ℕ → List ℕ → List ℕ
 job-rank n values weights shuffles =
-    compared (shuffle-cross n values weights shuffles) (values-cross n weights (at values)) (shuffle-count n (length shuffles))
+    let rows = shuffle-count n (length shuffles) in
+    zones-rank rows (kept-count n weights) (kept-values n weights values) (kept-pairs n weights weights)
+    (kept-shuffles n weights rows shuffles)
 
 -- ---- what is refused
 

@@ -1,4 +1,4 @@
-// The class account's work on a job that was judged and accepted: one pass over its pairs, each added to the sums of its own class.
+// The class account's work on zones all of which count: one pass over their pairs, each added to the sums of its own class.
 use crate::Sums;
 use crate::deviations;
 use crate::differences;
@@ -9,9 +9,8 @@ ghost use lib.ListN.{length};
 ghost use Rattle.whole.specs.Sum.{sum};
 ghost use Rattle.whole.specs.Table.{table, table-rows, at};
 ghost use Rattle.account.specs.Measures.{total-of, deviation-of};
-ghost use Rattle.account.specs.Answers.{five, job-figures, job-locals};
-ghost use Rattle.account.specs.Classes.{class-sums, class-locals};
-ghost use Rattle.account.specs.Steps.{Sized, ClassJob, row-added, zone-part, Zoned, Owned};
+ghost use Rattle.account.specs.Answers.{listed, zones-figures};
+ghost use Rattle.account.specs.Steps.{Sized, ClassJob, zones-locals, zones-class-sums, zones-class-locals, row-added, zone-part, Zoned, Owned};
 
 // Adds to W, P and G of class k. A local numerator is the largest number that is added, and 64 of them fit.
 pub(super) fn add_row(rows: &mut [i64], k: usize, weight: i64, cross: i64, squares: i64)
@@ -116,7 +115,7 @@ pub(super) fn clear(rows: &mut [i64])
     }
 }
 
-// The rows and the local numerators of an accepted job, zone by zone: d is worked once, for all of them.
+// The rows and the local numerators, zone by zone: d is worked once, for all of them.
 pub(super) fn add_zones(
     n: usize,
     values: &[i32],
@@ -132,10 +131,10 @@ pub(super) fn add_zones(
     requires { ⌜ length (now rows) ≡ 27 ⌝ }
     requires { ⌜ length (now «class_locals») ≡ 9 * n ⌝ }
     requires { ⌜ length (now locals) ≡ n ⌝ }
-    ensures { λ _. ⌜ now (rows .exit) ≡ class-sums n (now (values .entry)) (now (weights .entry)) (now (classes .entry)) ⌝ }
+    ensures { λ _. ⌜ now (rows .exit) ≡ zones-class-sums n (now (values .entry)) (now (weights .entry)) (now (classes .entry)) ⌝ }
     ensures { λ _. ⌜ now («class_locals» .exit)
-        ≡ class-locals n (now (values .entry)) (now (weights .entry)) (now (classes .entry)) ⌝ }
-    ensures { λ _. ⌜ now (locals .exit) ≡ job-locals n (now (values .entry)) (now (weights .entry)) ⌝ }
+        ≡ zones-class-locals n (now (values .entry)) (now (weights .entry)) (now (classes .entry)) ⌝ }
+    ensures { λ _. ⌜ now (locals .exit) ≡ zones-locals n (now (values .entry)) (now (weights .entry)) ⌝ }
 {
     let mut d: [i64; 64] = [0; 64];
     deviations::deviations(n, values, total, &mut d[..n]);
@@ -173,8 +172,8 @@ pub(super) fn nine_together(rows: &[i64], place: usize) -> i64
     acc
 }
 
-// The class account of an accepted job, and the five sums of the whole job, of which the classes give three.
-pub(super) fn work_classes(
+// The class account of n zones, and the sums of them all, of which the classes give three.
+pub(super) fn zone_classes(
     n: usize,
     values: &[i32],
     weights: &[u8],
@@ -187,11 +186,11 @@ pub(super) fn work_classes(
     requires { ⌜ length (now rows) ≡ 27 ⌝ }
     requires { ⌜ length (now «class_locals») ≡ 9 * n ⌝ }
     requires { ⌜ length (now locals) ≡ n ⌝ }
-    ensures { λ r. ⌜ five r ≡ job-figures n (now (values .entry)) (now (weights .entry)) ⌝ }
-    ensures { λ _. ⌜ now (rows .exit) ≡ class-sums n (now (values .entry)) (now (weights .entry)) (now (classes .entry)) ⌝ }
+    ensures { λ r. ⌜ listed r ≡ zones-figures n (now (values .entry)) (now (weights .entry)) ⌝ }
+    ensures { λ _. ⌜ now (rows .exit) ≡ zones-class-sums n (now (values .entry)) (now (weights .entry)) (now (classes .entry)) ⌝ }
     ensures { λ _. ⌜ now («class_locals» .exit)
-        ≡ class-locals n (now (values .entry)) (now (weights .entry)) (now (classes .entry)) ⌝ }
-    ensures { λ _. ⌜ now (locals .exit) ≡ job-locals n (now (values .entry)) (now (weights .entry)) ⌝ }
+        ≡ zones-class-locals n (now (values .entry)) (now (weights .entry)) (now (classes .entry)) ⌝ }
+    ensures { λ _. ⌜ now (locals .exit) ≡ zones-locals n (now (values .entry)) (now (weights .entry)) ⌝ }
 {
     let total = deviations::total(n, values);
     let spread = differences::spread(n, values, total);
@@ -214,5 +213,6 @@ pub(super) fn work_classes(
         weight: weight,
         cross: cross,
         squares: squares,
+        kept: n,
     }
 }

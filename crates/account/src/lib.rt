@@ -1,10 +1,12 @@
 // The account of a job: values and weights give S, M, W, P, G, and the local numerators L(i) go to a lent list. The class account of a
 // job and its classes: the same, and W, P, G and the local numerators of each class go to two more. The rank of a job among shuffles of
-// its values.
+// its values. All of them are taken over the zones kept, those whose row or column of weights holds some weight.
 mod classes;
 mod deviations;
 mod differences;
 mod judging;
+mod keeping;
+mod kept_zones;
 mod ranking;
 mod shuffling;
 mod working;
@@ -19,7 +21,7 @@ ghost use Rattle.account.specs.Classes.{class-account-rows, class-accoun
 ghost use Rattle.account.specs.Rank.{rank-refusal, rank-counts, counts-of};
 ghost use Rattle.account.specs.Rank as rank;
 
-// The five whole numbers of a job.
+// The whole numbers of a job.
 pub struct Sums {
     // S
     pub total: i64,
@@ -31,6 +33,8 @@ pub struct Sums {
     pub cross: i64,
     // G
     pub squares: i64,
+    // the number of zones kept, over which they are taken
+    pub kept: usize,
 }
 
 // A class row: the three sums over the pairs of a class.
@@ -43,7 +47,7 @@ pub struct ClassRow {
     pub squares: i64,
 }
 
-// The number of the refusal, or the five sums.
+// The number of the refusal, or the sums.
 pub enum Answer {
     Refused(u8),
     Accounted(Sums),
@@ -62,17 +66,21 @@ pub enum RankAnswer {
     Counted(Counts),
 }
 
-// Works the account of the job. `locals` is lent n places for L(0), L(1), .. and is left as it was where the job is refused.
+// Works the account of the job. `locals` is lent n places for L(0), L(1), .., which is 0 at a zone left out, and is left as it was where
+// the job is refused.
 pub fn account(n: usize, values: &[i32], weights: &[u8], locals: &mut [i64]) -> Answer
     ensures number { λ r. ⌜ number-of r ≡ account-refusal n (now (values .entry)) (now (weights .entry)) (now (locals .entry)) ⌝ }
     ensures figures { λ r. ⌜ figures-of r ≡ account-figures n (now (values .entry)) (now (weights .entry)) (now (locals .entry)) ⌝ }
     ensures lent { λ _. ⌜ now (locals .exit) ≡ account-locals n (now (values .entry)) (now (weights .entry)) (now (locals .entry)) ⌝ }
 {
-    let refusal = judging::judge_account(n, values, weights, locals.len());
+    let mut zones: [u8; 64] = [0; 64];
+    let found = judging::judge_account(n, values, weights, locals.len(), &mut zones);
+    let refusal = found.number;
     if refusal != 0 {
         return Answer::Refused(refusal);
     }
-    Answer::Accounted(working::job_sums(n, values, weights, locals))
+    let many = found.kept;
+    Answer::Accounted(kept_zones::job_sums(n, values, weights, &zones[..many], locals))
 }
 
 // Works the class account of the job, whose pairs have the classes lent, and answers what the account answers: `rows` has 27 places for
@@ -99,7 +107,8 @@ pub fn class_account(
     ensures own { λ _. ⌜ now (locals .exit) ≡ class-account-own n (now (values .entry)) (now (weights .entry)) (now (classes .entry))
         (now (rows .entry)) (now («class_locals» .entry)) (now (locals .entry)) ⌝ }
 {
-    let refusal = judging::judge_classes(
+    let mut zones: [u8; 64] = [0; 64];
+    let found = judging::judge_classes(
         n,
         values,
         weights,
@@ -107,15 +116,19 @@ pub fn class_account(
         rows.len(),
         class_locals.len(),
         locals.len(),
+        &mut zones,
     );
-    if refusal != 0 {
-        return Answer::Refused(refusal);
+    let number = found.number;
+    if number != 0 {
+        return Answer::Refused(number);
     }
-    Answer::Accounted(classes::work_classes(
+    let many = found.kept;
+    Answer::Accounted(kept_zones::work_classes(
         n,
         values,
         weights,
         classes,
+        &zones[..many],
         rows,
         class_locals,
         locals,
@@ -123,14 +136,18 @@ pub fn class_account(
 }
 
 // Counts the shuffles whose P is less than, equal to and greater than the job's own, which is not counted itself. `shuffles` has a row
-// of n zone numbers for each, 0 to 499 of them: zone i takes the value of the zone named at place i.
+// of n zone numbers for each, 0 to 499 of them: the zones kept take, in order, the values of the kept zones that it names.
 pub fn rank(n: usize, values: &[i32], weights: &[u8], shuffles: &[u8]) -> RankAnswer
     ensures number { λ r. ⌜ rank.number-of r ≡ rank-refusal n (now (values .entry)) (now (weights .entry)) (now (shuffles .entry)) ⌝ }
     ensures counts { λ r. ⌜ counts-of r ≡ rank-counts n (now (values .entry)) (now (weights .entry)) (now (shuffles .entry)) ⌝ }
 {
-    let refusal = judging::judge_rank(n, values, weights, shuffles);
-    if refusal != 0 {
-        return RankAnswer::Refused(refusal);
+    let mut zones: [u8; 64] = [0; 64];
+    let found = judging::judge_rank(n, values, weights, shuffles, &mut zones);
+    let broken = found.number;
+    if broken != 0 {
+        return RankAnswer::Refused(broken);
     }
-    RankAnswer::Counted(ranking::work_rank(n, values, weights, shuffles, shuffles.len() / n))
+    let many = found.kept;
+    let rows = shuffles.len() / n;
+    RankAnswer::Counted(kept_zones::work_rank(n, values, weights, &zones[..many], shuffles, rows))
 }

@@ -1,11 +1,10 @@
-// The rank's work on a job that was judged and accepted: S, d and the job's own P are worked once, then the P of each shuffle.
+// The rank's work on zones all of which count: S, d and their own P are worked once, then the P of each shuffle.
 use crate::Counts;
 use crate::deviations;
 use crate::shuffling;
 ghost use mathlib.Core.Path.{_≡_};
-ghost use Rattle.whole.specs.Table.{at};
 ghost use Rattle.shuffles.specs.Steps.{Shuffle, Shuffles};
-ghost use Rattle.account.specs.Rank.{values-cross, shuffle-cross, compared, three};
+ghost use Rattle.account.specs.Rank.{compared, zones-rank, three};
 ghost use Rattle.account.specs.Steps.{Sized, Weighted, Job, cross-held, cross-moved};
 
 // The P of the deviations d: each row's weighted neighbours are added up first, and multiplied by the row's d once.
@@ -68,8 +67,8 @@ pub(super) fn tally(n: usize, weights: &[u8], d: &[i64], shuffles: &[u8], rows: 
     }
 }
 
-// The rank of an accepted job.
-pub(super) fn work_rank(
+// The rank of n zones.
+pub(super) fn zone_rank(
     n: usize,
     values: &[i32],
     weights: &[u8],
@@ -78,8 +77,7 @@ pub(super) fn work_rank(
 ) -> Counts
     requires { ⌜ Job (now values) (now weights) n ⌝ }
     requires { ⌜ Shuffles (now shuffles) n rows ⌝ }
-    ensures { λ c. ⌜ three c ≡ compared (shuffle-cross n (now (values .entry)) (now (weights .entry)) (now (shuffles .entry)))
-        (values-cross n (now (weights .entry)) (at (now (values .entry)))) rows ⌝ }
+    ensures { λ c. ⌜ three c ≡ zones-rank rows n (now (values .entry)) (now (weights .entry)) (now (shuffles .entry)) ⌝ }
 {
     let total = deviations::total(n, values);
     let mut d: [i64; 64] = [0; 64];

@@ -1,4 +1,4 @@
-// The work on a job that was judged and accepted: the sums over its pairs, and all five.
+// The work on zones all of which count: the sums over their pairs, and all sums.
 use crate::ClassRow;
 use crate::Sums;
 use crate::deviations;
@@ -7,8 +7,8 @@ ghost use mathlib.Core.Path.{_≡_};
 ghost use lib.ListN.{length};
 ghost use Rattle.whole.specs.Table.{table, at, pair-at};
 ghost use Rattle.account.specs.Measures.{deviation-of, weight-of};
-ghost use Rattle.account.specs.Answers.{five, class-row, job-figures, job-locals};
-ghost use Rattle.account.specs.Steps.{Weighted, Job};
+ghost use Rattle.account.specs.Answers.{listed, class-row, zones-figures};
+ghost use Rattle.account.specs.Steps.{Weighted, Job, zones-locals};
 
 // W, in 32 bits, so that the compiler can add several weights at a time.
 pub(super) fn weight_sum(n: usize, weights: &[u8]) -> i64
@@ -36,7 +36,7 @@ pub(super) fn pair_sums(
     requires { ⌜ now d ≡ table (deviation-of (at (now values)) n) n ⌝ }
     requires { ⌜ length (now locals) ≡ n ⌝ }
     ensures { λ r. ⌜ r ≡ class-row (pair-at (now (weights .entry)) n) (at (now (values .entry))) n ⌝ }
-    ensures { λ _. ⌜ now (locals .exit) ≡ job-locals n (now (values .entry)) (now (weights .entry)) ⌝ }
+    ensures { λ _. ⌜ now (locals .exit) ≡ zones-locals n (now (values .entry)) (now (weights .entry)) ⌝ }
 {
     deviations::local_numerators(n, weights, d, locals);
     let cross = deviations::sum_of(n, locals);
@@ -49,12 +49,12 @@ pub(super) fn pair_sums(
     }
 }
 
-// The five sums of the job, with its local numerators in `locals`.
-pub(super) fn job_sums(n: usize, values: &[i32], weights: &[u8], locals: &mut [i64]) -> Sums
+// The sums of n zones, with their local numerators in `locals`.
+pub(super) fn zone_sums(n: usize, values: &[i32], weights: &[u8], locals: &mut [i64]) -> Sums
     requires { ⌜ Job (now values) (now weights) n ⌝ }
     requires { ⌜ length (now locals) ≡ n ⌝ }
-    ensures { λ r. ⌜ five r ≡ job-figures n (now (values .entry)) (now (weights .entry)) ⌝ }
-    ensures { λ _. ⌜ now (locals .exit) ≡ job-locals n (now (values .entry)) (now (weights .entry)) ⌝ }
+    ensures { λ r. ⌜ listed r ≡ zones-figures n (now (values .entry)) (now (weights .entry)) ⌝ }
+    ensures { λ _. ⌜ now (locals .exit) ≡ zones-locals n (now (values .entry)) (now (weights .entry)) ⌝ }
 {
     let total = deviations::total(n, values);
     let spread = differences::spread(n, values, total);
@@ -67,5 +67,6 @@ pub(super) fn job_sums(n: usize, values: &[i32], weights: &[u8], locals: &mut [i
         weight: pairs.weight,
         cross: pairs.cross,
         squares: pairs.squares,
+        kept: n,
     }
 }

@@ -17,7 +17,7 @@ use Rattle.whole.proofs.Machine.{Is, told, rd, is-*, to, fit, r64}
 use Rattle.whole.proofs.SumSize.{sum-size}
 use Rattle.whole.proofs.Table.{stored}
 use Rattle.account.specs.Measures.{deviation-of, local-of}
-use Rattle.account.specs.Classes.{class-local-of, sum-at}
+use Rattle.account.specs.Classes.{zones-class-local, sum-at}
 use Rattle.account.specs.Steps.{zone-part, zone-sum, Zoned, Owned}
 use Rattle.account.specs.declared.ClassRow.{ClassRow}
 use Rattle.account.proofs.ByClass.{sums-at}
@@ -41,7 +41,7 @@ abbrev Inv-loop : tie.InvT-loop
 Inv-loop n values d weights classes i rows₀ of-classes₀ locals parts deviation own₀ k₀ rows of-classes own k =
     (k ≤ 9)
     × (Zoned n values weights classes (zones-in i k) rows of-classes
-    × (own ≡ ofZ w64 (sum (λ q. class-local-of n values weights classes q i) k)))
+    × (own ≡ ofZ w64 (sum (λ q. zones-class-local n values weights classes q i) k)))
 
 abbrev μ-loop : tie.MeasureT-loop
 μ-loop n values d weights classes i rows₀ of-classes₀ locals parts deviation own₀ k₀ rows of-classes own k = 9 - k
@@ -70,13 +70,13 @@ module _ (s : tie.Start Inv-loop μ-loop) where
   inside = s .pre .1 .1 .0
 
   -- the local numerators of zone i in the classes, added up one after the other
-  runs : Bounded w64 (λ q. class-local-of n values weights classes q i) 9 849346560000000000
+  runs : Bounded w64 (λ q. zones-class-local n values weights classes q i) 9 849346560000000000
   runs = record {
     bound =
         λ m le.
-        let small : (q : ℕ) → q < m → natAbs (class-local-of n values weights classes q i) ≤ 94371840000000000 =
+        let small : (q : ℕ) → q < m → natAbs (zones-class-local n values weights classes q i) ≤ 94371840000000000 =
         λ q p. class-local-size n values weights classes (s .pre .0) q i inside in
-        omega (arith, sum-size (λ q. class-local-of n values weights classes q i) m 94371840000000000 small);
+        omega (arith, sum-size (λ q. zones-class-local n values weights classes q i) m 94371840000000000 small);
     small = tt;
   }
 
@@ -109,8 +109,8 @@ module _ (t : tie.In-loop Inv-loop μ-loop) where
 
   local-is :
       Is (r64 (at (start .args .d .now) (i start)) *ℤ r64 (at parts (k * 3 + 1)))
-      (class-local-of (n start) (values start) (weights start) (classes start) k (i start)) 94371840000000000
-  unfolding class-local-of local-of zone-part
+      (zones-class-local (n start) (values start) (weights start) (classes start) k (i start)) 94371840000000000
+  unfolding zones-class-local local-of zone-part
   local-is =
       let v = start .pre .0 .job .valued in
       let d = deviation-is (values start) (n start) (start .args .d .now) v (start .pre .1 .0) (i start) (inside start) in
@@ -127,7 +127,7 @@ module _ (t : tie.In-loop Inv-loop μ-loop) where
   -- one more of them
   own-more :
       Is (toZ w64 (t .before .loop .own) +ℤ added .cross)
-      (sum (λ q. class-local-of (n start) (values start) (weights start) (classes start) q (i start)) (k + 1)) 849346560000000000
+      (sum (λ q. zones-class-local (n start) (values start) (weights start) (classes start) q (i start)) (k + 1)) 849346560000000000
   own-more = acc-more (runs start) k (t .before .loop .own) (omega (arith, low)) (t .before .loop .inv .1 .1) (rd w64 local-is tt)
 
   each : (place : ℕ) → sum-at added place ≡ zone-sum (n start) (values start) (weights start) (classes start) k place (i start)

@@ -13,8 +13,8 @@ use Rattle.whole.proofs.Machine.{rd}
 use Rattle.whole.proofs.Lists.{front, front-le, front-length}
 use Rattle.whole.proofs.Table.{table-length, is-table}
 use Rattle.account.specs.Measures.{deviation-of, local-of}
-use Rattle.account.specs.Answers.{job-locals}
-use Rattle.account.specs.Steps.{Zoned, Owned}
+use Rattle.account.specs.Answers.{zones-local}
+use Rattle.account.specs.Steps.{zones-locals, Zoned, Owned}
 use Rattle.account.proofs.Locals.{total-told}
 use Rattle.account.proofs.ZoneByZone.{zoned-length, no-zones, all-zones}
 use Rattle.account.proofs.classes.add_zones.Statement.{statement}
@@ -106,7 +106,7 @@ same-length-3 : tie.Need-same-length-3 Inv-loop μ-loop
 same-length-3 c = c .before .loop .inv .1 .1 .count ∙ sym (lent c .pre .1 .1 .1 .1)
 
 returns : tie.Need-returns Inv-loop μ-loop
-unfolding job-locals
+unfolding zones-locals zones-local
 returns c =
     let g = lent c .args in
     let b = c .before .loop in

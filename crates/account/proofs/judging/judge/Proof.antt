@@ -6,6 +6,7 @@ use borrow.Author.Tests.{eq-eqb}
 use lib.IntN.{ℤ}
 use Rattle.whole.specs.Rules.{first-broken}
 use Rattle.account.specs.Refusals.{call-rules, job-refusal}
+use borrow.Author.Needs.{needs}
 use Rattle.account.proofs.judging.judge.Statement.{statement}
 use Rattle.account.proofs.judging.judge.Tie as tie
 
@@ -15,11 +16,14 @@ alone :
 unfolding call-rules job-refusal
 alone n values weights = rw (eq-eqb n n refl)
 
+slice-aggregate-judge-account : tie.Need-slice-aggregate-judge-account
+slice-aggregate-judge-account c = search needs
+
 judge-account-requires : tie.Need-judge-account-requires
-judge-account-requires c κs = tt
+judge-account-requires c κs = search needs
 
 returns : tie.Need-returns
-returns c = c .judge-account .ensures ∙ alone _ _ _
+returns c = c .before .judge-account .ensures .number ∙ alone _ _ _
 
 pub judge-spec : {M : Type 1} → statement M
-judge-spec = tie.close (tie.spec judge-account-requires returns)
+judge-spec = tie.close (tie.spec slice-aggregate-judge-account judge-account-requires returns)

@@ -1,6 +1,6 @@
--- `judge_rank` meets its contract: the number of n and of the job's own lists, then 2 of the shuffles, then the job's number, then what
--- is left of the shuffles, 13 or none. Assumes nothing.
-use mathlib.Core.Path.{_≡_, sym, _∙_}
+-- `judge_rank` meets its contract: the number of n and of the job's own lists, then 2 of the shuffles, then the job's number,
+-- then what is left of the shuffles, 13 or none. Assumes nothing.
+use mathlib.Core.Path.{_≡_, refl, sym, _∙_}
 use mathlib.Core.List.{List, [], _∷_, _++_}
 use Prim.Native.Nat.{ℕ, _*_}
 use native.Mathlib.Omega.{arith}
@@ -13,13 +13,15 @@ use Rattle.account.specs.Refusals.{job-rules, job-lengths, call-rules}
 use Rattle.account.specs.Rank.{rank-rules, rank-refusal}
 use Rattle.account.proofs.Accepted.{Fitting, fitting, fitted, unfitted, also-misfits}
 use Rattle.account.proofs.Judged.{sizes-of, by-sizes, by-job, by-rest}
+use Rattle.account.proofs.Found.{by-number, with-zones}
+use borrow.Author.Needs.{needs}
 use Rattle.account.proofs.judging.judge_rank.Statement.{statement}
 use Rattle.account.proofs.judging.judge_rank.Tie as tie
 
 -- the length that the shuffles must have, and the last rule
 module _ (c : tie.After-judge-sizes) where
   abbrev a : tie.Start
-  a = c .before .before .before
+  a = c .before .before .before .before
 
   abbrev lent : List (ℕ × ℕ)
   lent = (length (a .args .shuffles .now), shuffle-count (a .args .n) (length (a .args .shuffles .now)) * a .args .n) ∷ []
@@ -44,11 +46,13 @@ module _ (c : tie.Else2) where
   not-2 = c .if2 .left
 
   sizes-good :
-      let s = g e .args in first-broken (sizes-of (s .n) (s .values .now) (s .weights .now) (lent (e .before)) (last (e .before))) ≡ 0
+      let s = g e .args in
+      first-broken (sizes-of (s .n) (s .values .now) (s .weights .now) (lent (e .before)) (last (e .before))) ≡ 0
   sizes-good =
       let f = sized e in
       fitted _ _ _ _ (lent (e .before)) f
-      (list-fits (g e .args .n) (g e .args .shuffles .now) (f .two) (f .zones) (λ z. not-2 (c .before .judge-shuffles .ensures ∙ z)))
+      (list-fits (g e .args .n) (g e .args .shuffles .now) (f .two) (f .zones)
+      (λ z. not-2 (c .before .judge-shuffles .ensures ∙ z)))
 
   listed : c .before .judge-shuffles .result ≡ first-broken (last (e .before))
   listed =
@@ -66,9 +70,12 @@ returns c =
     let b = c .before in
     let s = a b .args in
     let lengths = job-lengths (s .n) (length (s .values .now)) (length (s .weights .now)) in
-    sizes-first (s .n) (lengths ((s .n, s .n) ∷ [])) (lengths (lent b)) (job-rules (s .n) (s .values .now) (s .weights .now) ++ last b) _
+    by-number _ _ _ _
+    (sizes-first (s .n) (lengths ((s .n, s .n) ∷ [])) (lengths (lent b))
+    (job-rules (s .n) (s .values .now) (s .weights .now) ++ last b) _
     (also-misfits (s .n) (length (s .values .now)) (length (s .weights .now)) (lent b))
     (b .judge-sizes .ensures)
+    (c .if1 .taken))
     (c .if1 .taken)
 
 judge-shuffles-requires : tie.Need-judge-shuffles-requires
@@ -82,27 +89,51 @@ returns-2 c =
     let s = a b .args in
     let f = sized (j .before) in
     let misfit = refused-by-2 (s .n) (s .shuffles .now) (f .two) (f .zones) (sym (j .judge-shuffles .ensures) ∙ c .if2 .taken) in
-    by-sizes _ _ _ (lent b) (last b) _ (c .if2 .taken ∙ sym (unfitted _ _ _ _ (lent b) f misfit))
-    (λ z. let q : _≡_ {A = ℕ} 0 2 = sym z ∙ c .if2 .taken in omega arith)
+    let some : j .judge-shuffles .result ≡ 0 → ⊥ = λ z. let q : _≡_ {A = ℕ} 0 2 = sym z ∙ c .if2 .taken in omega arith in
+    by-number _ _ _ _ (by-sizes _ _ _ (lent b) (last b) _ (c .if2 .taken ∙ sym (unfitted _ _ _ _ (lent b) f misfit)) some) some
 
 judge-job-requires : tie.Need-judge-job-requires
-judge-job-requires c κs = let f = sized (e c) in (f .zones, (f .values-fit, f .weights-fit))
+judge-job-requires c κs =
+    let s = e (c .before) in
+    let f = sized s in
+    (f .two, (f .zones, (f .values-fit, (f .weights-fit, g s .pre))))
+
+same-length : tie.Need-same-length
+same-length c = search needs
 
 returns-3 : tie.Need-returns-3
 unfolding rank-refusal rank-rules
 returns-3 c =
-    let d = c .before .before in
+    let j = c .before .before .before in
+    let d = j .before .before in
     let b = e d .before in
-    by-job _ _ _ (lent b) (last b) _ (sizes-good d) (c .before .judge-job .ensures) (c .if3 .taken)
+    by-number _ _ _ _
+    (by-job _ _ _ (lent b) (last b) _ (sizes-good d) (j .judge-job .ensures .number) (c .if3 .taken))
+    (c .if3 .taken)
+
+same-length-2 : tie.Need-same-length-2
+same-length-2 c = search needs
 
 returns-4 : tie.Need-returns-4
 unfolding rank-refusal rank-rules
 returns-4 c =
-    let d = c .before .before in
+    let j = c .before .before .before in
+    let d = j .before .before in
     let b = e d .before in
-    by-rest _ _ _ (lent b) (last b) _ (sizes-good d) (sym (c .before .judge-job .ensures) ∙ c .if3 .left) (listed d)
+    let none = sym (j .judge-job .ensures .number) ∙ c .if3 .left in
+    with-zones _ _ _ _ _ (j .judge-job .ensures) none refl
+    (by-rest _ _ _ (lent b) (last b) _ (sizes-good d) none (listed d))
 
 pub judge-rank-spec : {M : Type 1} → statement M
 judge-rank-spec =
     tie.close
-    (tie.spec judge-sizes-requires returns judge-shuffles-requires returns-2 judge-job-requires returns-3 returns-4)
+    (tie.spec
+    judge-sizes-requires
+    returns
+    judge-shuffles-requires
+    returns-2
+    judge-job-requires
+    same-length
+    returns-3
+    same-length-2
+    returns-4)

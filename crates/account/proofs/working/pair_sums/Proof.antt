@@ -6,8 +6,9 @@ use mir.Syntax.{w64}
 use Rattle.whole.proofs.Machine.{rd}
 use Rattle.whole.specs.Table.{at, pair-at}
 use Rattle.account.specs.Measures.{deviation-of, weight-of, cross-of, squares-of}
-use Rattle.account.specs.Answers.{class-row, job-locals}
+use Rattle.account.specs.Answers.{class-row}
 use Rattle.account.specs.declared.ClassRow.{ClassRow}
+use Rattle.account.specs.Steps.{zones-locals}
 use Rattle.account.proofs.Locals.{deviations-sized, locals-are, locals-sized, locals-cross, weight-told, cross-told, squares-told}
 use borrow.Author.Needs.{needs}
 use Rattle.account.proofs.working.pair_sums.Statement.{statement}
@@ -23,7 +24,7 @@ same f x n w p g e1 e2 e3 = rw (e1, e2, e3) refl
 held :
     (c : tie.After-local-numerators) →
     let a = c .before .before .before .args in
-    c .local-numerators .last .1 .1 .1 .0 ≡ job-locals (a .n) (a .values .now) (a .weights .now)
+    c .local-numerators .last .1 .1 .1 .0 ≡ zones-locals (a .n) (a .values .now) (a .weights .now)
 held c = let a = c .before .before .before in locals-are _ _ _ (a .pre .0) _ _ (a .pre .1 .0) (c .local-numerators .ensures)
 
 local-numerators-requires : tie.Need-local-numerators-requires

@@ -1,4 +1,4 @@
--- `work_classes` meets its contract: the rows and the local numerators first, then the sums of the whole job from them. Assumes nothing.
+-- `zone_classes` meets its contract: the rows and the local numerators first, then the sums of the whole job from them. Assumes nothing.
 use mathlib.Core.Path.{_≡_, sym, ap, _∙_, subst}
 use mathlib.Core.List.{List}
 use Prim.Native.Nat.{ℕ, _+_, _*_, _≤_, _<_}
@@ -11,8 +11,8 @@ use Rattle.whole.specs.Table.{at, pair-at}
 use Rattle.whole.proofs.Machine.{rd, r64}
 use Rattle.whole.proofs.Sum.{sum-cong}
 use Rattle.account.specs.Measures.{total-of, weight-of, squares-of}
-use Rattle.account.specs.Classes.{class-row-of, sum-at, class-sums}
-use Rattle.account.specs.Steps.{ClassJob}
+use Rattle.account.specs.Classes.{zones-class-row, sum-at}
+use Rattle.account.specs.Steps.{zones-class-sums, ClassJob}
 use Rattle.account.proofs.ByClass.{sums-at}
 use Rattle.account.proofs.Locals.{
   locals-sized,
@@ -27,14 +27,14 @@ use Rattle.account.proofs.Locals.{
 use Rattle.account.proofs.NineClasses.{weights-together, squares-together}
 use Rattle.account.proofs.ZoneByZone.{class-weight-size, class-squares-size}
 use borrow.Author.Needs.{needs}
-use Rattle.account.proofs.classes.work_classes.Statement.{statement}
-use Rattle.account.proofs.classes.work_classes.Tie as tie
+use Rattle.account.proofs.classes.zone_classes.Statement.{statement}
+use Rattle.account.proofs.classes.zone_classes.Tie as tie
 
 -- the rows that the zones gave, and their W and G together
 module _ (n : ℕ) (values : List ℤ) (weights classes : List ℕ) (g : ClassJob values weights classes n)
-    (rows : List ℤ) (e : rows ≡ class-sums n values weights classes) where
-  row-is : (k s : ℕ) → k < 9 → s < 3 → at rows (k * 3 + s) ≡ sum-at (class-row-of n values weights classes k) s
-  unfolding class-sums
+    (rows : List ℤ) (e : rows ≡ zones-class-sums n values weights classes) where
+  row-is : (k s : ℕ) → k < 9 → s < 3 → at rows (k * 3 + s) ≡ sum-at (zones-class-row n values weights classes k) s
+  unfolding zones-class-sums
   row-is = sums-at _ rows e
 
   weight-small : (k : ℕ) → k < 9 → natAbs (at rows (k * 3 + 0)) ≤ 94371840000000000
@@ -139,8 +139,8 @@ returns c =
       held,
     )
 
-pub work-classes-spec : {M : Type 1} → statement M
-work-classes-spec =
+pub zone-classes-spec : {M : Type 1} → statement M
+zone-classes-spec =
     tie.close
     (tie.spec
     total-requires

@@ -1,4 +1,4 @@
--- `job_sums` meets its contract: the deviations are worked into a local array, whose first n places are lent. Assumes nothing.
+-- `zone_sums` meets its contract: the deviations are worked into a local array, whose first n places are lent. Assumes nothing.
 use mathlib.Core.Path.{_≡_, sym, ap}
 use mathlib.Core.List.{List}
 use Prim.Native.Nat.{ℕ}
@@ -15,8 +15,8 @@ use Rattle.account.specs.Answers.{class-row}
 use Rattle.account.specs.declared.ClassRow.{ClassRow}
 use Rattle.account.proofs.Locals.{total-told, spread-told, weight-told, cross-told, squares-told, same-figures}
 use borrow.Author.Needs.{needs}
-use Rattle.account.proofs.working.job_sums.Statement.{statement}
-use Rattle.account.proofs.working.job_sums.Tie as tie
+use Rattle.account.proofs.working.zone_sums.Statement.{statement}
+use Rattle.account.proofs.working.zone_sums.Tie as tie
 
 parts :
     (f : ℕ → ℕ → ℕ) (x : ℕ → ℤ) (n : ℕ) (r : ClassRow) → r ≡ class-row f x n →
@@ -91,8 +91,8 @@ returns c =
       b .pair-sums .ensures .1,
     )
 
-pub job-sums-spec : {M : Type 1} → statement M
-job-sums-spec =
+pub zone-sums-spec : {M : Type 1} → statement M
+zone-sums-spec =
     tie.close
     (tie.spec
     total-requires

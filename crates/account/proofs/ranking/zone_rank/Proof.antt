@@ -1,4 +1,4 @@
--- `work_rank` meets its contract: the deviations are worked once, and a shuffle's deviations are the job's, shuffled. Assumes nothing.
+-- `zone_rank` meets its contract: the deviations are worked once, and a shuffle's deviations are the job's, shuffled. Assumes nothing.
 use mathlib.Core.Path.{_≡_, sym, _∙_}
 use mathlib.Core.List.{List}
 use lib.IntN.{ℤ}
@@ -10,13 +10,13 @@ use Rattle.whole.proofs.Machine.{rd}
 use Rattle.whole.proofs.Lists.{front, front-le, front-length}
 use Rattle.whole.proofs.Table.{table-length}
 use Rattle.account.specs.Measures.{deviation-of}
-use Rattle.account.specs.Rank.{values-cross, shuffle-cross, compared}
+use Rattle.account.specs.Rank.{values-cross, shuffle-cross, compared, zones-rank}
 use Rattle.account.specs.Steps.{cross-held, cross-moved}
 use Rattle.account.proofs.Locals.{deviations-sized, total-told}
 use Rattle.account.proofs.Shuffled.{own-cross, its-cross}
 use Rattle.account.proofs.Tallied.{compared-cong}
-use Rattle.account.proofs.ranking.work_rank.Statement.{statement}
-use Rattle.account.proofs.ranking.work_rank.Tie as tie
+use Rattle.account.proofs.ranking.zone_rank.Statement.{statement}
+use Rattle.account.proofs.ranking.zone_rank.Tie as tie
 
 -- the deviations of the job, as the array's front holds them
 module _ (c : tie.After-deviations) where
@@ -72,12 +72,13 @@ tally-requires c κs =
     (w .0 .weighted, (deviations-sized _ _ _ (w .0 .valued) d, w .1))
 
 returns : tie.Need-returns
+unfolding zones-rank
 returns c =
     let b = c .before .before .before in
     c .tally .ensures ∙ same b _ (front {A = ℤ} _ _ (expected b) _ (b .deviations .ensures) (as-long b))
 
-pub work-rank-spec : {M : Type 1} → statement M
-work-rank-spec =
+pub zone-rank-spec : {M : Type 1} → statement M
+zone-rank-spec =
     tie.close
     (tie.spec
     total-requires
