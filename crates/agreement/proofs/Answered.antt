@@ -3,7 +3,7 @@ use mathlib.Core.Path.{_≡_, refl, ap}
 use mathlib.Core.List.{List, [], _∷_}
 use Prim.Native.Nat.{ℕ}
 use native.Mathlib.Omega.{arith}
-use lib.IntN.{ℤ}
+use lib.IntN.{ℤ, natAbs}
 use lib.ListN.{length}
 use Rattle.whole.specs.Table.{table, at}
 use Rattle.account.specs.Answers as account
@@ -21,17 +21,17 @@ use Rattle.coefficients.specs.declared.Whole.{Whole}
 use Rattle.agreement.specs.EveryFigure.{job-sums, job-report, job-answers}
 use Rattle.agreement.specs.declared.Every.{Every}
 
--- ---- five sums are known by their list
-five-same :
-    {s m w p g s′ m′ w′ p′ g′ : ℤ} → s ≡ s′ → m ≡ m′ → w ≡ w′ → p ≡ p′ → g ≡ g′ →
-    _≡_ {A = Sums} (record { total = s; spread = m; weight = w; cross = p; squares = g })
-    (record { total = s′; spread = m′; weight = w′; cross = p′; squares = g′ })
-five-same a b c d e = rw (a, b, c, d, e) refl
+-- ---- sums are known by their list
+members-same :
+    {s m w p g s′ m′ w′ p′ g′ : ℤ} {k k′ : ℕ} → s ≡ s′ → m ≡ m′ → w ≡ w′ → p ≡ p′ → g ≡ g′ → k ≡ k′ →
+    _≡_ {A = Sums} (record { total = s; spread = m; weight = w; cross = p; squares = g; kept = k })
+    (record { total = s′; spread = m′; weight = w′; cross = p′; squares = g′; kept = k′ })
+members-same a b c d e f = rw (a, b, c, d, e, f) refl
 
-sums-same : (s t : Sums) → account.five s ≡ account.five t → s ≡ t
+sums-same : (s t : Sums) → account.listed s ≡ account.listed t → s ≡ t
 sums-same s t e =
-    let place : (k : ℕ) → at (account.five s) k ≡ at (account.five t) k = λ k. ap (λ (l : List ℤ). at l k) e in
-    five-same (place 0) (place 1) (place 2) (place 3) (place 4)
+    let place : (k : ℕ) → at (account.listed s) k ≡ at (account.listed t) k = λ k. ap (λ (l : List ℤ). at l k) e in
+    members-same (place 0) (place 1) (place 2) (place 3) (place 4) (ap natAbs (place 5))
 
 -- ---- an answer of the report is known by its number, its sums and its pair
 whole-same : {s t : Sums} {p q : Pair} → s ≡ t → p ≡ q → _≡_ {A = Whole} (record { sums = s; pair = p }) (record { sums = t; pair = q })
@@ -46,14 +46,14 @@ answer-unique (Reported v) (Reported w) e f g = ap Reported (whole-same (sums-sa
 
 -- ---- of an accepted job
 module _ (n : ℕ) (values : List ℤ) (weights classes : List ℕ) where
-  pub sums-known : (sums : Sums) → account.five sums ≡ account.job-figures n values weights → sums ≡ job-sums n values weights
-  unfolding account.job-figures job-sums
+  pub sums-known : (sums : Sums) → account.listed sums ≡ account.job-figures n values weights → sums ≡ job-sums n values weights
+  unfolding account.zones-figures account.job-figures account.job-kept job-sums
   sums-known sums e = sums-same sums (job-sums n values weights) e
 
   pub accounted :
       (r : account-answer.Answer) → account.number-of r ≡ 0 → account.figures-of r ≡ account.job-figures n values weights →
       r ≡ Accounted (job-sums n values weights)
-  unfolding account.number-of account.figures-of account.job-figures job-sums
+  unfolding account.number-of account.figures-of account.zones-figures account.job-figures account.job-kept job-sums
   accounted r e f = account-promise.answer-unique r (Accounted (job-sums n values weights)) e f
 
   report-same :
@@ -65,7 +65,7 @@ module _ (n : ℕ) (values : List ℤ) (weights classes : List ℕ) where
       (r : Report) → number-of (r .whole) ≡ 0 → sums-in (r .whole) ≡ account.job-figures n values weights →
       pair-in (r .whole) ≡ job-pair n values weights ∷ [] → r .classes ≡ table (class-pair n values weights classes) 9 →
       r ≡ job-report n values weights classes
-  unfolding number-of sums-in pair-in account.job-figures job-sums job-report
+  unfolding number-of sums-in pair-in account.zones-figures account.job-figures account.job-kept job-sums job-report
   reported r e f g h =
       report-same (answer-unique (r .whole) (job-report n values weights classes .whole) e f g) h
 

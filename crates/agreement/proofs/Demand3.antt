@@ -12,7 +12,7 @@ use lib.Signed.{_≤ℤ_}
 use Rattle.whole.specs.Integer.{is-zero}
 use Rattle.whole.specs.Rules.{first-broken}
 use Rattle.whole.specs.Sum.{sum}
-use Rattle.whole.specs.Table.{table, at, pair-at}
+use Rattle.whole.specs.Table.{table, at}
 use Rattle.whole.proofs.Size.{some-size, one-some, one-of}
 use Rattle.whole.proofs.Sum.{sum-cong}
 use Rattle.whole.proofs.Table.{table-at}
@@ -20,7 +20,7 @@ use Rattle.nearest.specs.Answers.{nearest-refusal, nearest-bits}
 use Rattle.nearest.proofs.Theorems.{float-nearest}
 use Rattle.account.specs.Answers as account
 use Rattle.account.specs.Classes.{row-at, class-row-of, class-sums, class-locals, class-rules}
-use Rattle.account.specs.Measures.{spread-of}
+use Rattle.account.specs.Refusals.{job-spread, account-refusal}
 use Rattle.account.specs.declared.ClassRow.{ClassRow}
 use Rattle.account.proofs.ClassTheorems as classes-promise
 use Rattle.account.proofs.Theorems as account-promise
@@ -75,7 +75,10 @@ module _ (n : ℕ) (spread : ℤ) (row : ClassRow) (s : Formable n spread row) w
 module _ (n : ℕ) (values : List ℤ) (weights classes : List ℕ) (lent : List (ℕ × ℕ))
     (taken : first-broken (class-rules n values weights classes lent) ≡ 0) where
   abbrev spread : ℤ
-  spread = spread-of (at values) n
+  spread = job-spread n values weights
+
+  abbrev kept : ℕ
+  kept = account.job-kept n values weights
 
   abbrev locals : List ℤ
   locals = account.job-locals n values weights
@@ -97,11 +100,11 @@ module _ (n : ℕ) (values : List ℤ) (weights classes : List ℕ) (lent : List
   row-is : (k : ℕ) → k < 9 → row-at rows k ≡ class-row-of n values weights classes k
   row-is = classes-promise.class-sums-row n values weights classes
 
-  class-has : (k : ℕ) → k < 9 → HasPair n spread (row-at rows k) (getD (table (class-pair n values weights classes) 9) k no-pair)
+  class-has : (k : ℕ) → k < 9 → HasPair kept spread (row-at rows k) (getD (table (class-pair n values weights classes) 9) k no-pair)
   unfolding class-pair
   class-has k h =
       rw (row-is k h, table-at (class-pair n values weights classes) 9 k no-pair h)
-      (has-pair n spread (class-row-of n values weights classes k) (job.class-formable n values weights classes lent taken k))
+      (has-pair kept spread (class-row-of n values weights classes k) (job.class-formable n values weights classes lent taken k))
 
   -- the local figures
   local-has : (i : ℕ) → i < n → LocalFigure (at locals i) spread (local-figures spread locals) i
@@ -127,30 +130,32 @@ module _ (n : ℕ) (values : List ℤ) (weights classes : List ℕ) (lent : List
   zone-adds i p =
       sum-cong _ _ 9 (λ k h. classes-promise.class-locals-at n values weights classes k i h p)
       ∙ classes-promise.nine-locals n values weights classes lent taken i p
-      ∙ sym (account-promise.job-locals-at n values weights i p)
 
   -- a sum over the rows that the list holds is one over the rows of the classes
   over-rows : (one : ClassRow → ℤ) → sum (λ k. one (row-at rows k)) 9 ≡ sum (λ k. one (class-row-of n values weights classes k)) 9
   over-rows one = sum-cong _ _ 9 (λ k h. ap one (row-is k h))
 
+  -- the account refuses nothing either
+  none-of-account : account-refusal n values weights locals ≡ 0
+  none-of-account =
+      classes-promise.account-taken n values weights classes lent taken locals (account-promise.job-locals-length n values weights)
+
   -- ---- demand 3
   pub demand-3 : Demand3 n (job-answers n values weights classes) (job-lists n values weights classes)
-  unfolding job-answers job-report job-sums job-lists job-pair account.class-row account.job-figures
+  unfolding job-answers job-report job-sums job-lists job-pair account.class-row account.job-row account.zones-figures account.job-figures job-spread
   demand-3 = record {
     sums = job-sums n values weights;
     pair = job-pair n values weights;
     accounted = refl;
     classed = refl;
     reported = refl;
-    weight =
-        account-promise.weight-one n values weights locals
-        (classes-promise.account-taken n values weights classes lent taken locals (account-promise.job-locals-length n values weights));
-    whole = has-pair n spread (account.class-row (pair-at weights n) (at values) n) (job.job-formable n values weights classes lent taken);
+    kept = (account-promise.kept-least n values weights locals none-of-account, account-promise.kept-most n values weights);
+    weight = account-promise.weight-one n values weights locals none-of-account;
+    whole = has-pair kept spread (account.job-row n values weights) (job.job-formable n values weights classes lent taken);
     local = local-has;
     class = class-has;
     class-local = class-local-has;
-    locals-add-up =
-        sum-cong _ _ n (account-promise.job-locals-at n values weights) ∙ account-promise.locals-add-up (pair-at weights n) (at values) n;
+    locals-add-up = account-promise.job-locals-sum n values weights;
     class-locals-add-up = class-adds;
     zone-adds-up = zone-adds;
     weights-add-up = over-rows (λ (r : ClassRow). r .weight) ∙ classes-promise.nine-weights n values weights classes lent taken;

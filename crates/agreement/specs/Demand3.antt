@@ -2,7 +2,7 @@
 -- job under one assignment of classes, and of what they leave in the lists that they are lent. Assumes nothing.
 use mathlib.Core.Path.{_≡_}
 use mathlib.Core.List.{List}
-use Prim.Native.Nat.{ℕ, _+_, _*_, _-_, _<_}
+use Prim.Native.Nat.{ℕ, _+_, _*_, _-_, _≤_, _<_}
 use lib.Ieee.{binary64, toBits}
 use lib.IntN.{ℤ, pos, _*ℤ_}
 use lib.ListN.{getD}
@@ -38,18 +38,20 @@ abbrev pub LocalFigure : ℤ → ℤ → List ℕ → ℕ → Type 0
 LocalFigure numerator spread figures i = IsNearest numerator spread (getD figures i 0)
 
 pub record Demand3 (n : ℕ) (out : Every) (after : Lent) : Type 0 where
-  -- nothing is refused: the account answers its sums, the class account the same, and the report the same with their pair
+  -- nothing is refused: the account answers its sums, the class account the same, and the report the same with their pair; two zones at
+  -- least are kept, and their number is the n of the ratios
   pub sums : Sums
   pub pair : Pair
   pub accounted : out .account ≡ Accounted sums
   pub classed : out .classes ≡ Accounted sums
   pub reported : out .report .whole ≡ Reported (record { sums = sums; pair = pair })
+  pub kept : (2 ≤ sums .kept) × (sums .kept ≤ n)
   -- the whole job has weight and its pair; each zone its local figure
   pub weight : pos 1 ≤ℤ sums .weight
-  pub whole : HasPair n (sums .spread) (record { weight = sums .weight; cross = sums .cross; squares = sums .squares }) pair
+  pub whole : HasPair (sums .kept) (sums .spread) (record { weight = sums .weight; cross = sums .cross; squares = sums .squares }) pair
   pub local : (i : ℕ) → i < n → LocalFigure (at (after .locals) i) (sums .spread) (after .figures) i
   -- each class has its pair exactly when it has weight; each zone its local figure in each class, always
-  pub class : (k : ℕ) → k < 9 → HasPair n (sums .spread) (row-at (after .rows) k) (getD (out .report .classes) k no-pair)
+  pub class : (k : ℕ) → k < 9 → HasPair (sums .kept) (sums .spread) (row-at (after .rows) k) (getD (out .report .classes) k no-pair)
   pub class-local :
       (k i : ℕ) → k < 9 → i < n → LocalFigure (at (after .class-locals) (k * n + i)) (sums .spread) (after .parts) (k * n + i)
   -- the local numerators of the job, and of each class, add up to its numerator; those of a zone over the nine classes to the zone's own

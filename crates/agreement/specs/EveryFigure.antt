@@ -5,8 +5,8 @@ use lib.IntN.{ℤ}
 use lib.ListN.{length}
 use Rattle.whole.specs.Rules.{first-broken, unless-refused}
 use Rattle.whole.specs.Table.{table, at}
-use Rattle.account.specs.Measures.{spread-of}
-use Rattle.account.specs.Answers.{job-figures, job-locals}
+use Rattle.account.specs.Refusals.{job-spread}
+use Rattle.account.specs.Answers.{job-kept, job-figures, job-locals}
 use Rattle.account.specs.Classes.{class-sums, class-locals, class-rules}
 use Rattle.account.specs.declared.Answer.the-variants as account
 use Rattle.account.specs.declared.Sums.{Sums}
@@ -64,11 +64,18 @@ lent-lengths n lent =
 
 -- ---- what is worked
 
--- S, M, W, P, G of a job, as a struct
+-- S, M, W, P, G of a job and the number of zones kept, as a struct
 unfoldable pub job-sums : ℕ → List ℤ → List ℕ → Sums
 job-sums n values weights =
     let figures = job-figures n values weights in
-    record { total = at figures 0; spread = at figures 1; weight = at figures 2; cross = at figures 3; squares = at figures 4 }
+    record {
+      total = at figures 0;
+      spread = at figures 1;
+      weight = at figures 2;
+      cross = at figures 3;
+      squares = at figures 4;
+      kept = job-kept n values weights;
+    }
 
 -- the float report of a job, and one that is refused, in which no class has a coefficient
 unfoldable pub job-report : ℕ → List ℤ → List ℕ → List ℕ → Report
@@ -104,11 +111,11 @@ job-lists n values weights classes = record {
   rows = class-sums n values weights classes;
   class-locals = class-locals n values weights classes;
   own = job-locals n values weights;
-  figures = local-figures (spread-of (at values) n) (job-locals n values weights);
-  parts = local-figures (spread-of (at values) n) (class-locals n values weights classes);
+  figures = local-figures (job-spread n values weights) (job-locals n values weights);
+  parts = local-figures (job-spread n values weights) (class-locals n values weights classes);
   plain-rows = class-sums n values weights classes;
   plain-locals = job-locals n values weights;
-  plain-figures = local-figures (spread-of (at values) n) (job-locals n values weights);
+  plain-figures = local-figures (job-spread n values weights) (job-locals n values weights);
 }
 
 -- ---- the call

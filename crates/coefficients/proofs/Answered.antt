@@ -9,13 +9,12 @@ use lib.IntN.{ℤ}
 use lib.ListN.{length, take}
 use Rattle.whole.specs.Rules.{first-broken, misfits, size-rules}
 use Rattle.whole.specs.Search.{any-above}
-use Rattle.whole.specs.Table.{table, at, pair-at}
+use Rattle.whole.specs.Table.{table}
 use Rattle.whole.proofs.Table.{table-cong}
 use Rattle.whole.proofs.Rules.{kept-when-refused, worked-when-taken, beside, sizes-first}
-use Rattle.account.specs.Measures.{spread-of}
-use Rattle.account.specs.Answers.{five, class-row, job-figures, job-locals}
+use Rattle.account.specs.Answers.{listed, job-kept, job-figures, job-row, job-locals}
 use Rattle.account.specs.Classes.{row-at, class-sums, class-locals, class-rules, class-lengths, class-refusal}
-use Rattle.account.specs.Refusals.{job-rules, job-lengths, call-rules}
+use Rattle.account.specs.Refusals.{job-spread, job-rules, job-lengths, call-rules}
 use Rattle.account.specs.declared.ClassRow.{ClassRow}
 use Rattle.account.specs.declared.Sums.{Sums}
 use Rattle.account.proofs.ClassTheorems.{class-sums-row}
@@ -24,22 +23,25 @@ use Rattle.coefficients.specs.FloatReport.{number-of, sums-in, pair-in, 
 use Rattle.coefficients.specs.Steps.{whole-row, rest-refusal, Reports}
 use Rattle.coefficients.specs.declared.Answer.the-variants.{Refused, Reported}
 use Rattle.coefficients.specs.declared.Report.{Report}
-use Rattle.coefficients.proofs.Job.{spread-in, row-in}
+use Rattle.coefficients.proofs.Job.{spread-in, kept-in, row-in}
 
 -- ---- what is formed of the sums, the rows and the local numerators is the job's and the classes'
-module _ (n : ℕ) (values : List ℤ) (weights classes : List ℕ) {spread : ℤ} (m : spread ≡ spread-of (at values) n) where
-  pair-is : {row : ClassRow} → row ≡ class-row (pair-at weights n) (at values) n → pair-of n spread row ≡ job-pair n values weights
+module _ (n : ℕ) (values : List ℤ) (weights classes : List ℕ) {kept : ℕ} {spread : ℤ} (k : kept ≡ job-kept n values weights)
+    (m : spread ≡ job-spread n values weights) where
+  pair-is : {row : ClassRow} → row ≡ job-row n values weights → pair-of kept spread row ≡ job-pair n values weights
   unfolding job-pair
-  pair-is e = rw (m, e) refl
+  pair-is e = rw (k, m, e) refl
 
   pairs-are :
       {l : List ℤ} → l ≡ class-sums n values weights classes →
-      table (λ k. pair-of n spread (row-at l k)) 9 ≡ table (class-pair n values weights classes) 9
+      table (λ i. pair-of kept spread (row-at l i)) 9 ≡ table (class-pair n values weights classes) 9
   unfolding class-pair
   pairs-are e =
-      rw (m, e) (table-cong _ _ 9 no-pair (λ k p. ap (pair-of n (spread-of (at values) n)) (class-sums-row n values weights classes k p)))
+      rw (k, m, e)
+      (table-cong _ _ 9 no-pair
+      (λ i p. ap (pair-of (job-kept n values weights) (job-spread n values weights)) (class-sums-row n values weights classes i p)))
 
-  figures-are : {l held : List ℤ} → l ≡ held → local-figures spread l ≡ local-figures (spread-of (at values) n) held
+  figures-are : {l held : List ℤ} → l ≡ held → local-figures spread l ≡ local-figures (job-spread n values weights) held
   figures-are e = rw (m, e) refl
 
 module _ (refusal n : ℕ) (values : List ℤ) (weights classes : List ℕ) (rows locals : List ℤ) (figures parts : List ℕ) where
@@ -65,28 +67,29 @@ module _ (refusal n : ℕ) (values : List ℤ) (weights classes : List ℕ) (row
   -- the sums, the pairs and the figures that are formed of what the class account answered and left
   pub reported :
       (r : Report) (sums : Sums) (rows-left of-classes locals-left : List ℤ) (figures-left parts-left : List ℕ) →
-      refusal ≡ 0 → five sums ≡ job-figures n values weights →
+      refusal ≡ 0 → listed sums ≡ job-figures n values weights →
       rows-left ≡ class-sums n values weights classes → of-classes ≡ class-locals n values weights classes →
       locals-left ≡ job-locals n values weights →
       r
       ≡ record {
-        whole = Reported (record { sums = sums; pair = pair-of n (sums .spread) (whole-row sums) });
-        classes = table (λ k. pair-of n (sums .spread) (row-at rows-left k)) 9;
+        whole = Reported (record { sums = sums; pair = pair-of (sums .kept) (sums .spread) (whole-row sums) });
+        classes = table (λ k. pair-of (sums .kept) (sums .spread) (row-at rows-left k)) 9;
       } →
       figures-left ≡ local-figures (sums .spread) locals-left →
       parts-left ≡ local-figures (sums .spread) (take (length parts) of-classes) →
       Reports refusal n values weights classes rows locals figures parts r rows-left locals-left figures-left parts-left
   unfolding number-of sums-in pair-in
   reported r sums rows-left of-classes locals-left figures-left parts-left z s in-rows in-classes in-locals e f g =
+      let k = kept-in n values weights sums s in
       let m = spread-in n values weights sums s in record {
         number = ap (λ (v : Report). number-of (v .whole)) e ∙ sym z;
         sums = ap (λ (v : Report). sums-in (v .whole)) e ∙ s ∙ sym (worked-when-taken _ _ _ z);
-        whole = ap (λ (v : Report). pair-in (v .whole)) e ∙ ap (λ v. v ∷ []) (pair-is n values weights classes m (row-in n values weights sums s)) ∙ sym (worked-when-taken _ _ _ z);
-        pairs = ap (λ (v : Report). v .classes) e ∙ pairs-are n values weights classes m in-rows ∙ sym (worked-when-taken _ _ _ z);
+        whole = ap (λ (v : Report). pair-in (v .whole)) e ∙ ap (λ v. v ∷ []) (pair-is n values weights classes k m (row-in n values weights sums s)) ∙ sym (worked-when-taken _ _ _ z);
+        pairs = ap (λ (v : Report). v .classes) e ∙ pairs-are n values weights classes k m in-rows ∙ sym (worked-when-taken _ _ _ z);
         in-rows = in-rows ∙ sym (worked-when-taken _ _ _ z);
         in-locals = in-locals ∙ sym (worked-when-taken _ _ _ z);
-        in-figures = f ∙ figures-are n values weights classes m in-locals ∙ sym (worked-when-taken _ _ _ z);
-        in-parts = g ∙ figures-are n values weights classes m (ap (take (length parts)) in-classes) ∙ sym (worked-when-taken _ _ _ z);
+        in-figures = f ∙ figures-are n values weights classes k m in-locals ∙ sym (worked-when-taken _ _ _ z);
+        in-parts = g ∙ figures-are n values weights classes k m (ap (take (length parts)) in-classes) ∙ sym (worked-when-taken _ _ _ z);
       }
 
 -- the same by another name of the number

@@ -33,7 +33,7 @@ pair-readable n spread row = record { of-moran = coefficient-readable _ _ _; of-
 -- of a job, and of each class
 pub job-readable : (n : ℕ) (values : List ℤ) (weights : List ℕ) (pair : Pair) → pair ≡ job-pair n values weights → ReadablePair pair
 unfolding job-pair
-job-readable n values weights pair e = rw e (pair-readable n _ _)
+job-readable n values weights pair e = rw e (pair-readable _ _ _)
 
 pub classes-readable :
     (n : ℕ) (values : List ℤ) (weights classes : List ℕ) (pairs : List Pair) → pairs ≡ table (class-pair n values weights classes) 9 →
@@ -42,4 +42,4 @@ unfolding class-pair
 classes-readable n values weights classes pairs e k h =
     let f = class-pair n values weights classes in
     let few : k < 9 = omega (arith, ap length e, table-length f 9) in
-    subst ReadablePair (sym (table-held f 9 no-pair pairs e k few)) (pair-readable n _ _)
+    subst ReadablePair (sym (table-held f 9 no-pair pairs e k few)) (pair-readable _ _ _)

@@ -5,10 +5,10 @@ use Prim.Native.Nat.{ℕ, _*_, _-_}
 use lib.IntN.{ℤ, pos, _*ℤ_}
 use lib.ListN.{length}
 use Rattle.whole.specs.Integer.{is-zero}
-use Rattle.whole.specs.Table.{table, at, pair-at}
+use Rattle.whole.specs.Table.{table, at}
 use Rattle.nearest.specs.Answers.{nearest-float, nearest-bits}
-use Rattle.account.specs.Measures.{spread-of}
-use Rattle.account.specs.Answers.{class-row}
+use Rattle.account.specs.Refusals.{job-spread}
+use Rattle.account.specs.Answers.{job-kept, job-row}
 use Rattle.account.specs.Classes.{class-row-of}
 use Rattle.account.specs.declared.ClassRow.{ClassRow}
 use Rattle.coefficients.specs.declared.Coefficient.{Coefficient}
@@ -26,12 +26,13 @@ pair-of n spread row = record {
   geary = coefficient (row .weight) (pos ((n - 1) * n) *ℤ row .squares) ((pos 2 *ℤ row .weight) *ℤ spread);
 }
 
--- of the whole job, and of class k, whose M is the whole job's
+-- of the whole job, and of class k, whose M is the whole job's; n is the number of zones kept
 unfoldable pub job-pair : ℕ → List ℤ → List ℕ → Pair
-job-pair n values weights = pair-of n (spread-of (at values) n) (class-row (pair-at weights n) (at values) n)
+job-pair n values weights = pair-of (job-kept n values weights) (job-spread n values weights) (job-row n values weights)
 
 unfoldable pub class-pair : ℕ → List ℤ → List ℕ → List ℕ → ℕ → Pair
-class-pair n values weights classes k = pair-of n (spread-of (at values) n) (class-row-of n values weights classes k)
+class-pair n values weights classes k =
+    pair-of (job-kept n values weights) (job-spread n values weights) (class-row-of n values weights classes k)
 
 -- the bits of the local Moran L / M of each local numerator of a list
 unfoldable pub local-figures : ℤ → List ℤ → List ℕ

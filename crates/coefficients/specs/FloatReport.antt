@@ -5,9 +5,9 @@ use Prim.Native.Nat.{ℕ, _*_}
 use lib.IntN.{ℤ}
 use lib.ListN.{length}
 use Rattle.whole.specs.Rules.{first-broken, unless-refused}
-use Rattle.whole.specs.Table.{table, at}
-use Rattle.account.specs.Measures.{spread-of}
-use Rattle.account.specs.Answers.{five, job-figures, job-locals}
+use Rattle.whole.specs.Table.{table}
+use Rattle.account.specs.Refusals.{job-spread}
+use Rattle.account.specs.Answers.{listed, job-figures, job-locals}
 use Rattle.account.specs.Classes.{class-sums, class-locals, class-rules}
 use Rattle.coefficients.specs.Coefficients.{job-pair, class-pair, local-figures}
 use Rattle.coefficients.specs.declared.Answer.{Answer}
@@ -22,10 +22,10 @@ unfoldable pub number-of : Answer → ℕ
 number-of (Refused number) = number
 number-of (Reported whole) = 0
 
--- S, M, W, P, G of the whole job, none where the call is refused
+-- S, M, W, P, G of the whole job and the number of zones kept, none where the call is refused
 unfoldable pub sums-in : Answer → List ℤ
 sums-in (Refused number) = []
-sums-in (Reported whole) = five (whole .sums)
+sums-in (Reported whole) = listed (whole .sums)
 
 -- the pair of the whole job, none where the call is refused
 unfoldable pub pair-in : Answer → List Pair
@@ -38,7 +38,7 @@ no-pair = record { moran = Weightless; geary = Weightless }
 
 -- ---- what they must be, by the number of the refusal
 
--- S, M, W, P, G
+-- S, M, W, P, G and the number of zones kept
 abbrev pub sums-unless : ℕ → ℕ → List ℤ → List ℕ → List ℤ
 sums-unless refusal n values weights = unless-refused refusal (job-figures n values weights) []
 
@@ -54,7 +54,7 @@ pairs-unless refusal n values weights classes =
 -- the local Moran of each zone
 abbrev pub figures-unless : ℕ → ℕ → List ℤ → List ℕ → List ℕ → List ℕ
 figures-unless refusal n values weights figures =
-    unless-refused refusal (local-figures (spread-of (at values) n) (job-locals n values weights)) figures
+    unless-refused refusal (local-figures (job-spread n values weights) (job-locals n values weights)) figures
 
 -- ---- with the local figures of the classes
 
@@ -80,7 +80,7 @@ module _ (n : ℕ) (values : List ℤ) (weights classes figures parts : List ℕ
   unfoldable pub report-parts : List ℕ
   report-parts =
       unless-refused (report-refusal n values weights classes figures parts)
-      (local-figures (spread-of (at values) n) (class-locals n values weights classes))
+      (local-figures (job-spread n values weights) (class-locals n values weights classes))
       parts
 
 -- ---- without them, and with the whole numbers

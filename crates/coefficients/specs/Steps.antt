@@ -10,7 +10,7 @@ use lib.ListN.{length, getD, take}
 use lib.Signed.{_≤ℤ_}
 use Rattle.whole.specs.Rules.{first-broken, unless-refused, ratio-limit}
 use Rattle.whole.specs.Table.{at}
-use Rattle.account.specs.Measures.{spread-of}
+use Rattle.account.specs.Refusals.{job-spread}
 use Rattle.account.specs.Answers.{job-locals}
 use Rattle.account.specs.Classes.{row-at, class-sums, class-locals, class-rules}
 use Rattle.account.specs.declared.ClassRow.{ClassRow}
@@ -57,10 +57,10 @@ whole-row sums = record { weight = sums .weight; cross = sums .cross; squares = 
 
 -- what the class account of an accepted job answered and left: the sums, the nine rows, and the local numerators of each class and of the
 -- job
-pub record Reportable (n : ℕ) (sums : Sums) (rows class-locals locals : List ℤ) : Type 0 where
-  pub whole : Formable n (sums .spread) (whole-row sums)
+pub record Reportable (sums : Sums) (rows class-locals locals : List ℤ) : Type 0 where
+  pub whole : Formable (sums .kept) (sums .spread) (whole-row sums)
   pub numerators : Numerators (sums .spread) locals
-  pub class-rows : FormableRows n (sums .spread) rows
+  pub class-rows : FormableRows (sums .kept) (sums .spread) rows
   pub class-numerators : Numerators (sums .spread) class-locals
 
 -- ---- what a call answers
@@ -92,7 +92,7 @@ pub record Reports (refusal n : ℕ) (values : List ℤ) (weights classes : List
   pub in-parts :
       parts-left
       ≡ unless-refused refusal
-      (local-figures (spread-of (at values) n) (take (length parts) (class-locals n values weights classes)))
+      (local-figures (job-spread n values weights) (take (length parts) (class-locals n values weights classes)))
       parts
 
 -- ---- a coefficient whose bits can be read

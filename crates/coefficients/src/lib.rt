@@ -21,7 +21,7 @@ pub struct Pair {
     pub geary: Coefficient,
 }
 
-// The whole job: its five sums, and the pair that is formed of them.
+// The whole job: its sums, and the pair that is formed of them.
 pub struct Whole {
     pub sums: Sums,
     pub pair: Pair,

@@ -78,7 +78,6 @@ pub(super) fn refused(number: u8) -> Report
 // The report of an accepted job, from what its class account answered and left. `parts` has places for the figures of the first of the
 // local numerators of the classes.
 pub(super) fn report_job(
-    n: usize,
     sums: Sums,
     rows: &[i64],
     class_locals: &[i64],
@@ -86,18 +85,19 @@ pub(super) fn report_job(
     figures: &mut [u64],
     parts: &mut [u64],
 ) -> Report
-    requires { ⌜ Reportable n sums (now rows) (now «class_locals») (now locals) ⌝ }
+    requires { ⌜ Reportable sums (now rows) (now «class_locals») (now locals) ⌝ }
     requires { ⌜ length (now figures) ≡ length (now locals) ⌝ }
     requires { ⌜ length (now parts) ≤ length (now «class_locals») ⌝ }
     ensures { λ r. ⌜ r ≡ record {
-      whole = Reported (record { sums = sums; pair = pair-of n (sums .spread) (whole-row sums) });
-      classes = table (λ k. pair-of n (sums .spread) (row-at (now (rows .entry)) k)) 9;
+      whole = Reported (record { sums = sums; pair = pair-of (sums .kept) (sums .spread) (whole-row sums) });
+      classes = table (λ k. pair-of (sums .kept) (sums .spread) (row-at (now (rows .entry)) k)) 9;
     } ⌝ }
     ensures { λ _. ⌜ now (figures .exit) ≡ local-figures (sums .spread) (now (locals .entry)) ⌝ }
     ensures { λ _. ⌜ now (parts .exit)
         ≡ local-figures (sums .spread) (take (length (now (parts .entry))) (now («class_locals» .entry))) ⌝ }
 {
     let spread = sums.spread;
+    let kept = sums.kept;
     let row = ClassRow {
         weight: sums.weight,
         cross: sums.cross,
@@ -106,14 +106,14 @@ pub(super) fn report_job(
     forming::put_figures(spread, locals, figures);
     let wanted = parts.len();
     forming::put_figures(spread, &class_locals[..wanted], parts);
-    let pair = forming::pair(n, spread, row);
+    let pair = forming::pair(kept, spread, row);
     let whole = Whole {
         sums: sums,
         pair: pair,
     };
     Report {
         whole: Answer::Reported(whole),
-        classes: forming::class_pairs(n, spread, rows),
+        classes: forming::class_pairs(kept, spread, rows),
     }
 }
 
@@ -139,7 +139,6 @@ pub(super) fn report_sized(
     match account::class_account(n, values, weights, classes, rows, class_locals, locals) {
         account::Answer::Refused(number) => refused(number),
         account::Answer::Accounted(sums) => report_job(
-            n,
             sums,
             rows,
             class_locals,

@@ -2,18 +2,18 @@
 -- account's list of local numerators. Assumes nothing.
 use mathlib.Core.Path.{_≡_, sym, ap, _∙_}
 use mathlib.Core.List.{List, [], _∷_}
-use Prim.Native.Nat.{ℕ}
+use Prim.Native.Nat.{ℕ, _*_}
 use lib.IntN.{ℤ}
 use lib.ListN.{length}
-use Rattle.whole.proofs.Rules.{kept-when-refused, worked-when-taken, sizes-hold}
+use Rattle.whole.proofs.Rules.{kept-when-refused, worked-when-taken, fits, sizes-hold}
 use Rattle.account.specs.Refusals.{job-lengths, account-refusal}
-use Rattle.account.specs.Answers.{number-of, figures-of, account-figures, account-locals}
+use Rattle.account.specs.Answers.{number-of, figures-of, job-locals, account-figures, account-locals}
 use Rattle.account.specs.declared.Sums.{Sums}
 use Rattle.account.specs.declared.Answer.{Answer}
 use Rattle.account.specs.declared.Answer.the-variants.{Refused, Accounted}
-use Rattle.account.proofs.Theorems.{sizes-refusal, sizes-fit, refusal-same, never-refused, locals-left}
-use Rattle.hot_list.specs.HotList.{order-refusal, order-left, hot-zones}
-use Rattle.hot_list.proofs.Ordered.{order-taken, job-ordered}
+use Rattle.account.proofs.Theorems.{sizes-refusal, sizes-fit, refusal-same, never-refused, locals-left, job-locals-length}
+use Rattle.hot_list.specs.HotList.{in-order, order-refusal, order-left, hot-list, hot-zones}
+use Rattle.hot_list.proofs.Ordered.{order-taken}
 
 module _ (n : ℕ) (values : List ℤ) (weights zones : List ℕ) where
   -- what the call promises of its number and of the list that it leaves
@@ -40,19 +40,24 @@ module _ (n : ℕ) (values : List ℤ) (weights zones : List ℕ) where
         let found : k ≡ account-refusal n values weights locals = sym (ap number-of e) ∙ number in
         refused k (found ∙ same) (λ z. never-refused n values weights locals (sym found ∙ z) r k figures e)
 
-    -- of the rest `order` refuses nothing
-    in-range : order-refusal n (length zones) ≡ 0
-    in-range =
-        let sizes = sizes-hold n (job-lengths n (length values) (length weights) ((length zones, n) ∷ [])) good in
-        order-taken n (length zones) (sizes .two) (sizes .zones) (sizes-fit n values weights zones good .1)
+    -- of the rest `order` refuses nothing, where it is lent a numerator for each zone
+    in-range : (held : List ℤ) → length held ≡ n → order-refusal n (length weights) (length held) (length zones) ≡ 0
+    in-range held l =
+        let lengths = job-lengths n (length values) (length weights) ((length zones, n) ∷ []) in
+        let sizes = sizes-hold n lengths good in
+        let own = fits (length values) n ((length weights, n * n) ∷ (length zones, n) ∷ []) (sizes .fitting) in
+        let lent = fits (length weights) (n * n) ((length zones, n) ∷ []) (own .1) in
+        order-taken n (length weights) (length held) (length zones) (sizes .two) (sizes .zones) (lent .0) l
+        (sizes-fit n values weights zones good .1)
 
     -- and puts the zones in the order of the local numerators that the account left
     pub by-sums :
         (sums : Sums) (held : List ℤ) (k : ℕ) (left : List ℕ) → r ≡ Accounted sums → held ≡ account-locals n values weights locals →
-        k ≡ order-refusal (length held) (length zones) → left ≡ order-left held zones → Promised k left
-    unfolding number-of hot-zones
+        k ≡ order-refusal n (length weights) (length held) (length zones) → left ≡ order-left n weights held zones → Promised k left
+    unfolding number-of hot-zones hot-list order-left
     by-sums sums held k left e h p o =
         let taken : account-refusal n values weights locals ≡ 0 = sym number ∙ ap number-of e in
         let z = sym same ∙ taken in
-        let job = job-ordered n values weights held zones (locals-left n values weights locals taken held h) in-range in
-        (p ∙ job .0 ∙ sym z, o ∙ job .1 ∙ sym (worked-when-taken _ _ _ z))
+        let job : held ≡ job-locals n values weights = locals-left n values weights locals taken held h in
+        let none = in-range held (ap length job ∙ job-locals-length n values weights) in
+        (p ∙ none ∙ sym z, o ∙ worked-when-taken _ _ _ none ∙ ap (in-order n weights) job ∙ sym (worked-when-taken _ _ _ z))

@@ -18,6 +18,8 @@ use Rattle.whole.proofs.Sum.{sum-cong, sum-+, sum-rows, pairs-twice}
 use Rattle.whole.proofs.TableRows.{rows-at}
 use Rattle.account.specs.Measures.{weight-of, pairs-of, row-of}
 use Rattle.account.proofs.Adding.{counts-once, weight-parts}
+use Rattle.account.specs.Answers.{job-row}
+use Rattle.account.proofs.Theorems.{weight-of-all}
 use Rattle.joins.specs.Joins.{weight-between, joins-of, like-joins, weight-across, unlike-joins}
 use Rattle.joins.specs.Joins.{category-at, join-table, join-rules, join-refusal, joins-left}
 use Rattle.joins.proofs.Accepted.{accepted}
@@ -134,6 +136,12 @@ joins-left-add-up n categories weights room e =
     sum-rows (at (join-table n categories weights)) 8 8
     ∙ sum-cong _ _ 8 (λ r h. sum-cong _ _ 8 (λ s k. join-table-at n categories weights r s h k))
     ∙ joins-add-up f c n (λ i p. let z = none-above 7 categories (g .low) i (omega (arith, g .categories-fit)) in omega arith)
+
+-- and to the W of a job with these weights, which is taken over the zones kept: a zone left out has no weight
+pub joins-of-job :
+    (n : ℕ) (values : List ℤ) (categories weights : List ℕ) (room : ℕ) → join-refusal n categories weights room ≡ 0 →
+    sum (at (join-table n categories weights)) 64 ≡ job-row n values weights .weight
+joins-of-job n values categories weights room e = joins-left-add-up n categories weights room e ∙ sym (weight-of-all n values weights)
 
 -- ---- what the call leaves in the lent list
 module _ (n : ℕ) (categories weights : List ℕ) (lent left : List ℤ) (e : left ≡ joins-left n categories weights lent) where

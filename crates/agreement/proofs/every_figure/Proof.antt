@@ -6,7 +6,7 @@ use Prim.Native.Nat.{ℕ}
 use lib.IntN.{ℤ}
 use Rattle.whole.specs.Rules.{first-broken}
 use Rattle.whole.proofs.Rules.{sizes-hold, worked-when-taken, kept-when-refused}
-use Rattle.account.specs.Answers.{five, job-figures, job-locals}
+use Rattle.account.specs.Answers.{listed, job-figures, job-locals}
 use Rattle.account.specs.Classes.{class-sums, class-locals, class-rules, class-refusal}
 use Rattle.account.specs.Classes.{class-account-rows, class-account-locals, class-account-own}
 use Rattle.account.specs.declared.Answer.the-variants.{Accounted}
@@ -94,7 +94,7 @@ module _ (c : tie.After-class-account) where
   -- where it did not, its sums and what it left are the job's
   module _ (sums : Sums) (answered : c .class-account .result ≡ Accounted sums) where
     known :
-        (class-number ≡ 0) × (five sums ≡ job-figures (n b) (values b) (weights b))
+        (class-number ≡ 0) × (listed sums ≡ job-figures (n b) (values b) (weights b))
     known =
         class-accounted (n b) (values b) (weights b) (classes b) (lent b .rows) (lent b .class-locals) (lent b .own) _
         (c .class-account .ensures .0) (c .class-account .ensures .1 .0) sums answered

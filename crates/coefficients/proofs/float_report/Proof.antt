@@ -9,7 +9,7 @@ use lib.Seq.{take-all, length-take-le}
 use Rattle.whole.specs.Rules.{unless-refused}
 use Rattle.whole.specs.Table.{at}
 use Rattle.whole.proofs.Rules.{Sizes, sizes-hold, fits, kept-when-refused}
-use Rattle.account.specs.Measures.{spread-of}
+use Rattle.account.specs.Refusals.{job-spread}
 use Rattle.account.specs.Classes.{class-locals}
 use Rattle.account.proofs.ClassTheorems.{class-locals-length}
 use Rattle.coefficients.specs.Coefficients.{local-figures}
@@ -72,12 +72,12 @@ module _ (c : tie.After-judge-lent) where
     parts-are :
         {left : List ℕ} →
         left ≡ unless-refused (rest-refusal n values weights classes)
-        (local-figures (spread-of (at values) n) (take (length parts) (class-locals n values weights classes))) parts →
+        (local-figures (job-spread n values weights) (take (length parts) (class-locals n values weights classes))) parts →
         left ≡ report-parts n values weights classes figures parts
     unfolding report-parts
     parts-are e =
         let numerators = class-locals n values weights classes in
-        let worked : List ℤ → List ℕ = λ l. local-figures (spread-of (at values) n) l in
+        let worked : List ℤ → List ℕ = λ l. local-figures (job-spread n values weights) l in
         let all : take (length parts) numerators ≡ numerators =
         take-all (length parts) numerators (omega (arith, lists-fit .1, class-locals-length n values weights classes)) in
         e

@@ -29,11 +29,11 @@ module _ (c : tie.After-struct-told2) where
   abbrev s : tie.Start
   s = c .before .before .before .before
 
-  abbrev n : ℕ
-  n = s .args .n
-
   abbrev sums : Sums
   sums = s .args .sums
+
+  abbrev n : ℕ
+  n = sums .kept
 
   spread-read : r64 (sums .spread) ≡ sums .spread
   spread-read = toZ-ofZ w64 (sums .spread) (sfits-of (c .struct-told2 .given .1 .0 .1))

@@ -6,7 +6,7 @@ use native.Mathlib.Omega.{arith}
 use lib.IntN.{ℤ}
 use lib.ListN.{length}
 use Rattle.whole.proofs.Rules.{worked-when-taken, kept-when-refused}
-use Rattle.account.specs.Answers.{five, job-figures, job-locals}
+use Rattle.account.specs.Answers.{listed, job-figures, job-locals}
 use Rattle.account.specs.Classes.{class-sums, class-locals, class-refusal}
 use Rattle.account.specs.Classes.{class-account-rows, class-account-locals, class-account-own}
 use Rattle.account.specs.declared.Answer.the-variants.{Accounted}
@@ -23,9 +23,9 @@ use Rattle.coefficients.proofs.working.report_sized.Tie as tie
 
 -- the same by other names
 reportable-same :
-    {n : ℕ} {sums : Sums} {rows rows′ of-classes of-classes′ locals locals′ : List ℤ} →
+    {sums : Sums} {rows rows′ of-classes of-classes′ locals locals′ : List ℤ} →
     rows′ ≡ rows → of-classes′ ≡ of-classes → locals′ ≡ locals →
-    Reportable n sums rows of-classes locals → Reportable n sums rows′ of-classes′ locals′
+    Reportable sums rows of-classes locals → Reportable sums rows′ of-classes′ locals′
 reportable-same e f g r = rw (e, f, g) r
 
 -- what the class account answered and left
@@ -112,7 +112,7 @@ enum-known-sums c = search needs
 sums-known :
     (b : tie.After-class-account) (sums : Sums) → b .class-account .result ≡ Accounted sums →
     (class-refusal (n b) (values b) (weights b) (classes b) (rows b) (of-classes b) (own b) ≡ 0)
-    × (five sums ≡ job-figures (n b) (values b) (weights b))
+    × (listed sums ≡ job-figures (n b) (values b) (weights b))
 sums-known b sums e =
     class-accounted (n b) (values b) (weights b) (classes b) (rows b) (of-classes b) (own b) _ (b .class-account .ensures .0)
     (b .class-account .ensures .1 .0) sums e
