@@ -2,11 +2,12 @@
 -- there is put into the lent lists. Assumes nothing.
 use mathlib.Core.Path.{_≡_, sym, ap, _∙_}
 use mathlib.Core.List.{List}
-use Prim.Native.Nat.{ℕ}
+use Prim.Native.Nat.{ℕ, _≤_}
+use native.Mathlib.Omega.{arith}
 use lib.IntN.{ℤ}
 use lib.ListN.{length}
 use Rattle.whole.proofs.Rules.{kept-when-refused, worked-when-taken}
-use Rattle.account.specs.Answers.{five, number-of, figures-of, account-figures, account-locals}
+use Rattle.account.specs.Answers.{listed, number-of, figures-of, account-figures, account-locals}
 use Rattle.account.specs.Classes.{class-refusal, class-account-figures, class-account-rows, class-account-locals}
 use Rattle.account.specs.Rank as rank
 use Rattle.account.specs.Refusals.{account-refusal}
@@ -16,12 +17,12 @@ use Rattle.account.specs.declared.Answer.the-variants.{Refused, Accounted}
 use Rattle.account.specs.declared.Counts.{Counts}
 use Rattle.account.specs.declared.RankAnswer.{RankAnswer}
 use Rattle.account.specs.declared.RankAnswer.the-variants as rank-answer
-use Rattle.account.proofs.Theorems.{never-refused, accounted-sums, locals-left}
+use Rattle.account.proofs.Theorems.{never-refused, accounted-sums, accounted-kept, locals-left}
 use Rattle.account.proofs.ClassAnswered.{class-refused, class-accounted}
 use Rattle.account.proofs.RankTheorems as rank-theorems
 use Rattle.exports.specs.Jobs.{account-number, locals-after, sums-after, rank-number, rank-after}
 use Rattle.exports.specs.Jobs.{class-number, rows-after, class-locals-after}
-use Rattle.exports.proofs.Numbers.{own, account-sizes, account-below, rank-sizes, rank-below, class-sizes, class-below}
+use Rattle.exports.proofs.Numbers.{own, own-zones, account-sizes, account-below, rank-sizes, rank-below, class-sizes, class-below}
 
 module _ (n : ℕ) (values : List ℤ) (weights : List ℕ) where
   -- ---- the account
@@ -37,12 +38,12 @@ module _ (n : ℕ) (values : List ℤ) (weights : List ℕ) where
         let some : account-number n values weights locals sums ≡ 0 → ⊥ = λ z. f (e ∙ z) in
         (e, (sym (kept-when-refused _ _ _ some), sym (kept-when-refused _ _ _ some)))
 
-    pub account-by-sizes : (k : ℕ) → k ≡ own n values weights (length sums) 5 → (k ≡ 0 → ⊥) → Accounts k locals sums
+    pub account-by-sizes : (k : ℕ) → k ≡ own n values weights (length sums) 6 → (k ≡ 0 → ⊥) → Accounts k locals sums
     account-by-sizes k e f = account-refused k (account-sizes n values weights locals sums k e f) f
 
     -- what the account promises of its answer r and of the list that it leaves
     module _
-        (fit : own n values weights (length sums) 5 ≡ 0) (r : Answer) (left : List ℤ)
+        (fit : own n values weights (length sums) 6 ≡ 0) (r : Answer) (left : List ℤ)
         (number : number-of r ≡ account-refusal n values weights locals)
         (figures : figures-of r ≡ account-figures n values weights locals)
         (lent : left ≡ account-locals n values weights locals) where
@@ -58,17 +59,24 @@ module _ (n : ℕ) (values : List ℤ) (weights : List ℕ) where
           let told = account-refused k (found ∙ sym below) some in
           (told .0, (kept ∙ told .1 .0, told .1 .1))
 
-      pub account-by-sums : (five-sums : Sums) (put : List ℤ) → r ≡ Accounted five-sums → put ≡ five five-sums → Accounts 0 left put
+      pub account-by-sums : (sums-held : Sums) (put : List ℤ) → r ≡ Accounted sums-held → put ≡ listed sums-held → Accounts 0 left put
       unfolding number-of locals-after sums-after
-      account-by-sums five-sums put e f =
+      account-by-sums sums-held put e f =
           let taken : account-refusal n values weights locals ≡ 0 = sym number ∙ ap number-of e in
           let z = below ∙ taken in (
             sym z,
             (
               locals-left n values weights locals taken left lent ∙ sym (worked-when-taken _ _ _ z),
-              f ∙ accounted-sums n values weights locals taken r five-sums figures e ∙ sym (worked-when-taken _ _ _ z),
+              f ∙ accounted-sums n values weights locals taken r sums-held figures e ∙ sym (worked-when-taken _ _ _ z),
             ),
           )
+
+      -- no more zones are kept than 64
+      pub account-kept-few : (sums-held : Sums) → r ≡ Accounted sums-held → sums-held .kept ≤ 64
+      unfolding number-of
+      account-kept-few sums-held e =
+          let taken : account-refusal n values weights locals ≡ 0 = sym number ∙ ap number-of e in
+          omega (arith, accounted-kept n values weights locals taken r sums-held figures e, own-zones n values weights (length sums) 6 fit)
 
   -- ---- the rank
   module _ (shuffles counts : List ℕ) where
@@ -144,10 +152,10 @@ module _ (n : ℕ) (values : List ℤ) (weights : List ℕ) where
             ),
           )
 
-      pub class-by-sums : (five-sums : Sums) → r ≡ Accounted five-sums → Classes 0 left-rows left-locals
+      pub class-by-sums : (sums-held : Sums) → r ≡ Accounted sums-held → Classes 0 left-rows left-locals
       unfolding class-account-rows class-account-locals rows-after class-locals-after
-      class-by-sums five-sums e =
-          let taken = class-accounted n values weights classes rows locals places r number figures five-sums e .0 in
+      class-by-sums sums-held e =
+          let taken = class-accounted n values weights classes rows locals places r number figures sums-held e .0 in
           let z = class-same ∙ taken in (
             sym z,
             (

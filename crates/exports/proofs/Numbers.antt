@@ -2,7 +2,7 @@
 use mathlib.Core.Path.{_≡_, refl, sym, subst}
 use mathlib.Core.Bool.{Bool, true, false, not, _||_}
 use mathlib.Core.List.{List, [], _∷_, _++_}
-use Prim.Native.Nat.{ℕ, _*_}
+use Prim.Native.Nat.{ℕ, _*_, _≤_}
 use borrow.Author.Tests.{eq-eqb}
 use lib.Dec.{T, eqb}
 use lib.IntN.{ℤ}
@@ -43,6 +43,9 @@ module _ (n : ℕ) (values : List ℤ) (weights : List ℕ) where
       let f = fits (length values) n two (sizes-hold n ((length values, n) ∷ two) e .fitting) in
       fits lent places [] (fits (length weights) (n * n) one (f .1) .1) .0
 
+  pub own-zones : (lent places : ℕ) → own lent places ≡ 0 → n ≤ 64
+  own-zones lent places e = sizes-hold n ((length values, n) ∷ (length weights, n * n) ∷ (lent, places) ∷ []) e .zones
+
   module _ (lent places found wanted : ℕ) (rest : List Rule) where
     -- its number comes first
     pub sizes-number :
@@ -66,13 +69,13 @@ module _ (n : ℕ) (values : List ℤ) (weights : List ℕ) where
     then-below e = rw (eq-eqb lent places (own-fits lent places e)) refl
 
   module _ (locals sums : List ℤ) where
-    pub account-sizes : (r : ℕ) → r ≡ own (length sums) 5 → (r ≡ 0 → ⊥) → r ≡ account-number n values weights locals sums
+    pub account-sizes : (r : ℕ) → r ≡ own (length sums) 6 → (r ≡ 0 → ⊥) → r ≡ account-number n values weights locals sums
     unfolding account-number
-    account-sizes = sizes-number (length sums) 5 (length locals) n []
+    account-sizes = sizes-number (length sums) 6 (length locals) n []
 
-    pub account-below : own (length sums) 5 ≡ 0 → account-number n values weights locals sums ≡ account-refusal n values weights locals
+    pub account-below : own (length sums) 6 ≡ 0 → account-number n values weights locals sums ≡ account-refusal n values weights locals
     unfolding account-number account-refusal account-rules
-    account-below = then-below (length sums) 5 (length locals) n []
+    account-below = then-below (length sums) 6 (length locals) n []
 
   module _ (shuffles counts : List ℕ) where
     abbrev thirteen : List Rule

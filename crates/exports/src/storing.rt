@@ -6,10 +6,10 @@ use coefficients::Pair;
 use image::Given;
 ghost use mathlib.Core.Path.{_≡_};
 ghost use mathlib.Core.List.{[], _∷_};
-ghost use Prim.Native.Nat.{_+_, _*_, _<_};
+ghost use Prim.Native.Nat.{_+_, _*_, _≤_, _<_};
 ghost use lib.ListN.{length, getD};
 ghost use Rattle.whole.specs.Table.{table};
-ghost use Rattle.account.specs.Answers.{five};
+ghost use Rattle.account.specs.Answers.{listed};
 ghost use Rattle.account.specs.Rank.{three};
 ghost use Rattle.reader.specs.Answers.{six};
 ghost use Rattle.coefficients.specs.FloatReport.{no-pair};
@@ -18,21 +18,24 @@ ghost use Rattle.exports.specs.Floats.{pairs-over};
 ghost use Rattle.exports.specs.Images.{given-by};
 ghost use Rattle.exports.specs.Steps.{put-figure, tells};
 
-// S, M, W, P, G.
+// S, M, W, P, G and the number of zones kept.
 pub(super) fn put_sums(account: Sums, sums: &mut [i64])
-    requires { ⌜ length (now sums) ≡ 5 ⌝ }
-    ensures { λ _. ⌜ now (sums .exit) ≡ five account ⌝ }
+    requires { ⌜ account .kept ≤ 64 ⌝ }
+    requires { ⌜ length (now sums) ≡ 6 ⌝ }
+    ensures { λ _. ⌜ now (sums .exit) ≡ listed account ⌝ }
 {
     let total = account.total;
     let spread = account.spread;
     let weight = account.weight;
     let cross = account.cross;
     let squares = account.squares;
+    let kept = account.kept as i64;
     sums[0] = total;
     sums[1] = spread;
     sums[2] = weight;
     sums[3] = cross;
     sums[4] = squares;
+    sums[5] = kept;
 }
 
 // Less, equal, greater.

@@ -1,4 +1,5 @@
--- The published cases as one table, a row each: what is worked, and what document 01 says that it gives. Assumes nothing.
+-- The published cases as one table, a row each: what is worked, and what document 01 says that it gives, or A.6 of document 02, by which
+-- a zone that touches nobody is left out. Assumes nothing.
 use mathlib.Core.Bool.{Bool, true, false, _&&_}
 use mathlib.Core.List.{List, [], _∷_, _++_}
 use Prim.Native.Nat.{ℕ, _^_}
@@ -7,11 +8,10 @@ use lib.Dec.{eqb}
 use lib.Ieee.{binary64, toBits}
 use lib.IntN.{ℤ, pos, negsuc, _*ℤ_}
 use Rattle.whole.specs.Integer.{equal}
-use Rattle.whole.specs.Table.{table, at, pair-at}
+use Rattle.whole.specs.Table.{table, at}
 use Rattle.nearest.specs.Answers.{nearest-float}
 use Rattle.nearest.specs.Bits.{value-of}
-use Rattle.account.specs.Measures.{deviation-of, spread-of, weight-of, cross-of, squares-of}
-use Rattle.account.specs.Answers.{job-locals}
+use Rattle.account.specs.Answers.{job-figures, job-locals}
 use Rattle.account.specs.Classes.{class-row-of}
 use Rattle.account.specs.Rank.{job-rank}
 use Rattle.hot_list.specs.HotList.{hot-list}
@@ -35,8 +35,8 @@ pub record Job : Type 0 where
   pub classes : List ℕ
 
 pub data Row : Type 0 where
-  -- P, W, M, G and the local numerators of a job
-  sums : Job → ℤ → ℤ → ℤ → ℤ → List ℤ → Row
+  -- P, W, M, G, the number of zones kept and the local numerators of a job
+  sums : Job → ℤ → ℤ → ℤ → ℤ → ℤ → List ℤ → Row
   -- I and c of a job
   pair : Job → Printed → Printed → Row
   -- W, P, G, I and c of a class
@@ -74,12 +74,10 @@ shows (number z) Weightless = false
 shows (bits n) Weightless = false
 
 unfoldable pub right : Row → Bool
-right (sums job p w m g locals) =
-    let n = job .zones in
-    let x = at (job .values) in
-    let f = pair-at (job .weights) n in
-    same equal (p ∷ w ∷ m ∷ g ∷ locals)
-    (cross-of f (deviation-of x n) n ∷ weight-of f n ∷ spread-of x n ∷ squares-of f x n ∷ job-locals n (job .values) (job .weights))
+right (sums job p w m g kept locals) =
+    let worked = job-figures (job .zones) (job .values) (job .weights) in
+    same equal (p ∷ w ∷ m ∷ g ∷ kept ∷ locals)
+    (at worked 3 ∷ at worked 2 ∷ at worked 1 ∷ at worked 4 ∷ at worked 5 ∷ job-locals (job .zones) (job .values) (job .weights))
 right (pair job moran geary) =
     let worked = job-pair (job .zones) (job .values) (job .weights) in
     shows moran (worked .moran) && shows geary (worked .geary)
@@ -123,7 +121,7 @@ two-joined = record {
   classes = 0 ∷ 0 ∷ 0 ∷ 0 ∷ [];
 }
 
--- the whole report's: values 1 1 3 3, 0-1 of weight 3 in class 1, 1-2 of weight 1 in class 2
+-- the whole report's: values 1 1 3 3, 0-1 of weight 3 in class 1, 1-2 of weight 1 in class 2; zone 3 touches nobody
 abbrev pub reported : Job
 reported = record {
   zones = 4;
@@ -139,15 +137,15 @@ zeros n = table (λ k. pos 0) n
 -- ---- the table
 unfoldable pub published : List Case
 published =
-    ("(a)", sums line-of-three (negsuc 17) (pos 4) (pos 42) (pos 34) (pos 18 ∷ negsuc 8 ∷ negsuc 26 ∷ []))
+    ("(a)", sums line-of-three (negsuc 17) (pos 4) (pos 42) (pos 34) (pos 3) (pos 18 ∷ negsuc 8 ∷ negsuc 26 ∷ []))
     ∷ ("(b)", pair two-joined (number (negsuc 0)) (number (pos 1)))
-    ∷ ("(c)", sums reported (pos 64) (pos 8) (pos 16) (pos 8) (pos 48 ∷ pos 32 ∷ negsuc 15 ∷ pos 0 ∷ []))
-    ∷ ("the report's I and c", pair reported (bits 0x3FE0000000000000) (bits 0x3FD8000000000000))
+    ∷ ("(c), by A.6", sums reported (pos 8) (pos 8) (pos 8) (pos 8) (pos 3) (pos 12 ∷ pos 4 ∷ negsuc 7 ∷ pos 0 ∷ []))
+    ∷ ("the report's I and c", pair reported (bits 0x3FC0000000000000) (bits 0x3FD8000000000000))
     ∷ ("the report's unclassed pairs", class reported 0 (pos 0) (pos 0) (pos 0) none none)
-    ∷ ("(d), class 1", class reported 1 (pos 6) (pos 96) (pos 0) (bits 0x3FF0000000000000) (bits 0x0000000000000000))
-    ∷ ("(d), class 2", class reported 2 (pos 2) (negsuc 31) (pos 8) (bits 0xBFF0000000000000) (bits 0x3FF8000000000000))
+    ∷ ("(d), class 1, by A.6", class reported 1 (pos 6) (pos 24) (pos 0) (bits 0x3FE0000000000000) (bits 0x0000000000000000))
+    ∷ ("(d), class 2, by A.6", class reported 2 (pos 2) (negsuc 15) (pos 8) (bits 0xBFF0000000000000) (bits 0x3FF8000000000000))
     ∷ ("(d), from places and bands", banded reported (pos 0 ∷ pos 0 ∷ pos 1 ∷ pos 0 ∷ pos 3 ∷ pos 0 ∷ pos 9 ∷ pos 9 ∷ []) (1 ∷ 4 ∷ []))
-    ∷ ("the report's hot list", hot reported (0 ∷ 1 ∷ 3 ∷ 2 ∷ []))
+    ∷ ("the report's hot list", hot reported (0 ∷ 1 ∷ 2 ∷ 3 ∷ []))
     ∷ ("(e)", joins reported (0 ∷ 0 ∷ 1 ∷ 1 ∷ []) ((pos 6 ∷ pos 1 ∷ zeros 6) ++ (pos 1 ∷ zeros 7) ++ zeros 48))
     ∷ ("(f)", rank reported (0 ∷ 1 ∷ 2 ∷ 3 ∷ 2 ∷ 1 ∷ 0 ∷ 3 ∷ []) 1 1 0)
     ∷ ("(g), a tie", ratio (pos 9007199254740993) (pos 1) (number (pos 9007199254740992)))

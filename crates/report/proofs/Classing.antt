@@ -17,7 +17,7 @@ use Rattle.places.proofs.Accepted.{bands-accepted}
 use Rattle.places.proofs.Theorems.{bands-never-9, classes-left}
 use Rattle.report.specs.Steps.{Bandable, Low, Classed}
 
-band-classes-length : (n : ℕ) (places : List ℤ) (bands : List ℕ) → length (band-classes n places bands) ≡ n * n
+pub band-classes-length : (n : ℕ) (places : List ℤ) (bands : List ℕ) → length (band-classes n places bands) ≡ n * n
 unfolding band-classes
 band-classes-length n places bands = rows-length (pair-class bands (squared-distance places)) n n
 

@@ -7,4 +7,5 @@ pub mod JobText
 pub mod ReadJob
 pub mod Printing
 pub mod FirstBytes
+pub mod AllKept
 pub mod Theorems

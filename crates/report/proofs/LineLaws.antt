@@ -50,12 +50,16 @@ read sums f1 f2 f3 f4 f5 = record {
   squares-back = toZ-ofZ w64 (sums .squares) (sfits-of f5);
 }
 
-module _ (n : ℕ) (sums : Sums) (reads : Read sums) where
+module _ (sums : Sums) (reads : Read sums) where
+  -- the number of zones kept
+  abbrev n : ℕ
+  n = sums .kept
+
   pub sum-text :
       n ≤ 64 →
       line "zones" (numbers (toZ w64 n ∷ r64 (sums .total) ∷ r64 (sums .spread) ∷ []))
       ++ line "joins" (numbers (r64 (sums .weight) ∷ r64 (sums .cross) ∷ r64 (sums .squares) ∷ []))
-      ≡ sum-lines n sums
+      ≡ sum-lines sums
   unfolding sum-lines
   sum-text h =
       rw (
@@ -68,7 +72,7 @@ module _ (n : ℕ) (sums : Sums) (reads : Read sums) where
       ) refl
 
   -- ---- the products of the ratios
-  module _ (within : Within n sums) where
+  module _ (within : Within sums) where
     -- W × M
     pub moran-divisor-is : Is (r64 (sums .weight) *ℤ r64 (sums .spread)) (sums .weight *ℤ sums .spread) ratio-limit
     moran-divisor-is = record { same = cc (reads .weight-back, reads .spread-back); size = within .moran-divisor }
@@ -104,7 +108,7 @@ module _ (n : ℕ) (sums : Sums) (reads : Read sums) where
         ∷ [])
         ++ coefficient (pair .geary))
         ++ line "expected" (numbers (negsuc 0 ∷ toZ w64 (n - 1) ∷ [])))
-        ≡ ratio-lines n sums pair
+        ≡ ratio-lines sums pair
     unfolding ratio-lines
     ratio-text pair =
         let zones = within .zones in

@@ -1,7 +1,7 @@
 -- Lines from what the calls answer are the lines of the text. Assumes nothing.
 use mathlib.Core.Path.{_≡_, refl, ap, _∙_}
 use mathlib.Core.Bool.{cond}
-use mathlib.Core.List.{List, [], _∷_, _++_}
+use mathlib.Core.List.{List, [], _∷_}
 use Prim.Native.Nat.{ℕ, suc, _+_, _*_, _≤_, _<_}
 use native.Mathlib.Omega.{arith}
 use borrow.Author.Tests.{eq-eqb, ne-eqb}
@@ -16,7 +16,7 @@ use Rattle.whole.proofs.Machine.{nat}
 use Rattle.whole.proofs.Stores.{each-same}
 use Rattle.whole.proofs.Table.{table-length, table-at, table-held}
 use Rattle.shuffles.proofs.Theorems.{at-most-499}
-use Rattle.account.specs.Classes.{class-sums, row-at}
+use Rattle.account.specs.Classes.{class-row-of, class-sums, row-at}
 use Rattle.account.specs.Rank.{job-rank, three}
 use Rattle.account.specs.declared.ClassRow.{ClassRow}
 use Rattle.account.specs.declared.Counts.{Counts}
@@ -28,8 +28,7 @@ use Rattle.coefficients.specs.Coefficients.{class-pair}
 use Rattle.coefficients.specs.FloatReport.{no-pair}
 use Rattle.coefficients.specs.declared.Pair.{Pair}
 use Rattle.pages.specs.Lines.{line, numbers}
-use Rattle.report.specs.Lines.{coefficient}
-use Rattle.report.specs.Text.{numbered, whole, where-given, pair-line, pair-lines, class-line, rank-line}
+use Rattle.report.specs.Text.{numbered, where-given, pair-line, pair-lines, class-line, counts-line, rank-line}
 use Rattle.report.specs.Steps.{table-line, row-line}
 
 -- ---- lines that need a list
@@ -72,24 +71,24 @@ joined-lines n categories weights entries e =
 
 -- ---- the class lines
 
--- the line of class k, from its row and its pair
-abbrev of-class : ℕ → ClassRow → Pair → List ℕ
-of-class k row pair =
-    line "class"
-    (numbers (pos k ∷ row .weight ∷ row .cross ∷ row .squares ∷ []) ++ (coefficient (pair .moran) ++ coefficient (pair .geary)))
+-- the line of class k
+abbrev pub class-text : ℕ → List ℤ → List ℕ → List ℕ → ℕ → List ℕ
+class-text n values weights classes k =
+    class-line (class-row-of n values weights classes k) (class-pair n values weights classes k) k
 
 module _ (n : ℕ) (values : List ℤ) (weights classes : List ℕ) (pairs : List Pair)
     (e : pairs ≡ table (class-pair n values weights classes) 9) where
   -- a line's row and pair are those of its class
   pub class-lines-are :
       (rows : List ℤ) (last : ℕ) → rows ≡ class-sums n values weights classes → last ≤ 8 →
-      each (row-line rows pairs) (numbered (suc last)) ≡ each (class-line n values weights classes) (numbered (suc last))
+      each (row-line rows pairs) (numbered (suc last)) ≡ each (class-text n values weights classes) (numbered (suc last))
   unfolding row-line class-line
   class-lines-are rows last f few =
-      numbered-same (row-line rows pairs) (class-line n values weights classes) (suc last)
-      (λ k h. ap (λ (row : ClassRow). of-class k row (getD pairs k no-pair))
+      numbered-same (row-line rows pairs) (class-text n values weights classes) (suc last)
+      (λ k h. ap (λ (row : ClassRow). class-line row (getD pairs k no-pair) k)
       (ap (λ (l : List ℤ). row-at l k) f ∙ class-sums-row n values weights classes k (omega arith))
-      ∙ ap (of-class k _) (table-held (class-pair n values weights classes) 9 no-pair pairs e k (omega arith)))
+      ∙ ap (λ (pair : Pair). class-line (class-row-of n values weights classes k) pair k)
+      (table-held (class-pair n values weights classes) 9 no-pair pairs e k (omega arith)))
 
 -- ---- the rank line
 module _ (n : ℕ) (values : List ℤ) (weights shuffles : List ℕ) (counts : Counts)
@@ -104,9 +103,9 @@ module _ (n : ℕ) (values : List ℤ) (weights shuffles : List ℕ) (counts : C
   pub counted-line :
       line "rank" (numbers (toZ w64 (counts .less) ∷ toZ w64 (counts .equal) ∷ toZ w64 (counts .greater) ∷ []))
       ≡ rank-line n values weights shuffles
-  unfolding rank-line
+  unfolding rank-line counts-line
   counted-line =
       let less = nat w64 (counts .less) 499 (omega (arith, few-counted)) tt .same in
       let equal = nat w64 (counts .equal) 499 (omega (arith, few-counted)) tt .same in
       let greater = nat w64 (counts .greater) 499 (omega (arith, few-counted)) tt .same in
-      rw (less, equal, greater) (ap (λ (l : List ℕ). line "rank" (numbers (whole l))) e)
+      rw (less, equal, greater) (ap counts-line e)

@@ -54,13 +54,22 @@ pub record Short (word : List ℕ) (list : List ℤ) : Type 0 where
   pub items : length list ≤ 4
 
 -- sums of 2 to 64 zones whose values vary and whose numerators and divisors are within the limit
-pub record Within (n : ℕ) (sums : Sums) : Type 0 where
-  pub two : 2 ≤ n
-  pub zones : n ≤ 64
+pub record Within (sums : Sums) : Type 0 where
+  pub two : 2 ≤ sums .kept
+  pub zones : sums .kept ≤ 64
   pub varied : pos 1 ≤ℤ sums .spread
   pub moran-divisor : natAbs (sums .weight *ℤ sums .spread) ≤ ratio-limit
-  pub geary-numerator : natAbs (pos ((n - 1) * n) *ℤ sums .squares) ≤ ratio-limit
+  pub geary-numerator : natAbs (pos ((sums .kept - 1) * sums .kept) *ℤ sums .squares) ≤ ratio-limit
   pub geary-divisor : natAbs ((pos 2 *ℤ sums .weight) *ℤ sums .spread) ≤ ratio-limit
+
+-- weights, numerators and figures of n zones, so many of which are kept
+pub record Zoned (n weights many locals figures : ℕ) : Type 0 where
+  pub least : 2 ≤ n
+  pub most : n ≤ 64
+  pub weights-fit : weights ≡ n * n
+  pub few : many ≤ n
+  pub locals-fit : locals ≡ n
+  pub figures-fit : figures ≡ n
 
 -- a local numerator and the bits of a local figure for each zone that is listed
 pub record Listed (zones : List ℕ) (locals : List ℤ) (figures : List ℕ) : Type 0 where
@@ -151,18 +160,18 @@ pub record Held (counts : Counts) (held : Buffers) : Type 0 where
 
 -- ---- lines, from what the calls answer
 
--- the five lines of a job: n S M and W P G, then three ratios
-unfoldable pub sum-lines : ℕ → Sums → List ℕ
-sum-lines n sums =
-    line "zones" (numbers (pos n ∷ sums .total ∷ sums .spread ∷ []))
+-- the five lines of a job: the number of zones kept, S, M and W P G, then three ratios
+unfoldable pub sum-lines : Sums → List ℕ
+sum-lines sums =
+    line "zones" (numbers (pos (sums .kept) ∷ sums .total ∷ sums .spread ∷ []))
     ++ line "joins" (numbers (sums .weight ∷ sums .cross ∷ sums .squares ∷ []))
 
-unfoldable pub ratio-lines : ℕ → Sums → Pair → List ℕ
-ratio-lines n sums pair =
+unfoldable pub ratio-lines : Sums → Pair → List ℕ
+ratio-lines sums pair =
     line "moran" (numbers (sums .cross ∷ (sums .weight *ℤ sums .spread) ∷ []) ++ coefficient (pair .moran))
     ++ (line "geary"
-    (numbers ((pos ((n - 1) * n) *ℤ sums .squares) ∷ ((pos 2 *ℤ sums .weight) *ℤ sums .spread) ∷ []) ++ coefficient (pair .geary))
-    ++ line "expected" (numbers (negsuc 0 ∷ pos (n - 1) ∷ [])))
+    (numbers ((pos ((sums .kept - 1) * sums .kept) *ℤ sums .squares) ∷ ((pos 2 *ℤ sums .weight) *ℤ sums .spread) ∷ []) ++ coefficient (pair .geary))
+    ++ line "expected" (numbers (negsuc 0 ∷ pos (sums .kept - 1) ∷ [])))
 
 -- the line of a zone
 unfoldable pub zone-line : List ℤ → List ℕ → ℤ → ℕ → List ℕ

@@ -9,14 +9,18 @@ use lib.ListN.{length, take}
 use lib.Signed.{ltZ}
 use Rattle.whole.specs.Rules.{first-broken, misfits, unless-refused}
 use Rattle.whole.specs.Table.{table, at, pair-at, each, over}
+use Rattle.kept.specs.Kept.{keeps, kept-count, kept-values, kept-pairs}
 use Rattle.account.specs.Measures.{total-of, deviation-of, spread-of, weight-of, cross-of, squares-of}
+use Rattle.account.specs.Refusals.{job-spread}
 use Rattle.account.specs.Answers.{job-locals}
 use Rattle.account.specs.Classes.{class-row-of}
 use Rattle.account.specs.Rank.{job-rank}
 use Rattle.hot_list.specs.HotList.{hot-list}
 use Rattle.joins.specs.Joins.{category-at, joins-of}
 use Rattle.places.specs.Bands.{band-classes}
+use Rattle.account.specs.declared.ClassRow.{ClassRow}
 use Rattle.coefficients.specs.Coefficients.{class-pair}
+use Rattle.coefficients.specs.declared.Pair.{Pair}
 use Rattle.image.specs.Image.{Job, count, job-of, image-rules, image-refusal}
 use Rattle.pages.specs.Lines.{line, numbers}
 use Rattle.report.specs.Lines.{figure, coefficient}
@@ -32,61 +36,71 @@ abbrev pub whole : List ℕ → List ℤ
 whole [] = []
 whole (k ∷ more) = pos k ∷ whole more
 
--- ---- of values and weights of n zones
-module _ (n : ℕ) (values : List ℤ) (weights : List ℕ) where
-  abbrev x : ℕ → ℤ
-  x = at values
+-- ---- lines of figures
 
-  abbrev w : ℕ → ℕ → ℕ
-  w = pair-at weights n
-
+-- of m zones with the values x and the weights w: their number, S, M; W P G; Moran's I; Geary's c; the expected I, -1 / (m − 1)
+module _ (m : ℕ) (x : ℕ → ℤ) (w : ℕ → ℕ → ℕ) where
   abbrev S : ℤ
-  S = total-of x n
+  S = total-of x m
 
   abbrev M : ℤ
-  M = spread-of x n
+  M = spread-of x m
 
   abbrev W : ℤ
-  W = weight-of w n
+  W = weight-of w m
 
   abbrev P : ℤ
-  P = cross-of w (deviation-of x n) n
+  P = cross-of w (deviation-of x m) m
 
   abbrev G : ℤ
-  G = squares-of w x n
+  G = squares-of w x m
 
-  -- n S M; W P G; Moran's I; Geary's c; the expected I, -1 / (n − 1)
-  unfoldable pub job-lines : List ℕ
-  job-lines =
-      line "zones" (numbers (pos n ∷ S ∷ M ∷ []))
+  unfoldable pub whole-lines : List ℕ
+  whole-lines =
+      line "zones" (numbers (pos m ∷ S ∷ M ∷ []))
       ++ (line "joins" (numbers (W ∷ P ∷ G ∷ []))
       ++ (line "moran" (figure [] P (W *ℤ M))
-      ++ (line "geary" (figure [] (pos ((n - 1) * n) *ℤ G) ((pos 2 *ℤ W) *ℤ M))
-      ++ line "expected" (numbers (negsuc 0 ∷ pos (n - 1) ∷ [])))))
+      ++ (line "geary" (figure [] (pos ((m - 1) * m) *ℤ G) ((pos 2 *ℤ W) *ℤ M))
+      ++ line "expected" (numbers (negsuc 0 ∷ pos (m - 1) ∷ [])))))
 
-  -- zone, L, M and the bits of L / M
-  unfoldable pub local-line : ℕ → List ℕ
-  local-line zone = line "local" (figure (pos zone ∷ []) (at (job-locals n values weights) zone) M)
+-- zone, L, M and the bits of L / M
+unfoldable pub local-line : List ℤ → ℤ → ℕ → List ℕ
+local-line locals spread zone = line "local" (figure (pos zone ∷ []) (at locals zone) spread)
 
-  -- in hot-list order
+-- class, W, P, G, Moran, Geary
+unfoldable pub class-line : ClassRow → Pair → ℕ → List ℕ
+class-line row pair k =
+    line "class"
+    (numbers (pos k ∷ row .weight ∷ row .cross ∷ row .squares ∷ []) ++ (coefficient (pair .moran) ++ coefficient (pair .geary)))
+
+-- less, equal, greater
+unfoldable pub counts-line : List ℕ → List ℕ
+counts-line counts = line "rank" (numbers (whole counts))
+
+-- ---- of values and weights of n zones
+module _ (n : ℕ) (values : List ℤ) (weights : List ℕ) where
+  -- the whole job: what holds of the zones kept
+  unfoldable pub job-lines : List ℕ
+  job-lines =
+      whole-lines (kept-count n weights) (at (kept-values n weights values))
+      (pair-at (kept-pairs n weights weights) (kept-count n weights))
+
+  -- the zones in hot-list order; one that is left out has no line
   unfoldable pub local-lines : List ℕ
-  local-lines = each local-line (hot-list n values weights)
+  local-lines =
+      each
+      (λ zone. cond (keeps n weights zone) (local-line (job-locals n values weights) (job-spread n values weights) zone) [])
+      (hot-list n values weights)
 
-  -- less, equal, greater
   unfoldable pub rank-line : List ℕ → List ℕ
-  rank-line shuffles = line "rank" (numbers (whole (job-rank n values weights shuffles)))
-
-  -- class, W, P, G, Moran, Geary, under some classes of the pairs
-  unfoldable pub class-line : List ℕ → ℕ → List ℕ
-  class-line classes k =
-      let row = class-row-of n values weights classes k in
-      let pair = class-pair n values weights classes k in
-      line "class"
-      (numbers (pos k ∷ row .weight ∷ row .cross ∷ row .squares ∷ []) ++ (coefficient (pair .moran) ++ coefficient (pair .geary)))
+  rank-line shuffles = counts-line (job-rank n values weights shuffles)
 
   -- class 0 up to the band count, under the classes that the bands give
   unfoldable pub class-lines : List ℤ → List ℕ → List ℕ
-  class-lines places bands = each (class-line (band-classes n places bands)) (numbered (suc (length bands)))
+  class-lines places bands =
+      let classes = band-classes n places bands in
+      each (λ k. class-line (class-row-of n values weights classes k) (class-pair n values weights classes k) k)
+      (numbered (suc (length bands)))
 
 -- ---- of categories and weights of n zones
 module _ (n : ℕ) (categories weights : List ℕ) where

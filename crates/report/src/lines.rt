@@ -11,39 +11,41 @@ ghost use Rattle.report.specs.Steps.{Put, Room, Within, Listed};
 ghost use Rattle.coefficients.specs.Steps.{ReadablePair, ReadablePairs};
 ghost use Rattle.report.specs.Steps.{sum-lines, ratio-lines, zone-line, table-line, row-line};
 
-// n S M, then W P G.
-pub(super) fn put_sums(page: &mut [u8], at: usize, n: usize, sums: Sums) -> usize
-    requires { ⌜ n ≤ 64 ⌝ }
+// The number of zones kept, S, M, then W P G.
+pub(super) fn put_sums(page: &mut [u8], at: usize, sums: Sums) -> usize
+    requires { ⌜ sums .kept ≤ 64 ⌝ }
     requires { ⌜ Room (now page) at 192 ⌝ }
-    ensures { λ r. ⌜ Put (now (page .entry)) (now (page .exit)) at r 192 (sum-lines n sums) ⌝ }
+    ensures { λ r. ⌜ Put (now (page .entry)) (now (page .exit)) at r 192 (sum-lines sums) ⌝ }
 {
+    let kept = sums.kept;
     let total = sums.total;
     let spread = sums.spread;
     let weight = sums.weight;
     let cross = sums.cross;
     let squares = sums.squares;
-    let zones = [n as i64, total, spread];
+    let zones = [kept as i64, total, spread];
     let joins = [weight, cross, squares];
     let place = putting::put_line(page, at, b"zones", &zones);
     putting::put_line(page, place, b"joins", &joins)
 }
 
 // Moran's I, Geary's c and the expected I, each as a ratio.
-pub(super) fn put_ratios(page: &mut [u8], at: usize, n: usize, sums: Sums, pair: Pair) -> usize
-    requires { ⌜ Within n sums ⌝ }
+pub(super) fn put_ratios(page: &mut [u8], at: usize, sums: Sums, pair: Pair) -> usize
+    requires { ⌜ Within sums ⌝ }
     requires { ⌜ ReadablePair pair ⌝ }
     requires { ⌜ Room (now page) at 352 ⌝ }
-    ensures { λ r. ⌜ Put (now (page .entry)) (now (page .exit)) at r 352 (ratio-lines n sums pair) ⌝ }
+    ensures { λ r. ⌜ Put (now (page .entry)) (now (page .exit)) at r 352 (ratio-lines sums pair) ⌝ }
 {
+    let kept = sums.kept;
     let moran = pair.moran;
     let geary = pair.geary;
     let cross = sums.cross;
     let of_moran = [cross, sums.weight * sums.spread];
     let of_geary = [
-        ((n - 1) * n) as i64 * sums.squares,
+        ((kept - 1) * kept) as i64 * sums.squares,
         2 * sums.weight * sums.spread,
     ];
-    let expected = [-1, (n - 1) as i64];
+    let expected = [-1, (kept - 1) as i64];
     let place = putting::put_figure_line(page, at, b"moran", &of_moran, moran);
     let end = putting::put_figure_line(page, place, b"geary", &of_geary, geary);
     putting::put_line(page, end, b"expected", &expected)

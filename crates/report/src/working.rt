@@ -10,13 +10,13 @@ ghost use mathlib.Core.Bool.{cond};
 ghost use mathlib.Core.List.{[], _++_};
 ghost use Prim.Native.Nat.{suc, _≤_};
 ghost use lib.Dec.{eqb};
-ghost use lib.ListN.{length};
+ghost use lib.ListN.{length, take};
 ghost use Rattle.whole.specs.Table.{table, each};
 ghost use Rattle.account.specs.Rank.{rank-refusal};
 ghost use Rattle.hot_list.specs.HotList.{in-order};
 ghost use Rattle.coefficients.specs.Steps.{ReadablePair, ReadablePairs};
 ghost use Rattle.report.specs.Text.{numbered, pair-lines, rank-line, where-given, job-text};
-ghost use Rattle.report.specs.Steps.{Put, Room, Within, SoundLists, Joinable, Bandable, Classed};
+ghost use Rattle.report.specs.Steps.{Put, Room, Within, Zoned, SoundLists, Joinable, Bandable, Classed};
 ghost use Rattle.report.specs.Steps.{sum-lines, ratio-lines, zone-line, row-line, lists};
 
 // Every pair of zones in class 0.
@@ -41,38 +41,53 @@ fn class_pairs(n: usize, places: &[i32], bands: &[u32], classes: &mut [u8])
     }
 }
 
-// The zones in hot-list order.
-fn put_hot_list(page: &mut [u8], at: usize, locals: &[i64], figures: &[u64], spread: i64) -> usize
-    requires { ⌜ 2 ≤ length (now locals) ⌝ }
-    requires { ⌜ length (now locals) ≤ 64 ⌝ }
-    requires { ⌜ length (now figures) ≡ length (now locals) ⌝ }
+// The zones kept, so many of them, in hot-list order.
+fn put_hot_list(
+    page: &mut [u8],
+    at: usize,
+    n: usize,
+    weights: &[u8],
+    many: usize,
+    locals: &[i64],
+    figures: &[u64],
+    spread: i64,
+) -> usize
+    requires { ⌜ Zoned n (length (now weights)) many (length (now locals)) (length (now figures)) ⌝ }
     requires { ⌜ Room (now page) at 8192 ⌝ }
     ensures { λ r. ⌜ Put (now (page .entry)) (now (page .exit)) at r 8192
-        (each (zone-line (now (locals .entry)) (now (figures .entry)) spread) (in-order (now (locals .entry)))) ⌝ }
+        (each (zone-line (now (locals .entry)) (now (figures .entry)) spread)
+        (take many (in-order n (now (weights .entry)) (now (locals .entry))))) ⌝ }
 {
     let mut space: [u8; 64] = [0; 64];
-    let zones = &mut space[..locals.len()];
-    hot_list::order(locals, zones);
-    lines::put_zones(page, at, zones, locals, figures, spread)
+    hot_list::order(n, weights, locals, &mut space[..n]);
+    lines::put_zones(page, at, &space[..many], locals, figures, spread)
 }
 
-// The lines that every report has: those of the whole job, then those of its zones.
-fn put_account(page: &mut [u8], n: usize, whole: Whole, locals: &[i64], figures: &[u64]) -> usize
-    requires { ⌜ Within n (whole .sums) ⌝ }
+// The lines that every report has: those of the whole job, then those of its zones kept.
+fn put_account(
+    page: &mut [u8],
+    n: usize,
+    weights: &[u8],
+    whole: Whole,
+    locals: &[i64],
+    figures: &[u64],
+) -> usize
+    requires { ⌜ Within (whole .sums) ⌝ }
     requires { ⌜ ReadablePair (whole .pair) ⌝ }
-    requires { ⌜ length (now locals) ≡ n ⌝ }
-    requires { ⌜ length (now figures) ≡ n ⌝ }
+    requires { ⌜ Zoned n (length (now weights)) (whole .sums .kept) (length (now locals)) (length (now figures)) ⌝ }
     requires { ⌜ Room (now page) 0 8736 ⌝ }
     ensures { λ r. ⌜ Put (now (page .entry)) (now (page .exit)) 0 r 8736
-        ((sum-lines n (whole .sums) ++ ratio-lines n (whole .sums) (whole .pair))
-        ++ each (zone-line (now (locals .entry)) (now (figures .entry)) (whole .sums .spread)) (in-order (now (locals .entry)))) ⌝ }
+        ((sum-lines (whole .sums) ++ ratio-lines (whole .sums) (whole .pair))
+        ++ each (zone-line (now (locals .entry)) (now (figures .entry)) (whole .sums .spread))
+        (take (whole .sums .kept) (in-order n (now (weights .entry)) (now (locals .entry))))) ⌝ }
 {
     let sums = whole.sums;
     let pair = whole.pair;
     let spread = sums.spread;
-    let place = lines::put_sums(page, 0, n, sums);
-    let end = lines::put_ratios(page, place, n, sums, pair);
-    put_hot_list(page, end, locals, figures, spread)
+    let many = sums.kept;
+    let place = lines::put_sums(page, 0, sums);
+    let end = lines::put_ratios(page, place, sums, pair);
+    put_hot_list(page, end, n, weights, many, locals, figures, spread)
 }
 
 // The pair lines, which need categories.
@@ -182,7 +197,7 @@ pub(super) fn put_job(
     match answer {
         coefficients::Answer::Refused(_) => 0,
         coefficients::Answer::Reported(whole) => {
-            let at_pairs = put_account(page, n, whole, locals, figures);
+            let at_pairs = put_account(page, n, weights, whole, locals, figures);
             let at_classes = put_pairs(page, at_pairs, n, categories, weights);
             let at_rank = put_classes(page, at_classes, &rows, of_classes, bands.len());
             put_rank(page, at_rank, n, values, weights, shuffles)

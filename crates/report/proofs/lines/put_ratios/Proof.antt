@@ -21,11 +21,11 @@ module _ (c : tie.After-struct-told2) where
   abbrev start : tie.Start
   start = c .before .before .before .before
 
-  abbrev n : ℕ
-  n = start .args .n
-
   abbrev sums : Sums
   sums = start .args .sums
+
+  abbrev n : ℕ
+  n = sums .kept
 
   reads : Read sums
   reads =
@@ -33,7 +33,7 @@ module _ (c : tie.After-struct-told2) where
       read sums (f .0 .1) (f .1 .0 .1) (f .1 .1 .0 .1) (f .1 .1 .1 .0 .1) (f .1 .1 .1 .1 .0 .1)
 
 mul-t17 : tie.Need-mul-t17
-mul-t17 c = fit w64 (moran-divisor-is (n c) (sums c) (reads c) (start c .pre .0)) tt
+mul-t17 c = fit w64 (moran-divisor-is (sums c) (reads c) (start c .pre .0)) tt
 
 sub-t18 : tie.Need-sub-t18
 sub-t18 c = search needs
@@ -45,13 +45,13 @@ cast-t17 : tie.Need-cast-t17
 cast-t17 c = fits-le w64 (pos _) 4032 (ordered-le (n c) (start c .pre .0 .zones)) tt
 
 mul-t20 : tie.Need-mul-t20
-mul-t20 c = let t = c .before .before in fit w64 (geary-numerator-is (n t) (sums t) (reads t) (start t .pre .0)) tt
+mul-t20 c = let t = c .before .before in fit w64 (geary-numerator-is (sums t) (reads t) (start t .pre .0)) tt
 
 mul-t21 : tie.Need-mul-t21
-mul-t21 c = let t = c .before .before .before .before in fit w64 (twice-is (n t) (sums t) (reads t) (start t .pre .0)) tt
+mul-t21 c = let t = c .before .before .before .before in fit w64 (twice-is (sums t) (reads t) (start t .pre .0)) tt
 
 mul-t22 : tie.Need-mul-t22
-mul-t22 c = let t = told c in fit w64 (geary-divisor-is (n t) (sums t) (reads t) (start t .pre .0)) tt
+mul-t22 c = let t = told c in fit w64 (geary-divisor-is (sums t) (reads t) (start t .pre .0)) tt
 
 sub-t18-2 : tie.Need-sub-t18-2
 sub-t18-2 c = search needs
@@ -109,7 +109,7 @@ returns c =
     let a = b .before .before .before .before .before .before in
     let t = told (a .before .before .before .before) in
     put-as (put-then (a .put-figure-line .ensures) (put-then (b .put-figure-line2 .ensures) (d .put-line .ensures)))
-    (ratio-text (n t) (sums t) (reads t) (start t .pre .0) (start t .args .pair))
+    (ratio-text (sums t) (reads t) (start t .pre .0) (start t .args .pair))
 
 pub put-ratios-spec : {M : Type 1} → statement M
 put-ratios-spec =

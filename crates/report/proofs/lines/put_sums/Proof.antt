@@ -38,7 +38,7 @@ returns c =
     let s = t .before .before .before .before .before .before in
     let sums = s .args .sums in
     let reads = read sums (told .0 .1) (told .1 .0 .1) (told .1 .1 .0 .1) (told .1 .1 .1 .0 .1) (told .1 .1 .1 .1 .0 .1) in
-    put-as (put-then (a .put-line .ensures) (b .put-line2 .ensures)) (sum-text (s .args .n) sums reads (s .pre .0))
+    put-as (put-then (a .put-line .ensures) (b .put-line2 .ensures)) (sum-text sums reads (s .pre .0))
 
 pub put-sums-spec : {M : Type 1} → statement M
 put-sums-spec =

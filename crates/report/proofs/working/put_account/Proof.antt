@@ -1,9 +1,8 @@
 -- `put_account` meets its contract: the sums, the ratios and the zones are put in turn. Assumes nothing.
 use mathlib.Core.Path.{_≡_, ap}
-use mathlib.Core.List.{List}
-use Prim.Native.Nat.{ℕ}
 use native.Mathlib.Omega.{arith}
 use lib.IntN.{ℤ}
+use lib.ListN.{take}
 use mir.Syntax.{w64}
 use mir.ValLaws.{toZ-ofZ}
 use Rattle.whole.specs.Table.{each}
@@ -18,10 +17,7 @@ use Rattle.report.proofs.working.put_account.Tie as tie
 -- what the call was lent
 module _ (c : tie.After-struct-told) where
   abbrev s : tie.Start
-  s = c .before .before .before .before .before
-
-  abbrev n : ℕ
-  n = s .args .n
+  s = c .before .before .before .before .before .before
 
   abbrev spread : ℤ
   spread = s .args .whole .sums .spread
@@ -36,14 +32,14 @@ abbrev ratios-put : tie.After-put-ratios → tie.After-put-sums
 ratios-put c = c .before .before .before .before
 
 put-sums-requires : tie.Need-put-sums-requires
-put-sums-requires c κs = let p = s (c .before) .pre in (p .0 .zones, omega (arith, p .1 .1 .1 .1))
+put-sums-requires c κs = let p = s (c .before) .pre in (p .0 .zones, omega (arith, p .1 .1 .1))
 
 put-ratios-requires : tie.Need-put-ratios-requires
 put-ratios-requires c κs =
     let sums = c .before .before .before in
     let p = s (sums-put sums) .pre in
     let put = sums .put-sums .ensures in
-    (p .0, (p .1 .0, omega (arith, put-length put, put .few, p .1 .1 .1 .1)))
+    (p .0, (p .1 .0, omega (arith, put-length put, put .few, p .1 .1 .1)))
 
 put-hot-list-requires : tie.Need-put-hot-list-requires
 put-hot-list-requires c κs =
@@ -51,16 +47,8 @@ put-hot-list-requires c κs =
     let sums = ratios-put ratios in
     let p = s (sums-put sums) .pre in
     let first = sums .put-sums .ensures in
-    let second = ratios .put-ratios .ensures in (
-      omega (arith, p .0 .two, p .1 .1 .0),
-      (
-        omega (arith, p .0 .zones, p .1 .1 .0),
-        (
-          omega (arith, p .1 .1 .0, p .1 .1 .1 .0),
-          omega (arith, put-length first, first .few, put-length second, second .few, p .1 .1 .1 .1),
-        ),
-      ),
-    )
+    let second = ratios .put-ratios .ensures in
+    (p .1 .1 .0, omega (arith, put-length first, first .few, put-length second, second .few, p .1 .1 .1))
 
 same-length : tie.Need-same-length
 same-length c = search needs
@@ -74,7 +62,9 @@ returns c =
     let a = s b .args in
     let zones =
     put-as (hot .put-hot-list .ensures)
-    (ap (λ m. each (zone-line (a .locals .now) (a .figures .now) m) (in-order (a .locals .now))) (spread-read b)) in
+    (ap (λ m. each (zone-line (a .locals .now) (a .figures .now) m)
+    (take (a .whole .sums .kept) (in-order (a .n) (a .weights .now) (a .locals .now))))
+    (spread-read b)) in
     put-then (put-then (sums .put-sums .ensures) (ratios .put-ratios .ensures)) zones
 
 pub put-account-spec : {M : Type 1} → statement M

@@ -9,15 +9,16 @@ use lib.IntN.{ℤ}
 use lib.ListN.{length}
 use lib.Seq.{length-take-le}
 use Rattle.whole.proofs.Lists.{few}
-use Rattle.account.specs.Answers.{five, job-figures}
-use Rattle.account.proofs.Theorems.{job-locals-length}
+use Rattle.account.specs.Answers.{listed, job-figures}
+use Rattle.account.proofs.Theorems.{job-locals-length, kept-most}
 use Rattle.account.proofs.ClassTheorems.{class-sums-length}
 use Rattle.coefficients.specs.Coefficients.{job-pair}
+use Rattle.coefficients.proofs.Job.{spread-in, kept-in}
 use Rattle.coefficients.proofs.Readable.{job-readable, classes-readable}
 use Rattle.report.specs.Steps.{Sound, Classed}
 use Rattle.report.proofs.Puts.{put-as, put-length, put-then}
 use Rattle.report.proofs.Listed.{class-lines-are as class-rows-are}
-use Rattle.report.proofs.JobText.{figures-length, zones-are, spread-is, sums-within, job-lines-are}
+use Rattle.report.proofs.JobText.{figures-length, zones-are, sums-within, job-lines-are}
 use Rattle.report.proofs.JobText.{Reports, reports, never-refused, pair-is, sums-are, class-lines-are, job-text-is}
 use borrow.Author.Needs.{needs}
 use Rattle.report.proofs.working.put_job.Statement.{statement}
@@ -138,7 +139,7 @@ from-classes c = c .before .before .before .before .before
 
 -- the sums and the pair that were answered are the job's
 module _ (w : tie.After-answer) where
-  sums-known : five (w .answer .given .0 .0 .sums) ≡ job-figures (n (from-answer w)) (values (from-answer w)) (weights (from-answer w))
+  sums-known : listed (w .answer .given .0 .0 .sums) ≡ job-figures (n (from-answer w)) (values (from-answer w)) (weights (from-answer w))
   sums-known = sums-are (said (from-answer w) .sums) (w .answer .given .1)
 
   pair-known : w .answer .given .0 .0 .pair ≡ job-pair (n (from-answer w)) (values (from-answer w)) (weights (from-answer w))
@@ -153,8 +154,15 @@ put-account-requires c κs =
       (
         job-readable (n b) (values b) (weights b) _ (pair-known w),
         (
-          ap length (said b .in-locals) ∙ zones,
-          (ap length (said b .of-zones) ∙ figures-length (n b) (values b) (weights b) ∙ zones, omega (arith, start b .pre .1)),
+          record {
+            least = sound b .two;
+            most = sound b .zones;
+            weights-fit = sound b .weights-fit;
+            few = omega (arith, kept-in (n b) (values b) (weights b) _ (sums-known w), kept-most (n b) (values b) (weights b));
+            locals-fit = ap length (said b .in-locals) ∙ zones;
+            figures-fit = ap length (said b .of-zones) ∙ figures-length (n b) (values b) (weights b) ∙ zones;
+          },
+          omega (arith, start b .pre .1),
         ),
       ),
     )
@@ -219,7 +227,8 @@ returns-2 c =
     let sums = w .answer .given .0 .0 .sums in
     let zones =
     zones-are (n b) (values b) (weights b) (said b .in-locals) (said b .of-zones)
-    (spread-is (n b) (values b) (weights b) (sound b) sums (sums-known w)) in
+    (spread-in (n b) (values b) (weights b) sums (sums-known w))
+    (kept-in (n b) (values b) (weights b) sums (sums-known w)) in
     let lines = job-lines-are (n b) (values b) (weights b) (sound b) sums (sums-known w) _ (pair-known w) in
     let first = put-as (account .put-account .ensures) (both-same lines zones) in
     let rows =
