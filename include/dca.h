@@ -2,8 +2,8 @@
  * The district clustering account, for C and C++.
  *
  * What this is: the calls of the proved library, as the archive libexports.a has them (`rt staticlib exports`). Each call is proved, in
- * crates/exports/src, to answer and to store what the definitions of document 01 say. This header and what follows from a
- * promise broken by the caller are not part of the proof.
+ * crates/exports/src, to answer and to store what the definitions of document 01 say, as request A.6 of document 02 changed them. This
+ * header and what follows from a promise broken by the caller are not part of the proof.
  *
  * Lists: each list is a pointer and then a length, which is the number of entries, not of bytes. An `out` list is written by the call,
  * every other list is only read.
@@ -12,6 +12,11 @@
  * (enum dca_refusal), and all lent memory holds what it held before. No value that is lent, and no length, makes a call
  * fail in any other way: there is no precondition besides the duties below. A call gives the least number that applies to what it
  * was lent, and once 1 or 2 applies nothing further is judged; dca_read, dca_write and dca_report judge by place, as said there.
+ *
+ * Zones left out: a zone whose row and column hold no weight touches nobody and is left out. S, d, M, P and G are taken over the zones
+ * kept, and the n of d, of Geary's c and of the expected value is their number. A zone that only gets weight, or only gives it, is kept.
+ * Lengths, the counts of an image and every refusal but 7 count all zones: a bad value is refused with 3 also at a zone left out. The join
+ * table, the networks and the bands leave out nothing.
  *
  * Floats that a call leaves as they were, all of a refused call and the pair of a class without weight, are kept to the bit: a NaN, quiet
  * or signalling, keeps its sign and its payload.
@@ -50,7 +55,7 @@ extern "C" {
 #define DCA_RATIO_MOST INT64_C(6000000000000000000) /* p and q of dca_nearest are from -this to this, q above 0 */
 
 /* The lengths of lists whose length is fixed. */
-#define DCA_SUMS 5                          /* S M W P G */
+#define DCA_SUMS 6                          /* S M W P G, zones kept */
 #define DCA_CLASSES 9
 #define DCA_CLASS_ROWS 27                   /* W P G of each class */
 #define DCA_GLOBALS 2                       /* Moran, Geary */
@@ -70,7 +75,7 @@ extern "C" {
 #define DCA_IMAGE_MOST 44908                /* bytes of the longest image */
 #define DCA_REPORT_TEXT 16384               /* bytes lent for a report */
 
-/* The causes of refusal, in document 01's words. */
+/* The causes of refusal, in document 01's words; 7 as request A.6 has it. */
 enum dca_refusal {
     DCA_REFUSED_NOTHING = 0,      /* done */
     DCA_REFUSED_ZONES = 1,        /* n, or r x c, outside 2 to 64 */
@@ -79,7 +84,7 @@ enum dca_refusal {
     DCA_REFUSED_WEIGHT = 4,       /* a weight above 9, or 0 in an image join */
     DCA_REFUSED_DIAGONAL = 5,     /* a weight on the diagonal */
     DCA_REFUSED_NO_WEIGHT = 6,    /* W is 0 */
-    DCA_REFUSED_NO_SPREAD = 7,    /* M is 0 */
+    DCA_REFUSED_NO_SPREAD = 7,    /* M of the zones kept is 0 */
     DCA_REFUSED_CATEGORY = 8,     /* a category above 7 */
     DCA_REFUSED_CLASS = 9,        /* a class above 8 */
     DCA_REFUSED_COORDINATE = 10,  /* a coordinate beyond 30,000 in size */
@@ -100,8 +105,8 @@ enum dca_refusal {
  *   n             zones, 2 to 64
  *   values        n: the value of each zone, -100,000 to 100,000
  *   weights       n * n: w(i,j) at n * i + j, 0 to 9, 0 on the diagonal
- *   locals  out   n: the local numerator L(i) of each zone
- *   sums    out   5: S M W P G
+ *   locals  out   n: the local numerator L(i) of each zone, 0 at a zone left out
+ *   sums    out   6: S M W P G, then the number of zones kept
  * Refusals: 1 2 3 4 5 6 7.
  */
 uint8_t dca_account(size_t n,
@@ -115,7 +120,7 @@ uint8_t dca_account(size_t n,
  *   n, values, weights   as dca_account
  *   classes              n * n: the class of the pair (i,j) at n * i + j, 0 to 8
  *   rows          out    27: W P G of class 0, of class 1, and so on to class 8
- *   class_locals  out    9 * n: L of class k and zone i at n * k + i
+ *   class_locals  out    9 * n: L of class k and zone i at n * k + i, 0 at a zone left out
  * Refusals: 1 2 3 4 5 6 7 9.
  */
 uint8_t dca_class_account(size_t n,
@@ -129,7 +134,7 @@ uint8_t dca_class_account(size_t n,
  * The float report of a job under one assignment of classes. Each float is the one nearest to the exact ratio.
  *   n, values, weights, classes   as dca_class_account
  *   globals   out   2: Moran's I and Geary's c of the job
- *   locals    out   n: the local Moran L(i) / M of each zone
+ *   locals    out   n: the local Moran L(i) / M of each zone, +0 at a zone left out
  *   pairs     out   18: Moran's I and Geary's c of class k at 2 * k and 2 * k + 1; a class without weight leaves its two as they were,
  *                   to the bit
  *   has_pair  out   9: 1 where class k has weight, else 0
@@ -156,7 +161,8 @@ uint8_t dca_nearest(int64_t p, int64_t q, double *out, size_t out_len);
 /*
  * The hot list of a job.
  *   n, values, weights   as dca_account
- *   zones  out           n: the zone numbers by falling L(i), equal ones by rising zone number
+ *   zones  out           n: the numbers of the zones kept by falling L(i), equal ones by rising zone number; behind them all those left
+ *                        out by rising zone number
  * Refusals: 1 2 3 4 5 6 7.
  */
 uint8_t dca_hot_list(size_t n,
@@ -165,9 +171,10 @@ uint8_t dca_hot_list(size_t n,
                      uint8_t *zones, size_t zones_len);
 
 /*
- * The rank of a job's P among shuffles of its values.
+ * The rank of a job's P among shuffles of the values of the zones kept.
  *   n, values, weights   as dca_account
- *   shuffles             0 to 499 whole rows of n: at place i of a row the zone whose value zone i takes; each row has each zone once
+ *   shuffles             0 to 499 whole rows of n, each with each zone once, also those left out. The numbers of zones left out are struck
+ *                        from a row; the i-th zone kept takes the value of the zone that the i-th number left names
  *   counts  out          3: the shuffles whose P is less than, equal to, greater than the job's own
  * Refusals: 1 2 (also where shuffles is not 0 to 499 whole rows) 3 4 5 6 7 13.
  */
@@ -229,7 +236,8 @@ uint8_t dca_grid_queen(size_t rows, size_t columns, uint8_t *weights, size_t wei
  *   values      out   64       categories  out   64       weights   out   4,096
  *   places      out   128      bands       out   8        shuffles  out   31,936
  *   counts      out   6: values (n), categories, joins, places (zones, not coordinates), bands, shuffles (rows)
- * Refusals: 2 first, then by place in the image: 1 3 4 5 6 7 8 10 11 12 13 14 15 16 17.
+ * Refusals: 2 first, then by place in the image: 1 3 4 5 6 7 8 10 11 12 13 14 15 16 17. What it stores and counts are all zones; only 7
+ * looks at the zones kept alone.
  */
 uint8_t dca_read(const uint8_t *image, size_t image_len,
                  int32_t *values, size_t values_len,
@@ -246,7 +254,8 @@ uint8_t dca_read(const uint8_t *image, size_t image_len,
  *   counts       5: values (n), categories (0 or n), places (0 or n), bands (0 to 8, 0 without places), shuffles (0 to 499)
  *   out     out  any length from the image's up, 44,908 is always enough; only the image's length of it is filled
  *   length  out  1: the image's length in bytes
- * Refusals: 2 where counts has not 5 entries, then 1, then 2, then by place in the image: 3 4 5 8 10 11 12 13 15, then 6 7 19.
+ * Refusals: 2 where counts has not 5 entries, then 1, then 2, then by place in the image: 3 4 5 8 10 11 12 13 15, then 6 7 19. The image
+ * has all zones; only 7 looks at the zones kept alone.
  */
 uint8_t dca_write(const int32_t *values, size_t values_len,
                   const uint8_t *categories, size_t categories_len,
@@ -259,7 +268,8 @@ uint8_t dca_write(const int32_t *values, size_t values_len,
                   uint64_t *length, size_t length_len);
 
 /*
- * The report of an image as text. The text is ASCII, each line ends with a newline, and no 0 byte closes it.
+ * The report of an image as text. The text is ASCII, each line ends with a newline, and no 0 byte closes it. Its lines `zones` and
+ * `expected` count the zones kept, and a zone left out has no line `local`.
  *   image         any length
  *   text    out   16,384: the text is at the front, the rest is kept
  *   length  out   1: the bytes of the text

@@ -7,7 +7,7 @@
  * A thousand inputs of each call, most of them damaged. Each list lies in a heap block of exactly the lent length, made for that one
  * call, so that valgrind sees a read or a write one past. Looked at after each call: the number is one that the call may give, 1 and 2 are
  * given exactly where they apply, a report is refused as the reader refuses its image, lists that are only read are as they were, and so is
- * every lent byte where the call is refused. Ends with 1 at the first fault.
+ * every lent byte where the call is refused; an account counts the zones kept and has 0 at the others. Ends with 1 at the first fault.
  */
 #include <inttypes.h>
 #include <stdint.h>
@@ -208,6 +208,17 @@ static void shuffle_row(uint8_t *row)
     }
 }
 
+/* Takes all weight from zones behind the first two, so that they touch nobody. */
+static void leave_out(void)
+{
+    size_t n = job.n;
+    for (size_t zone = 2; zone < n; zone++)
+        if (one_in(4))
+            for (size_t other = 0; other < n; other++)
+                job.weights[n * zone + other] = job.weights[n * other + zone] = 0;
+}
+
+/* In half of the jobs some zones are left out. The first two are kept and have different values. */
 static void draw_job(void)
 {
     size_t n = job.n = one_in(6) ? 64 : 2 + below(one_in(3) ? 63 : 10);
@@ -223,12 +234,31 @@ static void draw_job(void)
         job.classes[k] = (uint8_t)below(9);
     }
     job.weights[1] = 9;
+    if (one_in(2))
+        leave_out();
     job.bands_len = 1 + below(8);
     for (size_t b = 0; b < job.bands_len; b++)
         job.bands[b] = (uint32_t)(b * 500000000 + 1 + below(500000000));
     job.rows = one_in(8) ? 499 : below(6);
     for (size_t r = 0; r < job.rows; r++)
         shuffle_row(job.shuffles + r * n);
+}
+
+static int touches_somebody(size_t zone)
+{
+    size_t n = job.n;
+    for (size_t other = 0; other < n; other++)
+        if (job.weights[n * zone + other] > 0 || job.weights[n * other + zone] > 0)
+            return 1;
+    return 0;
+}
+
+/* Gives every zone the value of the first, or only those that are kept. */
+static void make_equal(int all)
+{
+    for (size_t zone = 1; zone < job.n; zone++)
+        if (all || touches_somebody(zone))
+            job.values[zone] = job.values[0];
 }
 
 /* Breaks one rule of the job's contents. */
@@ -241,7 +271,7 @@ static void spoil(void)
     case 1: job.weights[below(n * n)] = (uint8_t)(10 + below(246)); break;
     case 2: job.weights[below(n) * (n + 1)] = (uint8_t)(1 + below(one_in(4) ? 255 : 9)); break;
     case 3: memset(job.weights, 0, n * n); break;
-    case 4: for (size_t i = 1; i < n; i++) job.values[i] = job.values[0]; break;
+    case 4: make_equal(one_in(2)); break;
     case 5: job.categories[below(n)] = (uint8_t)(8 + below(248)); break;
     case 6: job.classes[below(n * n)] = (uint8_t)(9 + below(247)); break;
     case 7: job.places[below(2 * n)] = one_in(2) ? 30001 : wild[below(4)]; break;
@@ -275,13 +305,29 @@ static size_t start(void)
 
 /* ---- The calls ---- */
 
+/* The zones kept are counted, and those left out have no local numerator. */
+static void look_at_kept(const int64_t *locals, const int64_t *sums)
+{
+    int64_t kept = 0;
+    for (size_t zone = 0; zone < job.n; zone++) {
+        if (touches_somebody(zone))
+            kept++;
+        else if (locals[zone] != 0)
+            fault(ACCOUNT, "a zone left out has a local numerator");
+    }
+    if (sums[5] != kept)
+        fault(ACCOUNT, "not the number of zones kept");
+}
+
 static void try_account(void)
 {
     size_t n = start();
     struct list *values = IN(job.n, job.values), *weights = IN(job.n * job.n, job.weights);
-    struct list *locals = OUT(job.n, int64_t), *sums = OUT(5, int64_t);
-    look(ACCOUNT, dca_account(n, GIVE(values, int32_t), GIVE(weights, uint8_t), GIVE(locals, int64_t), GIVE(sums, int64_t)),
-         first_number(n));
+    struct list *locals = OUT(job.n, int64_t), *sums = OUT(DCA_SUMS, int64_t);
+    uint8_t number = dca_account(n, GIVE(values, int32_t), GIVE(weights, uint8_t), GIVE(locals, int64_t), GIVE(sums, int64_t));
+    look(ACCOUNT, number, first_number(n));
+    if (number == 0)
+        look_at_kept((const int64_t *)(const void *)locals->at, (const int64_t *)(const void *)sums->at);
     take_back();
 }
 

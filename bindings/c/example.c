@@ -1,5 +1,5 @@
 /*
- * An example for an office: the worked job of document 01, through every kind of call.
+ * An example for an office: the worked job of document 01, through every kind of call. Its last zone touches nobody and is left out.
  *
  *   gcc -O2 -std=c99 -I include bindings/c/example.c target/staticlib/libexports.a -o example && ./example
  *
@@ -66,8 +66,8 @@ static void show_account(void)
 {
     int64_t locals[N], sums[DCA_SUMS];
     done("dca_account", dca_account(N, LIST(values), LIST(weights), LIST(locals), LIST(sums)));
-    printf("account: S %" PRId64 ", M %" PRId64 ", W %" PRId64 ", P %" PRId64 ", G %" PRId64 "\n",
-           sums[0], sums[1], sums[2], sums[3], sums[4]);
+    printf("account: S %" PRId64 ", M %" PRId64 ", W %" PRId64 ", P %" PRId64 ", G %" PRId64 ", zones kept %" PRId64 " of %d\n",
+           sums[0], sums[1], sums[2], sums[3], sums[4], sums[5], N);
     for (int zone = 0; zone < N; zone++)
         printf("  zone %d: L %" PRId64 "\n", zone, locals[zone]);
 }
@@ -201,9 +201,9 @@ static void show_refused_report(const uint8_t *image, size_t image_len)
 static void show_refused_job(void)
 {
     const int32_t equal[N] = {5, 5, 5, 5};
-    int64_t locals[N] = {-1, -1, -1, -1}, sums[DCA_SUMS] = {-1, -1, -1, -1, -1};
+    int64_t locals[N] = {-1, -1, -1, -1}, sums[DCA_SUMS] = {-1, -1, -1, -1, -1, -1};
     uint8_t refusal = dca_account(N, LIST(equal), LIST(weights), LIST(locals), LIST(sums));
-    printf("a job of equal values: refused %d%s\n", refusal, refusal == DCA_REFUSED_NO_SPREAD ? " (M is 0)" : "");
+    printf("a job of equal values: refused %d%s\n", refusal, refusal == DCA_REFUSED_NO_SPREAD ? " (M of the zones kept is 0)" : "");
     int kept = 1;
     for (size_t i = 0; i < LEN(locals); i++)
         kept = kept && locals[i] == -1;

@@ -3,8 +3,9 @@
  *
  *   gcc -O2 -std=c99 -pthread -I include bindings/c/stack.c target/staticlib/libexports.a -o stack && ./stack samples/island.image
  *
- * The image should use everything: 64 zones, categories, places, bands, shuffles. Ends with 1 where a call takes 256 KiB or more.
- * The frames are fixed and no call calls itself, so that what one such run takes is about what any run takes.
+ * The image should use everything: 64 zones, categories, places, bands, shuffles. Each call is made on its job, and again when the last
+ * zone touches nobody and is left out. Ends with 1 where a call takes 256 KiB or more.
+ * The frames are fixed and no call calls itself, so that what two such runs take is about what any run takes.
  */
 #define _POSIX_C_SOURCE 200809L
 #include <pthread.h>
@@ -22,7 +23,7 @@ static size_t image_len;
 static int32_t values[64], places[128];
 static uint8_t categories[64], weights[4096], classes[4096], network[4096], shuffles[31936], zones[64], has_pair[9];
 static uint32_t bands[8];
-static int64_t locals[64], sums[5], rows[27], class_locals[576], table[64];
+static int64_t locals[64], sums[DCA_SUMS], rows[27], class_locals[576], table[64];
 static double globals[2], figures[64], pairs[18], nearest[1];
 static uint64_t six[6], five[5], counts[3], length[1];
 static size_t n;
@@ -38,7 +39,7 @@ static int call_write(void)
                      out, sizeof out, length, 1);
 }
 static int call_report(void) { return dca_report(image, image_len, text, sizeof text, length, 1); }
-static int call_account(void) { return dca_account(n, values, n, weights, n * n, locals, n, sums, 5); }
+static int call_account(void) { return dca_account(n, values, n, weights, n * n, locals, n, sums, DCA_SUMS); }
 static int call_bands(void) { return dca_bands(n, places, 2 * n, bands, (size_t)six[4], classes, n * n); }
 static int call_class_account(void)
 {
@@ -85,31 +86,26 @@ static size_t taken(int (*call)(void))
     return STACK - clean;
 }
 
-int main(int words, char **word)
+static const struct {
+    const char *name;
+    int (*call)(void);
+} calls[] = {
+    {"dca_read", call_read}, {"dca_write", call_write}, {"dca_report", call_report}, {"dca_account", call_account},
+    {"dca_bands", call_bands}, {"dca_class_account", call_class_account}, {"dca_float_report", call_float_report},
+    {"dca_nearest", call_nearest}, {"dca_hot_list", call_hot_list}, {"dca_rank", call_rank}, {"dca_join_table", call_join_table},
+    {"dca_gabriel", call_gabriel}, {"dca_grid_queen", call_grid},
+};
+
+/* Makes each call, the reader first, and prints what it takes; ends the program where that is too much or the call is refused. */
+static void measure(void)
 {
-    static const struct {
-        const char *name;
-        int (*call)(void);
-    } calls[] = {
-        {"dca_read", call_read}, {"dca_write", call_write}, {"dca_report", call_report}, {"dca_account", call_account},
-        {"dca_bands", call_bands}, {"dca_class_account", call_class_account}, {"dca_float_report", call_float_report},
-        {"dca_nearest", call_nearest}, {"dca_hot_list", call_hot_list}, {"dca_rank", call_rank}, {"dca_join_table", call_join_table},
-        {"dca_gabriel", call_gabriel}, {"dca_grid_queen", call_grid},
-    };
-    FILE *file = words > 1 ? fopen(word[1], "rb") : NULL;
-    if (file == NULL) {
-        fprintf(stderr, "usage: stack IMAGE\n");
-        return 2;
-    }
-    image_len = fread(image, 1, sizeof image, file);
-    fclose(file);
     size_t thread = taken(nothing);
     for (size_t i = 0; i < sizeof calls / sizeof calls[0]; i++) {
         size_t bytes = taken(calls[i].call);
         printf("%-18s %6zu bytes\n", calls[i].name, bytes > thread ? bytes - thread : 0);
         if (answer != 0 || bytes >= BOUND) {
             printf("refused %d, or more than the bound\n", answer);
-            return 1;
+            exit(1);
         }
         if (i == 0) {
             n = (size_t)six[0];
@@ -117,5 +113,32 @@ int main(int words, char **word)
             memcpy(five, given, sizeof five);
         }
     }
+}
+
+/* Takes all weight from the last zone, and makes the image anew. */
+static void leave_out_last(void)
+{
+    for (size_t zone = 0; zone < n; zone++)
+        weights[n * (n - 1) + zone] = weights[n * zone + n - 1] = 0;
+    if (call_write() != 0)
+        exit(2);
+    image_len = (size_t)length[0];
+    memcpy(image, out, image_len);
+}
+
+int main(int words, char **word)
+{
+    FILE *file = words > 1 ? fopen(word[1], "rb") : NULL;
+    if (file == NULL) {
+        fprintf(stderr, "usage: stack IMAGE\n");
+        return 2;
+    }
+    image_len = fread(image, 1, sizeof image, file);
+    fclose(file);
+    printf("the image's job\n");
+    measure();
+    leave_out_last();
+    printf("its last zone left out\n");
+    measure();
     return 0;
 }

@@ -1,4 +1,5 @@
-//! The worked job of document 01, through every kind of call: prints what bindings/c/example.c prints.
+//! The worked job of document 01, through every kind of call: prints what bindings/c/example.c prints. Its last zone touches nobody
+//! and is left out.
 
 use dca::{Buffers, Given, Refusal};
 
@@ -26,8 +27,8 @@ fn show_account() -> Result<(), Refusal> {
     let mut locals = [0; N];
     let sums = dca::account(N, &VALUES, &WEIGHTS, &mut locals)?;
     println!(
-        "account: S {}, M {}, W {}, P {}, G {}",
-        sums.total, sums.spread, sums.weight, sums.cross, sums.squares
+        "account: S {}, M {}, W {}, P {}, G {}, zones kept {} of {N}",
+        sums.total, sums.spread, sums.weight, sums.cross, sums.squares, sums.kept
     );
     for (zone, local) in locals.iter().enumerate() {
         println!("  zone {zone}: L {local}");

@@ -2,7 +2,10 @@
 
 use crate::{raw, Refusal, CLASSES, CLASS_ROWS, JOIN_TABLE};
 
-/// The five sums of a job.
+/// S, M, W, P, G and the number of zones kept.
+const SUMS: usize = 6;
+
+/// The sums of a job, taken over the zones that are kept.
 #[derive(Debug, Clone, Copy, PartialEq, Eq)]
 pub struct Sums {
     /// S, the sum of the values.
@@ -15,6 +18,8 @@ pub struct Sums {
     pub cross: i64,
     /// G, the sum of w(i,j) × (x(i) - x(j)) squared.
     pub squares: i64,
+    /// How many zones are kept.
+    pub kept: usize,
 }
 
 /// Moran's I and Geary's c of a job or of a class, each the float nearest to the exact ratio.
@@ -41,7 +46,7 @@ pub struct Counts {
     pub greater: u64,
 }
 
-/// The account of a job: its five sums, and the local numerators L(i) in `locals`.
+/// The account of a job: its sums, and the local numerators L(i) in `locals`, 0 at a zone left out.
 ///
 /// `n` is 2 to 64; `values` has n entries, -100,000 to 100,000; `weights` has n × n entries, w(i,j) at n × i + j, 0 to 9 and 0 on the
 /// diagonal; `locals` has n entries.
@@ -50,7 +55,7 @@ pub struct Counts {
 ///
 /// 1 2 3 4 5 6 7: the least that applies; `locals` is then as it was.
 pub fn account(n: usize, values: &[i32], weights: &[u8], locals: &mut [i64]) -> Result<Sums, Refusal> {
-    let mut sums = [0; 5];
+    let mut sums = [0; SUMS];
     // Each list is passed with its own length, and what is written is borrowed alone.
     Refusal::of(unsafe {
         raw::dca_account(
@@ -65,20 +70,21 @@ pub fn account(n: usize, values: &[i32], weights: &[u8], locals: &mut [i64]) -> 
             sums.len(),
         )
     })?;
-    let [total, spread, weight, cross, squares] = sums;
+    let [total, spread, weight, cross, squares, kept] = sums;
     Ok(Sums {
         total,
         spread,
         weight,
         cross,
         squares,
+        kept: kept as usize, // at most 64
     })
 }
 
 /// The account of each class of pairs; d and M stay those of the whole job.
 ///
 /// `n`, `values` and `weights` as [`account`]; `classes` has n × n entries, 0 to 8. Into `rows` go W, P and G of class 0, of class 1 and so
-/// on; into `class_locals`, of 9 × n entries, L of class k and zone i at n × k + i.
+/// on; into `class_locals`, of 9 × n entries, L of class k and zone i at n × k + i, 0 at a zone left out.
 ///
 /// # Errors
 ///
@@ -109,8 +115,8 @@ pub fn class_account(
     })
 }
 
-/// The coefficients of a job and of its classes; the local Moran L(i) / M of each zone goes into `locals`. Each float is the nearest to the
-/// exact ratio.
+/// The coefficients of a job and of its classes; the local Moran L(i) / M of each zone goes into `locals`, +0 at a zone left out. Each
+/// float is the nearest to the exact ratio.
 ///
 /// `n`, `values`, `weights` and `classes` as [`class_account`]; `locals` has n entries.
 ///
@@ -162,7 +168,8 @@ pub fn nearest(p: i64, q: i64) -> Result<f64, Refusal> {
     Ok(out[0])
 }
 
-/// The zone numbers by falling L(i), equal ones by rising zone number, into `zones`, which has n entries.
+/// The zones kept by falling L(i), equal ones by rising zone number, then those left out by rising zone number, into `zones`, which has n
+/// entries.
 ///
 /// `n`, `values` and `weights` as [`account`].
 ///
@@ -184,10 +191,10 @@ pub fn hot_list(n: usize, values: &[i32], weights: &[u8], zones: &mut [u8]) -> R
     })
 }
 
-/// The rank of the job's P among shuffles of its values.
+/// The rank of the job's P among shuffles of the values of the zones kept.
 ///
-/// `n`, `values` and `weights` as [`account`]; `shuffles` has 0 to 499 whole rows of n: at place i of a row the zone whose value zone i
-/// takes, each zone once in a row.
+/// `n`, `values` and `weights` as [`account`]; `shuffles` has 0 to 499 whole rows of n, each with each zone once, also those left out. The
+/// numbers of zones left out are struck from a row; the i-th zone kept takes the value of the zone that the i-th number left names.
 ///
 /// # Errors
 ///

@@ -5,6 +5,10 @@
 //! was, floats to the bit. No value and no length makes a call fail in any other way. The library allocates nothing and has no global
 //! state, and a call takes less than 256 KiB of stack.
 //!
+//! A zone whose row and column hold no weight touches nobody and is left out: sums, mean and spread are those of the zones kept, with
+//! their number in the place of n. A zone that only gets weight, or only gives it, is kept. Lengths, the counts of an image and every
+//! refusal but 7 count all zones. The join table, the networks and the bands leave out nothing.
+//!
 //! ```
 //! use dca::{account, nearest, Refusal};
 //!
@@ -12,7 +16,7 @@
 //! let weights = [0, 1, 0, 1, 0, 1, 0, 1, 0]; // a line of three zones
 //! let mut locals = [0; 3];
 //! let sums = account(3, &values, &weights, &mut locals)?;
-//! assert_eq!((sums.spread, sums.weight, sums.cross, sums.squares), (42, 4, -18, 34));
+//! assert_eq!((sums.spread, sums.weight, sums.cross, sums.squares, sums.kept), (42, 4, -18, 34, 3));
 //! assert_eq!(locals, [18, -9, -27]);
 //!
 //! let moran = nearest(sums.cross, sums.weight * sums.spread)?;

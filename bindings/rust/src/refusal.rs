@@ -7,7 +7,7 @@ use std::fmt;
 #[derive(Debug, Clone, Copy, PartialEq, Eq, Hash)]
 pub struct Refusal(u8);
 
-/// The causes in document 01's words, from number 1 on.
+/// The causes in document 01's words, 7 as request A.6 has it, from number 1 on.
 const CAUSES: [&str; 19] = [
     "n, or r × c, outside 2 to 64",
     "a lent slice not of its exact length",
@@ -15,7 +15,7 @@ const CAUSES: [&str; 19] = [
     "a weight above 9, or 0 in an image join",
     "a weight on the diagonal",
     "W is 0",
-    "M is 0",
+    "M of the zones kept is 0",
     "a category above 7",
     "a class above 8",
     "a coordinate beyond 30,000 in size",
@@ -43,7 +43,7 @@ impl Refusal {
     pub const DIAGONAL: Refusal = Refusal(5);
     /// W is 0.
     pub const NO_WEIGHT: Refusal = Refusal(6);
-    /// M is 0.
+    /// M of the zones kept is 0.
     pub const NO_SPREAD: Refusal = Refusal(7);
     /// A category above 7.
     pub const CATEGORY: Refusal = Refusal(8);
@@ -75,7 +75,7 @@ impl Refusal {
         self.0
     }
 
-    /// The cause in document 01's words.
+    /// The cause in document 01's words, 7 as request A.6 has it.
     pub fn text(self) -> &'static str {
         let place = usize::from(self.0).wrapping_sub(1);
         CAUSES.get(place).copied().unwrap_or("no such cause")
@@ -106,7 +106,7 @@ mod tests {
     fn every_number_has_its_cause() {
         assert_eq!(Refusal::of(0), Ok(()));
         assert_eq!(Refusal::of(19), Err(Refusal::OUTPUT));
-        assert_eq!(Refusal::NO_SPREAD.text(), "M is 0");
+        assert_eq!(Refusal::NO_SPREAD.text(), "M of the zones kept is 0");
         assert_eq!(Refusal::OUTPUT.text(), CAUSES[18]);
         assert_eq!(Refusal::NO_WEIGHT.to_string(), "refused 6: W is 0");
     }

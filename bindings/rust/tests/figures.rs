@@ -1,10 +1,10 @@
-//! Document 01's figures at the edges, its refusals, and that a refused call leaves what it was lent as it was.
+//! Document 01's figures at the edges, as request A.6 changed them, its refusals, and that a refused call leaves what it was lent as it was.
 
 use dca::{Buffers, Counts, Given, Move, Refusal, Sections};
 
 /// A line of three zones, weight 1.
 const LINE: [u8; 9] = [0, 1, 0, 1, 0, 1, 0, 1, 0];
-/// The job of "A whole report".
+/// The job of "A whole report". Its last zone touches nobody.
 const VALUES: [i32; 4] = [1, 1, 3, 3];
 const WEIGHTS: [u8; 16] = [0, 3, 0, 0, 3, 0, 1, 0, 0, 1, 0, 0, 0, 0, 0, 0];
 const PLACES: [i32; 8] = [0, 0, 1, 0, 3, 0, 9, 9];
@@ -75,8 +75,8 @@ fn figure_a_the_line() {
     let mut locals = [0; 3];
     let sums = dca::account(3, &[1, 2, 6], &LINE, &mut locals).unwrap();
     assert_eq!(
-        (sums.total, sums.spread, sums.weight, sums.cross, sums.squares),
-        (9, 42, 4, -18, 34)
+        (sums.total, sums.spread, sums.weight, sums.cross, sums.squares, sums.kept),
+        (9, 42, 4, -18, 34, 3)
     );
     assert_eq!(locals, [18, -9, -27]);
 }
@@ -92,25 +92,25 @@ fn figure_b_two_zones() {
 fn figures_c_to_f_the_worked_report() {
     let mut locals = [0; 4];
     let sums = dca::account(4, &VALUES, &WEIGHTS, &mut locals).unwrap();
-    assert_eq!((sums.cross, sums.weight, sums.spread, sums.squares), (64, 8, 16, 8));
-    assert_eq!(locals, [48, 32, -16, 0]);
+    assert_eq!((sums.cross, sums.weight, sums.spread, sums.squares, sums.kept), (8, 8, 8, 8, 3));
+    assert_eq!(locals, [12, 4, -8, 0]);
     let mut classes = [9; 16];
     dca::bands(4, &PLACES, &[1, 4], &mut classes).unwrap();
     let (mut rows, mut class_locals) = ([-1; dca::CLASS_ROWS], [-1; 36]);
     dca::class_account(4, &VALUES, &WEIGHTS, &classes, &mut rows, &mut class_locals).unwrap();
-    assert_eq!(rows[..9], [0, 0, 0, 6, 96, 0, 2, -32, 8]);
+    assert_eq!(rows[..9], [0, 0, 0, 6, 24, 0, 2, -16, 8]);
     assert!(rows[9..].iter().all(|&sum| sum == 0));
     let mut floats = [9.0; 4];
     let report = dca::float_report(4, &VALUES, &WEIGHTS, &classes, &mut floats).unwrap();
     let pairs = report.classes.map(|class| class.map(|pair| (pair.moran, pair.geary)));
-    assert_eq!(pairs[..4], [None, Some((1.0, 0.0)), Some((-1.0, 1.5)), None]);
-    assert_eq!(floats, [3.0, 2.0, -1.0, 0.0]);
+    assert_eq!(pairs[..4], [None, Some((0.5, 0.0)), Some((-1.0, 1.5)), None]);
+    assert_eq!(floats.map(f64::to_bits), [1.5, 0.5, -1.0, 0.0].map(f64::to_bits));
     let mut table = [-1; dca::JOIN_TABLE];
     dca::join_table(4, &[0, 0, 1, 1], &WEIGHTS, &mut table).unwrap();
     assert_eq!((table[0], table[1], table[8], table[9]), (6, 1, 1, 0));
     let mut zones = [9; 4];
     dca::hot_list(4, &VALUES, &WEIGHTS, &mut zones).unwrap();
-    assert_eq!(zones, [0, 1, 3, 2]);
+    assert_eq!(zones, [0, 1, 2, 3]);
     assert_eq!(
         dca::rank(4, &VALUES, &WEIGHTS, &SHUFFLES),
         Ok(Counts {
@@ -127,6 +127,37 @@ fn figures_c_to_f_the_worked_report() {
             greater: 0
         })
     );
+}
+
+/// The line of three with a zone that touches nobody in front: figures of the line, whatever value that zone has.
+#[test]
+fn zones_left_out() {
+    let weights = [0, 0, 0, 0, 0, 0, 1, 0, 0, 1, 0, 1, 0, 0, 1, 0];
+    let (mut locals, mut zones) = ([-7; 4], [9; 4]);
+    for first in [1, 100_000, -100_000] {
+        let values = [first, 1, 2, 6];
+        let sums = dca::account(4, &values, &weights, &mut locals).unwrap();
+        assert_eq!((sums.total, sums.spread, sums.cross, sums.kept), (9, 42, -18, 3));
+        assert_eq!(locals, [0, 18, -9, -27]);
+        dca::hot_list(4, &values, &weights, &mut zones).unwrap();
+        assert_eq!(zones, [1, 2, 3, 0]);
+        // The kept numbers are 1 2 3 and 3 2 1: the line as it is, and turned round.
+        let counts = dca::rank(4, &values, &weights, &[1, 2, 0, 3, 3, 2, 1, 0]).unwrap();
+        assert_eq!((counts.less, counts.equal, counts.greater), (0, 2, 0));
+    }
+    assert_eq!(refused(4, &[1, 5, 5, 5], &weights), 7);
+    assert_eq!(refused(4, &[100_001, 5, 5, 5], &weights), 3);
+    assert_eq!(dca::rank(4, &[9, 1, 2, 6], &weights, &[1, 1, 2, 3]), Err(Refusal::SHUFFLE));
+}
+
+/// A zone that only gets weight is kept, with a local numerator of 0; so is one that only gives it.
+#[test]
+fn zones_that_touch_one_way() {
+    let mut locals = [-7; 3];
+    let sums = dca::account(3, &[1, 2, 6], &[0, 1, 2, 1, 0, 0, 0, 0, 0], &mut locals).unwrap();
+    assert_eq!((sums.cross, sums.squares, sums.kept, locals), (-72, 52, 3, [-90, 18, 0]));
+    let sums = dca::account(3, &[1, 2, 6], &[0, 1, 0, 1, 0, 0, 2, 0, 0], &mut locals).unwrap();
+    assert_eq!((sums.cross, sums.squares, sums.kept, locals), (-72, 52, 3, [18, 18, -108]));
 }
 
 #[test]

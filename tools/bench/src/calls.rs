@@ -2,6 +2,8 @@
 //!
 //! Each function of `cases` lends a call its lists and answers a closure that makes the call once.
 
+use differential::SUMS;
+
 /// Each call over slices, of those that `raw` declares.
 macro_rules! over_slices {
     ($($name:ident = $call:ident [$($number:ident: $kind:ty),*]
@@ -93,6 +95,8 @@ mod before {
 
 /// All the calls, as one place has them.
 pub struct Calls {
+    /// How many sums its account stores: an earlier archive may have fewer.
+    pub sums: usize,
     pub account: cases::Account,
     pub class_account: cases::ClassAccount,
     pub float_report: cases::FloatReport,
@@ -113,6 +117,7 @@ pub struct Calls {
 macro_rules! calls_of {
     ($place:ident) => {
         Calls {
+            sums: SUMS,
             account: $place::account,
             class_account: $place::class_account,
             float_report: $place::float_report,
@@ -142,7 +147,7 @@ pub const NOW_AND_BEFORE: Option<[Calls; 2]> = None;
 
 pub mod cases {
     use crate::input::{Input, Refused};
-    use differential::TEXT;
+    use differential::{SUMS, TEXT};
     use std::hint::black_box;
 
     pub type Case<'a> = Box<dyn FnMut() + 'a>;
@@ -185,14 +190,6 @@ pub mod cases {
         };
     }
 
-    case!(
-        account,
-        Account,
-        input,
-        [input.n],
-        [input.values, input.weights],
-        [locals = vec![0; input.n], sums = [0; 5]]
-    );
     case!(
         class_account,
         ClassAccount,
@@ -278,6 +275,25 @@ pub mod cases {
         [input.image],
         [text = vec![0; TEXT], length = [0]]
     );
+
+    pub fn account(input: &Input, call: Account) -> Case<'_> {
+        account_of(input, call, SUMS)
+    }
+
+    /// The account as an archive has it that stores so many sums.
+    pub fn account_of(input: &Input, call: Account, sums: usize) -> Case<'_> {
+        let (mut locals, mut sums) = (vec![0; input.n], vec![0; sums]);
+        Box::new(move || {
+            let number = call(
+                black_box(input.n),
+                black_box(&input.values),
+                black_box(&input.weights),
+                black_box(&mut locals),
+                black_box(&mut sums),
+            );
+            assert_eq!(number, 0, "account");
+        })
+    }
 
     pub fn write(input: &Input, call: Write) -> Case<'_> {
         let lent = input.buffers();

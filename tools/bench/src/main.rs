@@ -2,17 +2,20 @@
 //!
 //!     cargo run --release -- [--goals] [--rounds N]
 //!
-//! Prints three markdown tables: proved against independent, with the goals, and how the proved calls' cost grows. With
-//! `--goals` it ends with status 1 where a ratio is above its goal by more than 0.15, since a machine is never quiet.
+//! Prints four markdown tables: proved against independent, with the goals, how the proved calls' cost grows, and what they cost where
+//! zones are left out. With `--goals` it ends with status 1 where a ratio is above its goal by more than 0.15, since a machine is never
+//! quiet.
 //! DCA_LIB_DIR names the folder of the archive libexports.a, if it is not target/staticlib. DCA_BEFORE_DIR names the folder of an
 //! earlier libexports.a: then the calls are measured beside those of that archive instead, and one table is printed, now against before.
 //! Both are paths from the root. build.rs links the earlier archive under other names, so that the program is built anew for it.
+//! DCA_BEFORE_SUMS is how many sums dca_account of the earlier archive stores, if not 6; before request A.6 they were 5.
 
 mod calls;
 mod input;
 
 use calls::cases::{self, Case};
 use calls::{proved, Calls};
+use differential::SUMS;
 use input::{Input, Refused};
 use std::process::ExitCode;
 use std::time::{Duration, Instant};
@@ -23,6 +26,8 @@ const BATCH: Duration = Duration::from_micros(1500);
 /// Beside an earlier archive there are more rounds, and shorter ones, so that in most of them neither call is interrupted.
 const SHORT_BATCH: Duration = Duration::from_micros(300);
 const SHORT_ROUNDS: usize = 5;
+/// The zones that touch nobody in the last table, the first and the last among them.
+const LEFT_OUT: [usize; 5] = [0, 9, 26, 40, 63];
 /// By how much a ratio may exceed its goal before the program complains.
 const MARGIN: f64 = 0.15;
 
@@ -92,6 +97,7 @@ type Row<'a> = (&'static str, Option<f64>, Case<'a>);
 
 /// The cases that have a goal.
 fn goal_rows<'a>(job: &'a Input, calls: &Calls) -> Vec<Row<'a>> {
+    let account = cases::account_of(job, calls.account, calls.sums);
     let class_account = cases::class_account(job, calls.class_account);
     let float_report = cases::float_report(job, calls.float_report);
     vec![
@@ -100,7 +106,7 @@ fn goal_rows<'a>(job: &'a Input, calls: &Calls) -> Vec<Row<'a>> {
             Some(1.1),
             cases::rank(job, calls.rank),
         ),
-        ("account", Some(1.3), cases::account(job, calls.account)),
+        ("account", Some(1.3), account),
         ("class account", Some(1.3), class_account),
         ("float report", Some(1.3), float_report),
         ("read", Some(1.3), cases::read(job, calls.read)),
@@ -200,9 +206,19 @@ fn earlier_row(name: &str, rounds: usize, mut now: Case, mut before: Case) {
     );
 }
 
+/// How many sums the account of the earlier archive stores; nothing where the variable says no number.
+fn earlier_sums() -> Option<usize> {
+    match std::env::var("DCA_BEFORE_SUMS") {
+        Ok(text) => text.parse().ok(),
+        Err(_) => Some(SUMS),
+    }
+}
+
 /// Measures each call beside that of an earlier archive.
 fn beside_earlier(rounds: usize, now: &Calls, before: &Calls) {
     let inputs = &Inputs::new();
+    println!("The archive and an earlier one by turns, {rounds} rounds: the medians of the times, and of the ratios of the rounds.");
+    println!();
     println!(
         "| call | now, us | before, us | now/before | half of the rounds | of the least times |"
     );
@@ -226,22 +242,24 @@ fn growth_row(name: &str, rounds: usize, mut cases: Vec<Case>) {
     );
 }
 
+/// A line for each of these calls over the inputs.
+macro_rules! rows {
+    ($row:ident, $rounds:ident, $inputs:ident, $($name:literal $call:ident;)*) => {
+        $($row(
+            $name,
+            $rounds,
+            $inputs.iter().map(|input| cases::$call(input, proved::$call)).collect(),
+        );)*
+    };
+}
+
 fn growth(rounds: usize) {
     let sizes = [8, 16, 32, 64].map(|n| Input::new(n, 0));
     let lists = [0, 124, 249, 499].map(|rows| Input::new(64, rows));
-    macro_rules! grow {
-        ($inputs:ident, $($name:literal $call:ident;)*) => {
-            $(growth_row(
-                $name,
-                rounds,
-                $inputs.iter().map(|input| cases::$call(input, proved::$call)).collect(),
-            );)*
-        };
-    }
     println!("| proved, us | 8 zones | 16 zones | 32 zones | 64 zones | as ratios |");
     println!("|---|---:|---:|---:|---:|---|");
-    grow! {
-        sizes,
+    rows! {
+        growth_row, rounds, sizes,
         "account" account;
         "class account" class_account;
         "float report" float_report;
@@ -251,8 +269,8 @@ fn growth(rounds: usize) {
     println!();
     println!("| proved, us, 64 zones | 0 shuffles | 124 shuffles | 249 shuffles | 499 shuffles | as ratios |");
     println!("|---|---:|---:|---:|---:|---|");
-    grow! {
-        lists,
+    rows! {
+        growth_row, rounds, lists,
         "rank" rank;
         "read" read;
         "write" write;
@@ -260,30 +278,55 @@ fn growth(rounds: usize) {
     }
 }
 
-fn main() -> ExitCode {
-    let mut rounds = ROUNDS;
-    let mut goals = false;
+fn left_out_row(name: &str, rounds: usize, mut cases: Vec<Case>) {
+    let least = least(&mut cases, rounds);
+    let (all, fewer) = (least[0], least[1]);
+    println!("| {name} | {all:.2} | {fewer:.2} | {:.2} |", fewer / all);
+}
+
+/// The job as it is, and the same job of which five zones touch nobody.
+fn left_out(rounds: usize) {
+    let inputs = [&[][..], &LEFT_OUT].map(|zones| Input::leaving_out(zones, 64, 499));
+    println!("| proved, us, 64 zones | all kept | 5 left out | ratio |");
+    println!("|---|---:|---:|---:|");
+    rows! {
+        left_out_row, rounds, inputs,
+        "account" account;
+        "class account" class_account;
+        "float report" float_report;
+        "rank, 499 shuffles" rank;
+        "read" read;
+        "write" write;
+        "report" report;
+    }
+}
+
+/// Whether goals are asked for, and the rounds; nothing where a word is no argument.
+fn arguments() -> Option<(bool, usize)> {
+    let (mut goals, mut rounds) = (false, ROUNDS);
     let mut words = std::env::args().skip(1);
     while let Some(word) = words.next() {
-        let number = || words.next().and_then(|text| text.parse().ok());
-        match (word.as_str(), number) {
-            ("--goals", _) => goals = true,
-            ("--rounds", mut number) => match number() {
-                Some(given) => rounds = usize::max(given, 2),
-                None => return ExitCode::from(2),
-            },
-            _ => {
-                eprintln!("{word} is not an argument");
-                return ExitCode::from(2);
-            }
+        match word.as_str() {
+            "--goals" => goals = true,
+            "--rounds" => rounds = words.next()?.parse::<usize>().ok()?.max(2),
+            _ => return None,
         }
     }
+    Some((goals, rounds))
+}
+
+fn main() -> ExitCode {
+    let Some((goals, rounds)) = arguments() else {
+        eprintln!("arguments: [--goals] [--rounds N]");
+        return ExitCode::from(2);
+    };
     println!("Request A.4's job: 64 zones, 499 shuffles, categories, places, 8 bands. Buffers are not cleared between calls.");
     if let Some([now, before]) = calls::NOW_AND_BEFORE {
-        let rounds = SHORT_ROUNDS * rounds;
-        println!("The archive and an earlier one by turns, {rounds} rounds: the medians of the times, and of the ratios of the rounds.");
-        println!();
-        beside_earlier(rounds, &now, &before);
+        let Some(sums) = earlier_sums() else {
+            eprintln!("DCA_BEFORE_SUMS is not a number");
+            return ExitCode::from(2);
+        };
+        beside_earlier(SHORT_ROUNDS * rounds, &now, &Calls { sums, ..before });
         return ExitCode::SUCCESS;
     }
     println!("Both built for release; proved and independent in turn, {rounds} rounds, the least time of a call.");
@@ -291,6 +334,8 @@ fn main() -> ExitCode {
     let met = against(rounds);
     println!();
     growth(rounds / 2);
+    println!();
+    left_out(rounds / 2);
     if goals && !met {
         println!();
         println!("A goal is missed by more than {MARGIN}.");

@@ -1,17 +1,25 @@
 //! Part 3: W, P, G and the local numerators of each class.
 
 use crate::account::Spread;
+use crate::kept::Kept;
 use crate::{judge, CLASSES};
 
-/// The number that rules 3 to 7 and 9 give a job with classes whose lists have their exact length.
-pub(crate) fn judge_classed(n: usize, values: &[i32], weights: &[u8], classes: &[u8]) -> u8 {
-    match judge::job(n, values, weights) {
-        0 if judge::greatest(classes) > 8 => 9,
-        number => number,
+/// The zones kept of a job with classes whose lists have their exact length, or the number that rules 3 to 7 and 9 give it.
+pub(crate) fn judge_classed(
+    n: usize,
+    values: &[i32],
+    weights: &[u8],
+    classes: &[u8],
+) -> Result<Kept, u8> {
+    let kept = judge::job(n, values, weights)?;
+    if judge::greatest(classes) > 8 {
+        Err(9)
+    } else {
+        Ok(kept)
     }
 }
 
-/// Works a job that is not refused: three sums for each class, and a local numerator for each class and zone.
+/// Works a job that is not refused: three sums for each class, and a local numerator for each class and zone, 0 at a zone left out.
 pub(crate) fn work(
     values: &[i32],
     spread: &Spread,
@@ -62,10 +70,11 @@ pub fn class_account(
     {
         return 2;
     }
-    let number = judge_classed(n, values, weights, classes);
-    if number == 0 {
-        let spread = Spread::of(values);
-        work(values, &spread, weights, classes, rows, class_locals);
-    }
-    number
+    let kept = match judge_classed(n, values, weights, classes) {
+        Ok(kept) => kept,
+        Err(number) => return number,
+    };
+    let spread = Spread::of(values, kept);
+    work(values, &spread, weights, classes, rows, class_locals);
+    0
 }

@@ -6,19 +6,19 @@ use crate::nearest::ratio;
 use crate::{judge, CLASSES, ZONES};
 
 /// Numerator and divisor of Moran's I.
-pub(crate) fn moran(m: i64, w: i64, p: i64) -> (i64, i64) {
-    (p, w * m)
+pub(crate) fn moran(spread: &Spread, w: i64, p: i64) -> (i64, i64) {
+    (p, w * spread.m)
 }
 
-/// Numerator and divisor of Geary's c.
-pub(crate) fn geary(n: usize, m: i64, w: i64, g: i64) -> (i64, i64) {
-    let n = n as i64;
-    ((n - 1) * n * g, 2 * w * m)
+/// Numerator and divisor of Geary's c; its n is the number of zones kept.
+pub(crate) fn geary(spread: &Spread, w: i64, g: i64) -> (i64, i64) {
+    let n = spread.kept.count() as i64;
+    ((n - 1) * n * g, 2 * w * spread.m)
 }
 
 /// Moran and Geary of a weight above 0.
-pub(crate) fn pair(n: usize, m: i64, w: i64, p: i64, g: i64) -> [f64; 2] {
-    let (moran, geary) = (moran(m, w, p), geary(n, m, w, g));
+pub(crate) fn pair(spread: &Spread, w: i64, p: i64, g: i64) -> [f64; 2] {
+    let (moran, geary) = (moran(spread, w, p), geary(spread, w, g));
     [ratio(moran.0, moran.1), ratio(geary.0, geary.1)]
 }
 
@@ -46,32 +46,40 @@ pub fn float_report(
     {
         return 2;
     }
-    let number = judge_classed(n, values, weights, classes);
-    if number != 0 {
-        return number;
-    }
-    let spread = Spread::of(values);
+    let kept = match judge_classed(n, values, weights, classes) {
+        Ok(kept) => kept,
+        Err(number) => return number,
+    };
+    let spread = Spread::of(values, kept);
     let mut rows = [0; 3 * CLASSES];
     let mut class_locals = [0; ZONES * CLASSES];
     let class_locals = &mut class_locals[..CLASSES * n];
     work(values, &spread, weights, classes, &mut rows, class_locals);
 
-    let mut whole = [0; 3];
-    for (k, row) in rows.as_chunks::<3>().0.iter().enumerate() {
-        let [w, p, g] = *row;
-        for (sum, part) in whole.iter_mut().zip(row) {
-            *sum += part;
-        }
-        has_pair[k] = u8::from(w > 0);
-        if w > 0 {
-            pairs[2 * k..][..2].copy_from_slice(&pair(n, spread.m, w, p, g));
-        }
-    }
-    let [w, p, g] = whole;
-    globals.copy_from_slice(&pair(n, spread.m, w, p, g));
+    let (rows, _) = rows.as_chunks();
+    let [w, p, g] = [0, 1, 2].map(|k| rows.iter().map(|row| row[k]).sum());
+    globals.copy_from_slice(&pair(&spread, w, p, g));
+    local_figures(&spread, class_locals, locals);
+    class_pairs(&spread, rows, pairs, has_pair);
+    0
+}
+
+/// A zone's numerator is the sum of those that it has in the classes.
+fn local_figures(spread: &Spread, class_locals: &[i64], locals: &mut [f64]) {
+    let n = locals.len();
     for (i, local) in locals.iter_mut().enumerate() {
         let numerator = class_locals.iter().skip(i).step_by(n).sum();
         *local = ratio(numerator, spread.m);
     }
-    0
+}
+
+/// The pair of each class that has weight, from its W, P and G; the entries of the others stay.
+fn class_pairs(spread: &Spread, rows: &[[i64; 3]], pairs: &mut [f64], has_pair: &mut [u8]) {
+    let (pairs, _) = pairs.as_chunks_mut::<2>();
+    for ((&[w, p, g], own), has) in rows.iter().zip(pairs).zip(has_pair) {
+        *has = u8::from(w > 0);
+        if w > 0 {
+            *own = pair(spread, w, p, g);
+        }
+    }
 }

@@ -1,5 +1,6 @@
 //! Part 10: the reader and the writer of the job image. Both go by place.
 
+use crate::kept::Kept;
 use crate::{judge, BANDS, JOINS, SHUFFLES, ZONES};
 
 /// The entries of a full buffer of shuffles.
@@ -56,6 +57,14 @@ fn judge_joins(n: usize, joins: &[[u8; 3]]) -> Result<(), u8> {
         last = Some((from, to));
     }
     Ok(())
+}
+
+/// Whether the kept zones, which are the ends of the joins, have one value, so that their M is 0.
+fn ends_are_equal(values: &[[u8; 4]], joins: &[[u8; 3]]) -> bool {
+    let mut ends = joins.iter().flat_map(|&[from, to, _]| [from, to]);
+    let value = |end: u8| values[usize::from(end)];
+    let first = ends.next().map(value);
+    ends.all(|end| Some(value(end)) == first)
 }
 
 /// Place by place: 10, then 11 against the earlier ones.
@@ -120,7 +129,7 @@ impl<'a> Image<'a> {
 
         refuse(!rest.0.is_empty(), 17)?;
         refuse(joins.is_empty(), 6)?;
-        refuse(judge::all_equal(values), 7)?;
+        refuse(ends_are_equal(values, joins), 7)?;
         Ok(Image {
             bands,
             shuffles,
@@ -275,7 +284,7 @@ impl<'a> Job<'a> {
         refuse(!judge::rows_are_shuffles(zones, shuffles), 13)?;
 
         refuse(joins == 0, 6)?;
-        refuse(judge::all_equal(values), 7)?;
+        refuse(Kept::of(zones, weights).are_equal(values), 7)?;
         Ok(Job {
             values,
             categories,

@@ -1,5 +1,6 @@
 //! What several calls refuse alike.
 
+use crate::kept::Kept;
 use crate::ZONES;
 
 /// Whether there may be that many zones.
@@ -7,22 +8,26 @@ pub fn zones_fit(n: usize) -> bool {
     (2..=ZONES).contains(&n)
 }
 
-/// The number that rules 3 to 7 give a job whose lists have their exact length.
-pub fn job(n: usize, values: &[i32], weights: &[u8]) -> u8 {
+/// The zones kept of a job whose lists have their exact length, or the number that rules 3 to 7 give it. Only 7 looks at kept zones alone.
+pub fn job(n: usize, values: &[i32], weights: &[u8]) -> Result<Kept, u8> {
     if values.iter().any(|&x| value_is_beyond(x)) {
-        return 3;
+        return Err(3);
     }
     let greatest = greatest(weights);
     if greatest > 9 {
-        4
-    } else if any_on_diagonal(n, weights) {
-        5
-    } else if greatest == 0 {
-        6
-    } else if all_equal(values) {
-        7
+        return Err(4);
+    }
+    if any_on_diagonal(n, weights) {
+        return Err(5);
+    }
+    if greatest == 0 {
+        return Err(6);
+    }
+    let kept = Kept::of(n, weights);
+    if kept.are_equal(values) {
+        Err(7)
     } else {
-        0
+        Ok(kept)
     }
 }
 
@@ -40,11 +45,6 @@ pub fn greatest(list: &[u8]) -> u8 {
 
 pub fn any_on_diagonal(n: usize, weights: &[u8]) -> bool {
     weights.iter().step_by(n + 1).any(|&w| w != 0)
-}
-
-/// The squared differences of the values sum to 0 exactly when there is no difference.
-pub fn all_equal<T: PartialEq>(list: &[T]) -> bool {
-    list.windows(2).all(|pair| pair[0] == pair[1])
 }
 
 /// Whether every row of n numbers has each of 0 to n - 1. A number not below n marks nothing, so that another is lacking.

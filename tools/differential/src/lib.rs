@@ -1,4 +1,4 @@
-//! The calls of the district clustering account once more, written from document 01 and its readings alone.
+//! The calls of the district clustering account once more, written from document 01, request A.6 of document 02 and their readings alone.
 //!
 //! Nothing here is shared with the proved library or taken from it. Each function has the arguments of the exported call of
 //! the same name, as slices, and returns the number of the refusal, 0 where there is none; on a refusal every lent list stays
@@ -12,6 +12,7 @@ pub mod hot;
 pub mod image;
 pub mod joins;
 mod judge;
+mod kept;
 pub mod nearest;
 pub mod places;
 pub mod rank;
@@ -31,6 +32,8 @@ pub use report::report;
 
 /// The most zones that a job has.
 pub const ZONES: usize = 64;
+/// The sums of an account: S, M, W, P, G and the number of zones kept.
+pub const SUMS: usize = 6;
 /// Classes 0 to 8.
 pub const CLASSES: usize = 9;
 /// Categories 0 to 7.

@@ -15,6 +15,23 @@ fn numerator(deviations: &[i64], weights: &[u8]) -> i64 {
         .sum()
 }
 
+/// A shuffle acts on kept zones: in rising order they take the values of its kept numbers, as these come. S stays, so a value brings its d.
+fn shuffle(spread: &Spread, row: &[u8], shuffled: &mut [i64]) {
+    let deviations = spread.deviations();
+    let numbers = row.iter().map(|&zone| usize::from(zone));
+    if spread.kept.count() == row.len() {
+        // All are kept: each place takes its number.
+        for (d, zone) in shuffled.iter_mut().zip(numbers) {
+            *d = deviations[zone];
+        }
+    } else {
+        let numbers = numbers.filter(|&zone| spread.kept.has(zone));
+        for (place, zone) in spread.kept.zones().zip(numbers) {
+            shuffled[place] = deviations[zone];
+        }
+    }
+}
+
 /// Less, equal and greater, of a job that is not refused.
 pub(crate) fn count(spread: &Spread, weights: &[u8], shuffles: &[u8]) -> [u64; 3] {
     let deviations = spread.deviations();
@@ -24,9 +41,7 @@ pub(crate) fn count(spread: &Spread, weights: &[u8], shuffles: &[u8]) -> [u64; 3
     let mut shuffled = [0; ZONES];
     let shuffled = &mut shuffled[..n];
     for row in shuffles.chunks_exact(n) {
-        for (d, &zone) in shuffled.iter_mut().zip(row) {
-            *d = deviations[usize::from(zone)];
-        }
+        shuffle(spread, row, shuffled);
         counts[match numerator(shuffled, weights).cmp(&own) {
             Ordering::Less => 0,
             Ordering::Equal => 1,
@@ -48,12 +63,13 @@ pub fn rank(n: usize, values: &[i32], weights: &[u8], shuffles: &[u8], counts: &
     {
         return 2;
     }
-    match judge::job(n, values, weights) {
-        0 if !judge::rows_are_shuffles(n, shuffles) => 13,
-        0 => {
-            counts.copy_from_slice(&count(&Spread::of(values), weights, shuffles));
-            0
-        }
-        number => number,
+    let kept = match judge::job(n, values, weights) {
+        Ok(kept) => kept,
+        Err(number) => return number,
+    };
+    if !judge::rows_are_shuffles(n, shuffles) {
+        return 13;
     }
+    counts.copy_from_slice(&count(&Spread::of(values, kept), weights, shuffles));
+    0
 }

@@ -3,6 +3,7 @@
 use crate::account::{self, Spread, Sums};
 use crate::coefficients::{geary, moran, pair};
 use crate::image::Image;
+use crate::kept::Kept;
 use crate::nearest::ratio;
 use crate::{classes, hot, joins, places, rank, BANDS, CLASSES, TEXT, ZONES};
 
@@ -71,23 +72,8 @@ fn lines(page: &mut Page, image: &Image) {
     let weights = &mut weights[..n * n];
     image.weights_to(weights);
 
-    let mut locals = [0; ZONES];
-    let locals = &mut locals[..n];
-    let Sums { s, m, w, p, g } = account::work(values, weights, locals);
-    let (moran, geary) = (moran(m, w, p), geary(n, m, w, g));
-    page.line("zones", &[n as i64, s, m], &[]);
-    page.line("joins", &[w, p, g], &[]);
-    page.line("moran", &[moran.0, moran.1], &[ratio(moran.0, moran.1)]);
-    page.line("geary", &[geary.0, geary.1], &[ratio(geary.0, geary.1)]);
-    page.line("expected", &[-1, n as i64 - 1], &[]);
-
-    let mut zones = [0; ZONES];
-    let zones = &mut zones[..n];
-    hot::order(locals, zones);
-    for &zone in zones.iter() {
-        let local = locals[usize::from(zone)];
-        page.line("local", &[i64::from(zone), local, m], &[ratio(local, m)]);
-    }
+    let spread = Spread::of(values, Kept::of(n, weights));
+    job_lines(page, &spread, values, weights);
     if !image.categories.is_empty() {
         for (r, row) in joins::work(image.categories, weights).iter().enumerate() {
             for (s, &t) in row.iter().enumerate().filter(|&(_, &t)| t > 0) {
@@ -96,15 +82,37 @@ fn lines(page: &mut Page, image: &Image) {
         }
     }
     if !image.bands.is_empty() {
-        class_lines(page, image, values, weights);
+        class_lines(page, image, &spread, values, weights);
     }
     if !image.shuffles.is_empty() {
-        let counts = rank::count(&Spread::of(values), weights, image.shuffles);
+        let counts = rank::count(&spread, weights, image.shuffles);
         page.line("rank", &counts.map(|count| count as i64), &[]);
     }
 }
 
-fn class_lines(page: &mut Page, image: &Image, values: &[i32], weights: &[u8]) {
+/// The lines from `zones` to the last `local`. n is here the number of zones kept, and only these have a local line.
+fn job_lines(page: &mut Page, spread: &Spread, values: &[i32], weights: &[u8]) {
+    let mut locals = [0; ZONES];
+    let locals = &mut locals[..values.len()];
+    let Sums { w, p, g } = account::work(values, spread, weights, locals);
+    let (moran, geary) = (moran(spread, w, p), geary(spread, w, g));
+    let (n, m) = (spread.kept.count() as i64, spread.m);
+    page.line("zones", &[n, spread.s, m], &[]);
+    page.line("joins", &[w, p, g], &[]);
+    page.line("moran", &[moran.0, moran.1], &[ratio(moran.0, moran.1)]);
+    page.line("geary", &[geary.0, geary.1], &[ratio(geary.0, geary.1)]);
+    page.line("expected", &[-1, n - 1], &[]);
+
+    let mut zones = [0; ZONES];
+    let zones = &mut zones[..values.len()];
+    hot::order(spread.kept, locals, zones);
+    for &zone in &zones[..spread.kept.count()] {
+        let local = locals[usize::from(zone)];
+        page.line("local", &[i64::from(zone), local, m], &[ratio(local, m)]);
+    }
+}
+
+fn class_lines(page: &mut Page, image: &Image, spread: &Spread, values: &[i32], weights: &[u8]) {
     let n = image.n;
     let mut bands = [0; BANDS];
     let bands = &mut bands[..image.bands.len()];
@@ -113,21 +121,13 @@ fn class_lines(page: &mut Page, image: &Image, values: &[i32], weights: &[u8]) {
     let table = &mut table[..n * n];
     image.with_places(|places| places::classify(places, bands, table));
 
-    let spread = Spread::of(values);
     let mut rows = [0; 3 * CLASSES];
     let mut class_locals = [0; ZONES * CLASSES];
-    classes::work(
-        values,
-        &spread,
-        weights,
-        table,
-        &mut rows,
-        &mut class_locals,
-    );
+    classes::work(values, spread, weights, table, &mut rows, &mut class_locals);
     for (k, &[w, p, g]) in rows.as_chunks().0.iter().enumerate().take(bands.len() + 1) {
         let numbers = [k as i64, w, p, g];
         if w > 0 {
-            page.line("class", &numbers, &pair(n, spread.m, w, p, g));
+            page.line("class", &numbers, &pair(spread, w, p, g));
         } else {
             page.put(b"class");
             numbers.iter().for_each(|&x| page.number(x));

@@ -1,4 +1,4 @@
-//! The figures that document 01 and its readings print, by the independent calls.
+//! The figures that document 01, request A.6 and their readings print, by the independent calls.
 
 use differential as own;
 
@@ -13,11 +13,11 @@ fn job(n: usize, joins: &[(usize, usize, u8)]) -> Vec<u8> {
 #[test]
 fn line_of_three() {
     let weights = job(3, &[(0, 1, 1), (1, 0, 1), (1, 2, 1), (2, 1, 1)]);
-    let (mut locals, mut sums) = ([0; 3], [0; 5]);
+    let (mut locals, mut sums) = ([0; 3], [0; 6]);
     let number = own::account(3, &[1, 2, 6], &weights, &mut locals, &mut sums);
     assert_eq!(
         (number, locals, sums),
-        (0, [18, -9, -27], [9, 42, 4, -18, 34])
+        (0, [18, -9, -27], [9, 42, 4, -18, 34, 3])
     );
 }
 
@@ -29,10 +29,37 @@ fn forewings() {
         .flat_map(|&(a, b)| [(a - 1, b - 1, 1), (b - 1, a - 1, 1)])
         .collect();
     let values = [207, 202, 220, 207, 197, 220, 204, 197];
-    let (mut locals, mut sums) = ([0; 8], [0; 5]);
+    let (mut locals, mut sums) = ([0; 8], [0; 6]);
     let number = own::account(8, &values, &job(8, &joins), &mut locals, &mut sums);
-    assert_eq!((number, sums), (0, [1654, 4572, 14, -9416, 1864]));
+    assert_eq!((number, sums), (0, [1654, 4572, 14, -9416, 1864, 8]));
     assert_eq!(locals, [136, -4104, -4028, -200, -156, -2120, -660, 1716]);
+}
+
+/// The job of document 01's report. Zone 3 touches nobody.
+#[test]
+fn left_out() {
+    let weights = job(4, &[(0, 1, 3), (1, 0, 3), (1, 2, 1), (2, 1, 1)]);
+    let values = [1, 1, 3, 3];
+    let (mut locals, mut sums, mut zones) = ([7; 4], [7; 6], [7; 4]);
+    let number = own::account(4, &values, &weights, &mut locals, &mut sums);
+    assert_eq!(
+        (number, locals, sums),
+        (0, [12, 4, -8, 0], [5, 8, 8, 8, 8, 3])
+    );
+    assert_eq!(own::hot_list(4, &values, &weights, &mut zones), 0);
+    assert_eq!(zones, [0, 1, 2, 3]);
+    // The kept numbers 2 1 0 turn the three round, wherever 3 stands among them.
+    for row in [[2, 1, 0, 3], [2, 3, 1, 0], [3, 2, 1, 0]] {
+        let mut counts = [7; 3];
+        assert_eq!(own::rank(4, &values, &weights, &row, &mut counts), 0);
+        assert_eq!(counts, [1, 0, 0]);
+    }
+    // Equal kept values have no spread, whatever the others are; a bad value is refused wherever it stands.
+    for (values, number) in [([5, 5, 5, 9], 7), ([1, 1, 3, 100_001], 3)] {
+        let given = own::account(4, &values, &weights, &mut locals, &mut sums);
+        assert_eq!(given, number);
+    }
+    assert_eq!((locals, sums), ([12, 4, -8, 0], [5, 8, 8, 8, 8, 3]));
 }
 
 #[test]
@@ -86,7 +113,7 @@ fn shuffles_of_park_and_miller() {
         shuffles.extend(row);
     }
     assert_eq!(state, 137_128_920);
-    let (mut locals, mut sums, mut counts) = ([0; 64], [0; 5], [0; 3]);
+    let (mut locals, mut sums, mut counts) = ([0; 64], [0; 6], [0; 3]);
     assert_eq!(
         own::account(n, &values, &weights, &mut locals, &mut sums),
         0
@@ -98,7 +125,8 @@ fn shuffles_of_park_and_miller() {
             5_929_018_368,
             18_144,
             -1_668_068_720_640,
-            53_453_138_256
+            53_453_138_256,
+            64
         ]
     );
     assert_eq!(own::rank(n, &values, &weights, &shuffles, &mut counts), 0);

@@ -1,22 +1,48 @@
 //! Wrong versions of the independent calls, one for each at least. With any of them the comparison must find a difference.
 
+use super::left_out::parted;
 use differential as own;
-use differential::{SHUFFLES, ZONES};
+use differential::{SHUFFLES, SUMS, ZONES};
 
 /// The names that `--broken` takes, and what is wrong.
-pub const NAMES: [(&str, &str); 16] = [
+pub const NAMES: [(&str, &str); 26] = [
     (
         "last-local",
         "account: the last local numerator is not stored",
     ),
+    (
+        "d-of-all",
+        "account: d is taken with the number of all zones",
+    ),
+    (
+        "column-alone",
+        "account: a zone with weight in its column alone is left out",
+    ),
+    ("seven-of-all", "account: 7 looks at all zones"),
     ("class-eight", "class account: class 8 is folded into 0"),
+    (
+        "sum-of-all",
+        "class account: S takes the values of all zones",
+    ),
     (
         "weightless",
         "float report: a class without weight stores 0 0",
     ),
+    (
+        "geary-of-all",
+        "float report: Geary's n is the number of all zones",
+    ),
     ("tie-away", "nearest: ties go away from even"),
     ("hot-ties", "hot list: equal zones by falling number"),
+    (
+        "left-out-as-zero",
+        "hot list: a zone left out comes before a kept one with L below 0",
+    ),
     ("rank-inverse", "rank: the value goes to the zone named"),
+    (
+        "by-place",
+        "rank: a kept zone takes the value of the zone named at its place",
+    ),
     ("transposed", "join table: rows and columns exchanged"),
     (
         "on-circle",
@@ -33,14 +59,20 @@ pub const NAMES: [(&str, &str); 16] = [
         "queen: a call whose list is too long by one is taken",
     ),
     ("unused-cleared", "read: unused bands are cleared"),
+    ("read-seven-of-all", "read: 7 looks at all zones"),
     (
         "four-first",
         "write: 4 before 5 at a weight of the diagonal",
     ),
+    ("write-seven-of-all", "write: 7 looks at all zones"),
     ("lower-case", "report: hexadecimal digits in lower case"),
     (
         "refused-as-text",
         "report: a refused image gives 0 and a text that says so",
+    ),
+    (
+        "expected-of-all",
+        "report: the expected value counts all zones",
     ),
 ];
 
@@ -51,6 +83,68 @@ pub fn last_local(n: usize, x: &[i32], w: &[u8], locals: &mut [i64], sums: &mut 
         *place = last;
     }
     number
+}
+
+/// d(i) times the sum of w(i,j) x d(j), over the pairs that are taken by their place in the weights.
+fn local(d: &[i64], w: &[u8], i: usize, taken: impl Fn(usize) -> bool) -> i64 {
+    let n = d.len();
+    let near = (0..n).filter(|&j| taken(i * n + j));
+    d[i] * near.map(|j| i64::from(w[i * n + j]) * d[j]).sum::<i64>()
+}
+
+/// d as it comes with that number of zones and that S.
+fn deviations(x: &[i32], count: usize, s: i64) -> Vec<i64> {
+    let d = |&x: &i32| count as i64 * i64::from(x) - s;
+    x.iter().map(d).collect()
+}
+
+fn total<'a>(x: impl IntoIterator<Item = &'a i32>) -> i64 {
+    x.into_iter().map(|&x| i64::from(x)).sum()
+}
+
+/// The local numerators and P by another d.
+fn rework(d: &[i64], w: &[u8], locals: &mut [i64], sums: &mut [i64]) {
+    for (i, place) in locals.iter_mut().enumerate() {
+        *place = local(d, w, i, |_| true);
+    }
+    sums[3] = locals.iter().sum();
+}
+
+pub fn d_of_all(n: usize, x: &[i32], w: &[u8], locals: &mut [i64], sums: &mut [i64]) -> u8 {
+    let number = own::account(n, x, w, locals, sums);
+    if number == 0 {
+        rework(&deviations(x, n, sums[0]), w, locals, sums);
+    }
+    number
+}
+
+pub fn column_alone(n: usize, x: &[i32], w: &[u8], locals: &mut [i64], sums: &mut [i64]) -> u8 {
+    let number = own::account(n, x, w, locals, sums);
+    if number == 0 {
+        let gives = |i: &usize| w[i * n..][..n].iter().any(|&w| w > 0);
+        let giving: Vec<i32> = (0..n).filter(gives).map(|i| x[i]).collect();
+        let (count, s) = (giving.len(), total(&giving));
+        let squares: i64 = giving.iter().map(|&x| i64::from(x).pow(2)).sum();
+        sums[0] = s;
+        sums[1] = count as i64 * squares - s * s;
+        sums[5] = count as i64;
+        rework(&deviations(x, count, s), w, locals, sums);
+    }
+    number
+}
+
+/// 0 instead of 7, unless all the values are equal.
+fn unless_all_equal<T: PartialEq>(number: u8, values: &[T]) -> u8 {
+    let differ = values.windows(2).any(|two| two[0] != two[1]);
+    if number == 7 && differ {
+        0
+    } else {
+        number
+    }
+}
+
+pub fn seven_of_all(n: usize, x: &[i32], w: &[u8], locals: &mut [i64], sums: &mut [i64]) -> u8 {
+    unless_all_equal(own::account(n, x, w, locals, sums), x)
 }
 
 pub fn class_eight(
@@ -66,6 +160,29 @@ pub fn class_eight(
         .map(|&k| if k == 8 { 0 } else { k })
         .collect();
     own::class_account(n, x, w, &folded, rows, locals)
+}
+
+pub fn sum_of_all(
+    n: usize,
+    x: &[i32],
+    w: &[u8],
+    classes: &[u8],
+    rows: &mut [i64],
+    locals: &mut [i64],
+) -> u8 {
+    let number = own::class_account(n, x, w, classes, rows, locals);
+    if number == 0 {
+        let (kept, _) = parted(n, w);
+        let d = deviations(x, kept.len(), total(x));
+        let classed = rows.chunks_exact_mut(3).zip(locals.chunks_exact_mut(n));
+        for (k, (row, locals)) in classed.enumerate() {
+            for (i, place) in locals.iter_mut().enumerate() {
+                *place = local(&d, w, i, |pair| usize::from(classes[pair]) == k);
+            }
+            row[1] = locals.iter().sum();
+        }
+    }
+    number
 }
 
 #[allow(clippy::too_many_arguments)]
@@ -86,6 +203,26 @@ pub fn weightless(
                 pair.fill(0.0);
             }
         }
+    }
+    number
+}
+
+#[allow(clippy::too_many_arguments)]
+pub fn geary_of_all(
+    n: usize,
+    x: &[i32],
+    w: &[u8],
+    classes: &[u8],
+    globals: &mut [f64],
+    locals: &mut [f64],
+    pairs: &mut [f64],
+    has_pair: &mut [u8],
+) -> u8 {
+    let number = own::float_report(n, x, w, classes, globals, locals, pairs, has_pair);
+    if number == 0 {
+        let (_, [_, m, weight, _, g, _]) = worked(n, x, w);
+        let numerator = (n as i64 - 1) * n as i64 * g;
+        own::nearest(numerator, 2 * weight * m, &mut globals[1..]);
     }
     number
 }
@@ -112,15 +249,30 @@ pub fn tie_away(p: i64, q: i64, out: &mut [f64]) -> u8 {
     number
 }
 
+/// The local numerators and the sums, 0 where the job is refused.
+fn worked(n: usize, x: &[i32], w: &[u8]) -> (Vec<i64>, [i64; SUMS]) {
+    let (mut locals, mut sums) = (vec![0; n], [0; SUMS]);
+    own::account(n, x, w, &mut locals, &mut sums);
+    (locals, sums)
+}
+
 pub fn hot_ties(n: usize, x: &[i32], w: &[u8], zones: &mut [u8]) -> u8 {
     let number = own::hot_list(n, x, w, zones);
     if number == 0 {
-        let mut locals = [0; ZONES];
-        own::account(n, x, w, &mut locals[..n], &mut [0; 5]);
+        let (locals, _) = worked(n, x, w);
         zones.sort_by_key(|&zone| {
             let zone = usize::from(zone);
             (-locals[zone], ZONES - zone)
         });
+    }
+    number
+}
+
+pub fn left_out_as_zero(n: usize, x: &[i32], w: &[u8], zones: &mut [u8]) -> u8 {
+    let number = own::hot_list(n, x, w, zones);
+    if number == 0 {
+        let (locals, _) = worked(n, x, w);
+        zones.sort_by_key(|&zone| (-locals[usize::from(zone)], zone));
     }
     number
 }
@@ -140,6 +292,20 @@ pub fn rank_inverse(n: usize, x: &[i32], w: &[u8], shuffles: &[u8], counts: &mut
         0 if own::rank(n, x, w, shuffles, &mut [0; 3]) == 0 => 0,
         _ => own::rank(n, x, w, shuffles, counts),
     }
+}
+
+/// As before request A.6. Kept zones that become equal have a P of 0, as `worked` gives it.
+pub fn by_place(n: usize, x: &[i32], w: &[u8], shuffles: &[u8], counts: &mut [u64]) -> u8 {
+    let number = own::rank(n, x, w, shuffles, counts);
+    if number == 0 {
+        let p = |x: &[i32]| worked(n, x, w).1[3];
+        counts.fill(0);
+        for row in shuffles.chunks_exact(n) {
+            let taken: Vec<i32> = row.iter().map(|&zone| x[usize::from(zone)]).collect();
+            counts[(p(&taken).cmp(&p(x)) as i8 + 1) as usize] += 1;
+        }
+    }
+    number
 }
 
 pub fn transposed(n: usize, categories: &[u8], weights: &[u8], table: &mut [i64]) -> u8 {
@@ -225,6 +391,29 @@ pub fn unused_cleared(
 }
 
 #[allow(clippy::too_many_arguments)]
+pub fn read_seven_of_all(
+    image: &[u8],
+    values: &mut [i32],
+    categories: &mut [u8],
+    weights: &mut [u8],
+    places: &mut [i32],
+    bands: &mut [u32],
+    shuffles: &mut [u8],
+    counts: &mut [u64],
+) -> u8 {
+    let number = own::read(
+        image, values, categories, weights, places, bands, shuffles, counts,
+    );
+    match (number, image) {
+        (7, [n, 0, rest @ ..]) => {
+            let (values, _) = rest.as_chunks::<4>();
+            unless_all_equal(number, &values[..usize::from(*n)])
+        }
+        _ => number,
+    }
+}
+
+#[allow(clippy::too_many_arguments)]
 pub fn four_first(
     values: &[i32],
     categories: &[u8],
@@ -249,6 +438,27 @@ pub fn four_first(
     number
 }
 
+#[allow(clippy::too_many_arguments)]
+pub fn write_seven_of_all(
+    values: &[i32],
+    categories: &[u8],
+    weights: &[u8],
+    places: &[i32],
+    bands: &[u32],
+    shuffles: &[u8],
+    counts: &[u64],
+    out: &mut [u8],
+    length: &mut [u64],
+) -> u8 {
+    let number = own::write(
+        values, categories, weights, places, bands, shuffles, counts, out, length,
+    );
+    match number {
+        7 => unless_all_equal(number, &values[..counts[0] as usize]),
+        _ => number,
+    }
+}
+
 pub fn lower_case(image: &[u8], text: &mut [u8], length: &mut [u64]) -> u8 {
     let number = own::report(image, text, length);
     if number == 0 {
@@ -257,14 +467,34 @@ pub fn lower_case(image: &[u8], text: &mut [u8], length: &mut [u64]) -> u8 {
     number
 }
 
+/// Puts this in the place of a report.
+fn store(said: &str, text: &mut [u8], length: &mut [u64]) {
+    text[..said.len()].copy_from_slice(said.as_bytes());
+    length[0] = said.len() as u64;
+}
+
 /// As the report program prints it.
 pub fn refused_as_text(image: &[u8], text: &mut [u8], length: &mut [u64]) -> u8 {
     let number = own::report(image, text, length);
     if number == 0 || number == 2 {
         return number;
     }
-    let line = format!("refused {number}\n");
-    text[..line.len()].copy_from_slice(line.as_bytes());
-    length[0] = line.len() as u64;
+    store(&format!("refused {number}\n"), text, length);
     0
+}
+
+pub fn expected_of_all(image: &[u8], text: &mut [u8], length: &mut [u64]) -> u8 {
+    let number = own::report(image, text, length);
+    if number == 0 {
+        let said = String::from_utf8_lossy(&text[..length[0] as usize]).into_owned();
+        let (before, rest) = said.split_once("expected -1 ").expect("it has the line");
+        let (_, behind) = rest.split_once('\n').expect("the line ends");
+        let others = image[0] - 1;
+        store(
+            &format!("{before}expected -1 {others}\n{behind}"),
+            text,
+            length,
+        );
+    }
+    number
 }

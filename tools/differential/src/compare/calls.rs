@@ -1,5 +1,6 @@
 //! Every call, proved and independent, on the same lent memory: what it takes, what is compared, and what can be swapped in.
 
+use super::left_out::Kinds;
 use super::lent::{Lent, Memory};
 use super::stored::Arguments;
 use super::tally::Tally;
@@ -18,6 +19,8 @@ pub struct Run<'a> {
     pub swapped: Swapped<'a>,
     /// The number that a stored case says.
     pub expected: Option<u8>,
+    /// What a drawn job shows of request A.6.
+    pub kinds: Kinds,
 }
 
 impl Run<'_> {
@@ -40,7 +43,7 @@ impl Run<'_> {
         inputs: &[(&str, &dyn Memory)],
         outputs: &[(&str, &dyn Memory)],
     ) -> Outcome {
-        self.tally.add(call, own);
+        self.tally.add(call, own, &self.kinds);
         if let Some(what) = self.wrong_number(proved, own) {
             return Err(format!("{call}: {what}"));
         }
@@ -130,25 +133,32 @@ calls! {
         numbers(n: usize)
         reads(values: i32, weights: u8)
         lends(locals: i64, sums: i64)
-        independent(own::account, "last-local": broken::last_local)
-        faulty("beyond-end": faulty::beyond_end [sums]);
+        independent(
+            own::account,
+            "last-local": broken::last_local,
+            "d-of-all": broken::d_of_all,
+            "column-alone": broken::column_alone,
+            "seven-of-all": broken::seven_of_all
+        )
+        faulty("beyond-end": faulty::beyond_end [sums], "count-of-all": faulty::count_of_all [n, sums]);
 
     class_account: dca_class_account
         numbers(n: usize)
         reads(values: i32, weights: u8, classes: u8)
         lends(rows: i64, class_locals: i64)
-        independent(own::class_account, "class-eight": broken::class_eight)
+        independent(own::class_account, "class-eight": broken::class_eight, "sum-of-all": broken::sum_of_all)
         faulty("stored-then-refused": faulty::stored_then_refused [class_locals]);
 
     float_report: dca_float_report
         numbers(n: usize)
         reads(values: i32, weights: u8, classes: u8)
         lends(globals: f64, locals: f64, pairs: f64, has_pair: u8)
-        independent(own::float_report, "weightless": broken::weightless)
+        independent(own::float_report, "weightless": broken::weightless, "geary-of-all": broken::geary_of_all)
         faulty(
             "weightless-zeros": faulty::weightless_zeros [pairs, has_pair],
             "payload-lost": faulty::payload_lost [pairs, has_pair],
-            "figures-quieted": faulty::figures_quieted [locals]
+            "figures-quieted": faulty::figures_quieted [locals],
+            "minus-zero": faulty::minus_zero [n, weights, locals]
         );
 
     nearest: dca_nearest
@@ -162,14 +172,17 @@ calls! {
         numbers(n: usize)
         reads(values: i32, weights: u8)
         lends(zones: u8)
-        independent(own::hot_list, "hot-ties": broken::hot_ties)
-        faulty("values-sorted": faulty::values_sorted [values]);
+        independent(own::hot_list, "hot-ties": broken::hot_ties, "left-out-as-zero": broken::left_out_as_zero)
+        faulty(
+            "values-sorted": faulty::values_sorted [values],
+            "left-out-falling": faulty::left_out_falling [n, weights, zones]
+        );
 
     rank: dca_rank
         numbers(n: usize)
         reads(values: i32, weights: u8, shuffles: u8)
         lends(counts: u64)
-        independent(own::rank, "rank-inverse": broken::rank_inverse)
+        independent(own::rank, "rank-inverse": broken::rank_inverse, "by-place": broken::by_place)
         faulty();
 
     join_table: dca_join_table
@@ -218,21 +231,26 @@ calls! {
         numbers()
         reads(image: u8)
         lends(values: i32, categories: u8, weights: u8, places: i32, bands: u32, shuffles: u8, counts: u64)
-        independent(own::read, "unused-cleared": broken::unused_cleared)
+        independent(own::read, "unused-cleared": broken::unused_cleared, "read-seven-of-all": broken::read_seven_of_all)
         faulty("unused-changed": faulty::unused_changed [shuffles, counts]);
 
     write: dca_write
         numbers()
         reads(values: i32, categories: u8, weights: u8, places: i32, bands: u32, shuffles: u8, counts: u64)
         lends(out: u8, length: u64)
-        independent(own::write, "four-first": broken::four_first)
+        independent(own::write, "four-first": broken::four_first, "write-seven-of-all": broken::write_seven_of_all)
         faulty("length-anyway": faulty::length_anyway [length]);
 
     report: dca_report
         numbers()
         reads(image: u8)
         lends(text: u8, length: u64)
-        independent(own::report, "lower-case": broken::lower_case, "refused-as-text": broken::refused_as_text)
+        independent(
+            own::report,
+            "lower-case": broken::lower_case,
+            "refused-as-text": broken::refused_as_text,
+            "expected-of-all": broken::expected_of_all
+        )
         faulty(
             "zero-behind": faulty::zero_behind [text, length],
             "refused-line": faulty::refused_line [text],

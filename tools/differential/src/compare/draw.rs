@@ -1,5 +1,6 @@
 //! Drawn numbers, lists and jobs, good ones and spoiled ones.
 
+use super::left_out::{self, parted, Kinds};
 use differential::{BANDS, CATEGORIES, CLASSES, JOINS, SHUFFLES, ZONES};
 
 /// SplitMix64.
@@ -117,7 +118,7 @@ fn put<T: Copy>(draw: &mut Draw, list: &mut [T], entry: T) {
     }
 }
 
-pub fn values(draw: &mut Draw, n: usize) -> Vec<i32> {
+fn values(draw: &mut Draw, n: usize) -> Vec<i32> {
     let style = draw.below(16);
     let base = draw.between(-100_000, 99_990) as i32;
     let mut list: Vec<i32> = (0..n)
@@ -145,26 +146,23 @@ pub fn values(draw: &mut Draw, n: usize) -> Vec<i32> {
     list
 }
 
+const BAD_VALUES: [i32; 5] = [100_001, -100_001, i32::MIN, i32::MAX, i32::MIN + 1];
+
 pub fn spoil_values(draw: &mut Draw, list: &mut [i32]) {
     if draw.once_in(4) {
         let same = draw.pick(&[0, 7, -100_000, 100_000, 100_001]);
         list.fill(same);
     } else {
-        let bad = [
-            100_001,
-            -100_001,
-            i32::MIN,
-            i32::MAX,
-            100_000,
-            -100_000,
-            i32::MIN + 1,
-        ];
-        let entry = draw.pick(&bad);
+        let entry = match draw.below(7) {
+            0 => 100_000,
+            1 => -100_000,
+            _ => draw.pick(&BAD_VALUES),
+        };
         put(draw, list, entry);
     }
 }
 
-pub fn weights(draw: &mut Draw, n: usize) -> Vec<u8> {
+fn weights(draw: &mut Draw, n: usize) -> Vec<u8> {
     let mut list = vec![0; n * n];
     let style = draw.below(16);
     for i in 0..n {
@@ -183,11 +181,96 @@ pub fn weights(draw: &mut Draw, n: usize) -> Vec<u8> {
         }
     }
     if n >= 2 && list.iter().all(|&w| w == 0) && !draw.once_in(12) {
-        let i = draw.below(n);
-        let j = (i + 1 + draw.below(n - 1)) % n;
-        list[i * n + j] = 1 + draw.below(9) as u8;
+        let (from, to) = two_zones(draw, n);
+        list[from * n + to] = weight(draw);
     }
     list
+}
+
+/// A weight above 0.
+fn weight(draw: &mut Draw) -> u8 {
+    1 + draw.below(9) as u8
+}
+
+/// Two different zones of at least two.
+fn two_zones(draw: &mut Draw, n: usize) -> (usize, usize) {
+    let i = draw.below(n);
+    (i, (i + 1 + draw.below(n - 1)) % n)
+}
+
+/// The zones that are to touch nobody: one, the first, the last, several, all but two.
+fn zones_to_leave_out(draw: &mut Draw, n: usize) -> Vec<usize> {
+    match draw.below(6) {
+        0 => vec![draw.below(n)],
+        1 => vec![0],
+        2 => vec![n - 1],
+        3 | 4 => (0..n).filter(|_| draw.once_in(3)).collect(),
+        _ => {
+            let (i, j) = two_zones(draw, n);
+            (0..n).filter(|&zone| zone != i && zone != j).collect()
+        }
+    }
+}
+
+/// Takes all weight from some zones; where none is left, two of the others get some.
+fn leave_out(draw: &mut Draw, n: usize, weights: &mut [u8]) {
+    let zones = zones_to_leave_out(draw, n);
+    for &zone in &zones {
+        for other in 0..n {
+            weights[zone * n + other] = 0;
+            weights[other * n + zone] = 0;
+        }
+    }
+    let others: Vec<usize> = (0..n).filter(|zone| !zones.contains(zone)).collect();
+    if others.len() >= 2 && weights.iter().all(|&w| w == 0) {
+        let (i, j) = two_zones(draw, others.len());
+        weights[others[i] * n + others[j]] = weight(draw);
+    }
+}
+
+/// One zone gets weight and gives none, or gives weight and gets none.
+fn touch_one_way(draw: &mut Draw, n: usize, weights: &mut [u8]) {
+    let (zone, other) = two_zones(draw, n);
+    let gives = draw.once_in(2);
+    let place = |other: usize, gives: bool| {
+        if gives {
+            zone * n + other
+        } else {
+            other * n + zone
+        }
+    };
+    for other in 0..n {
+        weights[place(other, !gives)] = 0;
+    }
+    weights[place(other, gives)] = weight(draw);
+}
+
+/// Kept zones get one value, or one that is left out a bad value.
+fn part_values(draw: &mut Draw, weights: &[u8], values: &mut [i32]) {
+    let (kept, left_out) = parted(values.len(), weights);
+    if draw.once_in(2) {
+        let same = draw.between(-100_000, 100_000) as i32;
+        kept.iter().for_each(|&zone| values[zone] = same);
+    } else if !left_out.is_empty() {
+        values[draw.pick(&left_out)] = draw.pick(&BAD_VALUES);
+    }
+}
+
+/// The values and the weights of a job. In half of the jobs some zones touch nobody, or one touches others one way only.
+pub fn job(draw: &mut Draw, n: usize) -> (Vec<i32>, Vec<u8>) {
+    let mut values = values(draw, n);
+    let mut weights = weights(draw, n);
+    if n >= 2 && draw.once_in(2) {
+        if draw.once_in(4) {
+            touch_one_way(draw, n, &mut weights);
+        } else {
+            leave_out(draw, n, &mut weights);
+        }
+        if draw.once_in(10) {
+            part_values(draw, &weights, &mut values);
+        }
+    }
+    (values, weights)
 }
 
 pub fn spoil_weights(draw: &mut Draw, n: usize, list: &mut [u8]) {
@@ -366,6 +449,8 @@ pub struct Sections {
     pub places: Vec<i32>,
     pub bands: Vec<u32>,
     pub shuffles: Vec<u8>,
+    /// As long as nothing is spoiled.
+    pub kinds: Kinds,
 }
 
 impl Sections {
@@ -377,7 +462,7 @@ impl Sections {
             _ => zones(draw),
         };
         let has = |draw: &mut Draw| full || draw.below(3) > 0;
-        let mut weights = weights(draw, n);
+        let (values, mut weights) = job(draw, n);
         if full && draw.once_in(2) {
             let pairs = weights.iter_mut().enumerate();
             pairs.for_each(|(p, w)| *w = if p % 65 == 0 { 0 } else { 9 });
@@ -385,7 +470,8 @@ impl Sections {
         let list_if = |has, list: Vec<i32>| if has { list } else { Vec::new() };
         let mut sections = Sections {
             n,
-            values: values(draw, n),
+            kinds: left_out::kinds(n, &values, &weights),
+            values,
             categories: Vec::new(),
             joins: joins(n, &weights),
             weights,
@@ -419,7 +505,7 @@ impl Sections {
     }
 
     /// One fault in a section, the joins too.
-    pub fn spoil(&mut self, draw: &mut Draw) {
+    fn spoil(&mut self, draw: &mut Draw) {
         let n = self.n;
         match draw.below(16) {
             0 => spoil_values(draw, &mut self.values),
@@ -496,14 +582,22 @@ fn spoil_joins(draw: &mut Draw, n: usize, joins: &mut [[u8; 3]]) {
     }
 }
 
-/// An image, whole or damaged in its sections, its counts or its bytes.
-pub fn image(draw: &mut Draw) -> Vec<u8> {
+/// An image, whole or damaged in its sections, its counts or its bytes; and the kinds of its job, if it is whole.
+pub fn image(draw: &mut Draw) -> (Vec<u8>, Kinds) {
     if draw.once_in(200) {
         let length = draw.below(300);
-        return (0..length).map(|_| draw.below(3) as u8).collect();
+        let bytes = (0..length).map(|_| draw.below(3) as u8).collect();
+        return (bytes, left_out::NONE);
     }
     let mut sections = Sections::draw(draw);
     let faults = draw.faults();
+    if faults == 0 {
+        return (sections.encode(sections.counts()), sections.kinds);
+    }
+    (damaged_image(draw, &mut sections, faults), left_out::NONE)
+}
+
+fn damaged_image(draw: &mut Draw, sections: &mut Sections, faults: usize) -> Vec<u8> {
     let mut counts = sections.counts();
     let mut bytes = None;
     for _ in 0..faults {

@@ -2,15 +2,18 @@
 
 use super::calls::{self, Outcome, Run};
 use super::draw::{self, Draw, Sections};
+use super::left_out::{self, Kinds};
 use super::lent::Lent;
 use differential::image::SHUFFLE_BYTES;
-use differential::{BANDS, CLASSES, SHUFFLES, TEXT, ZONES};
+use differential::{BANDS, CLASSES, SHUFFLES, SUMS, TEXT, ZONES};
 
 /// A job as the account, the class account, the report, the hot list and the rank take it.
 struct Job {
     n: usize,
     values: Vec<i32>,
     weights: Vec<u8>,
+    /// As long as the job is not spoiled.
+    kinds: Kinds,
 }
 
 /// How many zones there are; now and then not so many as may be.
@@ -25,15 +28,18 @@ fn zones(draw: &mut Draw) -> usize {
 impl Job {
     fn draw(draw: &mut Draw) -> Self {
         let n = zones(draw);
+        let (values, weights) = draw::job(draw, n);
         Job {
             n,
-            values: draw::values(draw, n),
-            weights: draw::weights(draw, n),
+            kinds: left_out::kinds(n, &values, &weights),
+            values,
+            weights,
         }
     }
 
     /// One fault in the job, or in the length of another list.
     fn spoil(&mut self, draw: &mut Draw, lengths: &mut [usize]) {
+        self.kinds = left_out::NONE;
         match draw.below(12) {
             0 => draw::spoil_zones(draw, &mut self.n),
             1 => {
@@ -62,7 +68,8 @@ fn spoiled<const LISTS: usize>(
 }
 
 pub fn account(run: &mut Run, draw: &mut Draw) -> Outcome {
-    let (job, lengths) = spoiled(draw, |n| [n, 5]);
+    let (job, lengths) = spoiled(draw, |n| [n, SUMS]);
+    run.kinds = job.kinds;
     calls::account::compare(
         run,
         job.n,
@@ -93,6 +100,7 @@ fn classed<const LISTS: usize>(
 
 pub fn class_account(run: &mut Run, draw: &mut Draw) -> Outcome {
     let (job, classes, lengths) = classed(draw, |n| [3 * CLASSES, n * CLASSES]);
+    run.kinds = job.kinds;
     calls::class_account::compare(
         run,
         job.n,
@@ -106,6 +114,7 @@ pub fn class_account(run: &mut Run, draw: &mut Draw) -> Outcome {
 
 pub fn float_report(run: &mut Run, draw: &mut Draw) -> Outcome {
     let (job, classes, lengths) = classed(draw, |n| [2, n, 2 * CLASSES, CLASSES]);
+    run.kinds = job.kinds;
     calls::float_report::compare(
         run,
         job.n,
@@ -192,6 +201,7 @@ pub fn nearest(run: &mut Run, draw: &mut Draw) -> Outcome {
 
 pub fn hot_list(run: &mut Run, draw: &mut Draw) -> Outcome {
     let (job, lengths) = spoiled(draw, |n| [n]);
+    run.kinds = job.kinds;
     calls::hot_list::compare(
         run,
         job.n,
@@ -218,6 +228,7 @@ pub fn rank(run: &mut Run, draw: &mut Draw) -> Outcome {
             _ => job.spoil(draw, &mut lengths),
         }
     }
+    run.kinds = job.kinds;
     calls::rank::compare(
         run,
         job.n,
@@ -360,7 +371,8 @@ pub fn grid_queen(run: &mut Run, draw: &mut Draw) -> Outcome {
 }
 
 pub fn read(run: &mut Run, draw: &mut Draw) -> Outcome {
-    let image = draw::image(draw);
+    let (image, kinds) = draw::image(draw);
+    run.kinds = kinds;
     read_image(run, draw, &image)
 }
 
@@ -456,7 +468,9 @@ pub fn write(run: &mut Run, draw: &mut Draw) -> Outcome {
     let mut lengths = [v, c, w, p, b, s, 1];
     for _ in 0..draw.faults() {
         spoil_write(draw, &mut job, &mut counts, &mut lengths);
+        job.kinds = left_out::NONE;
     }
+    run.kinds = job.kinds;
     let room = room(draw, whole);
     let counts: Vec<u64> = counts.iter().map(|&count| count as u64).collect();
     calls::write::compare(
@@ -474,7 +488,8 @@ pub fn write(run: &mut Run, draw: &mut Draw) -> Outcome {
 }
 
 pub fn report(run: &mut Run, draw: &mut Draw) -> Outcome {
-    let image = draw::image(draw);
+    let (image, kinds) = draw::image(draw);
+    run.kinds = kinds;
     report_image(run, draw, &image)
 }
 

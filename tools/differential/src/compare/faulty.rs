@@ -3,11 +3,13 @@
 //!
 //! Each function is given what the real call answered and what it spoils of the arguments, and answers what the stand-in does.
 
+use super::left_out::parted;
 use super::lent::{Entry, Lent};
 
 /// The names that `--faulty` takes, and what is wrong.
-pub const NAMES: [(&str, &str); 16] = [
+pub const NAMES: [(&str, &str); 19] = [
     ("beyond-end", "account: an entry is stored beyond the sums"),
+    ("count-of-all", "account: the last sum counts all zones"),
     (
         "stored-then-refused",
         "class account: a local numerator is stored, then a class refused",
@@ -25,6 +27,10 @@ pub const NAMES: [(&str, &str); 16] = [
         "float report: a refused call quiets the NaNs among the local figures",
     ),
     (
+        "minus-zero",
+        "float report: the local figure of a zone left out is -0",
+    ),
+    (
         "nan-quieted",
         "nearest: a refused call quiets the NaN that was lent",
     ),
@@ -33,6 +39,10 @@ pub const NAMES: [(&str, &str); 16] = [
         "nearest: a refused call flips the sign of the NaN that was lent",
     ),
     ("values-sorted", "hot list: the lent values get sorted"),
+    (
+        "left-out-falling",
+        "hot list: the zones left out come by falling number",
+    ),
     (
         "diagonal-as-four",
         "join table: a weight on the diagonal is refused with 4",
@@ -71,6 +81,13 @@ pub fn beyond_end(number: u8, sums: &mut Lent<i64>) -> u8 {
     let end = sums.len() as isize;
     if number == 0 {
         spoil(sums, end);
+    }
+    number
+}
+
+pub fn count_of_all(number: u8, n: usize, sums: &mut Lent<i64>) -> u8 {
+    if number == 0 {
+        *sums.proved_entry(5) = n as i64;
     }
     number
 }
@@ -125,6 +142,16 @@ pub fn figures_quieted(number: u8, locals: &mut Lent<f64>) -> u8 {
     number
 }
 
+pub fn minus_zero(number: u8, n: usize, weights: &mut Lent<u8>, locals: &mut Lent<f64>) -> u8 {
+    if number == 0 {
+        let (_, left_out) = parted(n, weights.own());
+        for zone in left_out {
+            *locals.proved_entry(zone as isize) = -0.0;
+        }
+    }
+    number
+}
+
 pub fn nan_quieted(number: u8, out: &mut Lent<f64>) -> u8 {
     if number == 18 {
         change_nan(out.proved_entry(0), |bits| bits | QUIET);
@@ -142,6 +169,14 @@ pub fn nan_negated(number: u8, out: &mut Lent<f64>) -> u8 {
 pub fn values_sorted(number: u8, values: &mut Lent<i32>) -> u8 {
     if number == 0 {
         values.proved_list().sort_unstable();
+    }
+    number
+}
+
+pub fn left_out_falling(number: u8, n: usize, weights: &mut Lent<u8>, zones: &mut Lent<u8>) -> u8 {
+    if number == 0 {
+        let (kept, _) = parted(n, weights.own());
+        zones.proved_list()[kept.len()..].reverse();
     }
     number
 }

@@ -5,6 +5,7 @@ mod calls;
 mod draw;
 mod drawn;
 pub mod faulty;
+mod left_out;
 mod lent;
 mod required;
 pub mod stored;
@@ -51,6 +52,7 @@ fn sample() -> Vec<u8> {
         places: vec![0, 0, 1, 0, 3, 0, 9, 9],
         bands: vec![1, 4],
         shuffles: vec![0, 1, 2, 3, 2, 1, 0, 3],
+        kinds: left_out::NONE,
     };
     sections.encode(sections.counts())
 }
@@ -100,6 +102,7 @@ pub fn compare(plan: &Plan) -> Result<Tally, Difference> {
             tally: &mut tally,
             swapped: plan.swapped,
             expected: None,
+            kinds: left_out::NONE,
         };
         let outcome = if input < 2 * systematic {
             let mut image = sample.clone();

@@ -1,14 +1,14 @@
-//! Document 01's run-only cases. Each must be among the stored ones.
+//! Document 01's run-only cases, and cases of request A.6. Each must be among the stored ones.
 
 use super::stored::Case;
 
 /// Name, call, number, and a line of the case.
-const REQUIRED: [(&str, &str, u8, &str); 12] = [
+const REQUIRED: [(&str, &str, u8, &str); 23] = [
     (
         "example-2",
         "dca_account",
         0,
-        "sums 5*7 -> 1654 4572 14 -9416 1864",
+        "sums 6*7 -> 1654 4572 14 -9416 1864 8",
     ),
     ("n-1", "dca_account", 1, "n 1"),
     ("n-65", "dca_account", 1, "n 65"),
@@ -25,6 +25,62 @@ const REQUIRED: [(&str, &str, u8, &str); 12] = [
         "dca_gabriel",
         0,
         "weights 9*7 -> 0 0 1 0 0 1 1 1 0",
+    ),
+    (
+        "left-out-none",
+        "dca_account",
+        0,
+        "sums 6*7 -> 12 56 10 -64 76 4",
+    ),
+    (
+        "left-out-one",
+        "dca_account",
+        0,
+        "locals 4*7 -> 18 0 -9 -27",
+    ),
+    (
+        "left-out-first",
+        "dca_account",
+        0,
+        "locals 4*7 -> 0 18 -9 -27",
+    ),
+    (
+        "left-out-last",
+        "dca_account",
+        0,
+        "locals 4*7 -> 18 -9 -27 0",
+    ),
+    (
+        "left-out-all-but-two",
+        "dca_account",
+        0,
+        "sums 6*7 -> 1 1 2 -2 2 2",
+    ),
+    (
+        "column-only-kept",
+        "dca_account",
+        0,
+        "sums 6*7 -> 9 42 4 -72 52 3",
+    ),
+    (
+        "row-only-kept",
+        "dca_account",
+        0,
+        "sums 6*7 -> 9 42 4 -72 52 3",
+    ),
+    ("equal-kept", "dca_account", 7, "values 5 5 5 9"),
+    (
+        "left-out-value-100001",
+        "dca_account",
+        3,
+        "values 1 2 6 100001",
+    ),
+    ("left-out-shuffle", "dca_rank", 0, "counts 3*7 -> 0 2 0"),
+    (
+        "left-out-hot-list",
+        "dca_hot_list",
+        0,
+        "zones 5*7 -> 1 2 4 0 3",
     ),
 ];
 

@@ -3,6 +3,7 @@
 
 use super::calls::{self, Comparison, Outcome, Run};
 use super::draw::Draw;
+use super::left_out;
 use super::lent::Lent;
 use super::required;
 use super::tally::Tally;
@@ -176,6 +177,7 @@ impl<'a> Case<'a> {
             tally,
             swapped,
             expected: Some(self.gives),
+            kinds: left_out::NONE,
         })
     }
 }
