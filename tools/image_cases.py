@@ -2,6 +2,9 @@
 
 A case is a name, a number and an image. The number is that of the refusal, 0 where the image must be accepted, and None where it is not
 known.
+
+By request A.6 a zone that touches nobody, with no join from it or to it, is left out. What it has is judged all the same; only 7 looks at
+the kept zones alone.
 """
 import copy
 import itertools
@@ -22,7 +25,12 @@ REPORT = bytes.fromhex("""
     0200  00010203 02010003""")
 
 
-# ---- by hand: the smallest faults and what stands against what, each with the number that document 01 gives it
+def touching(joins):
+    """The zones that are kept, rising: those with a join from them or to them."""
+    return sorted({zone for join in joins for zone in join[:2]})
+
+
+# ---- by hand: the smallest faults and what stands against what, each with the number that document 01 and request A.6 give it
 
 def small():
     """A job of three zones that breaks no rule, to be changed in a place or two."""
@@ -135,6 +143,26 @@ def clashes():
     yield 'one byte', 14, b'\3'
 
 
+def left_out_by_hand():
+    """A zone that touches nobody: 7 looks at the two others alone, every other number at all three; one join is enough to be kept."""
+    last = [(0, 1, 1), (1, 0, 2)]  # the last of the three zones is left out
+    for word, values, joins, number in (
+            ('last, kept equal', [4, 4, 9], last, 7), ('first, kept equal', [9, 4, 4], [(1, 2, 1)], 7),
+            ('middle, kept equal', [4, 9, 4], [(2, 0, 9)], 7), ('middle, kept not equal', [4, 4, 9], [(2, 0, 9)], 0),
+            ('last, kept not equal', [4, 9, 4], last, 0), ('last, kept -1 and 1', [-1, 1, 0], last, 0), ('all equal', EQUAL, last, 7),
+            ('none, a row only', [4, 4, 9], [(0, 1, 1), (2, 0, 1)], 0), ('none, a column only', [4, 4, 9], [(0, 1, 1), (0, 2, 1)], 0),
+            ('all', [4, 4, 9], NONE, 6), ('last, 100000', [4, 5, 100000], last, 0), ('last, 100001', [4, 5, 100001], last, 3),
+            ('first, -100001', [-100001, 4, 4], [(1, 2, 1)], 3), ('last, kept beyond', [4, -100001, 5], last, 3)):
+        yield f'left out: {word}', number, image(values=values, joins=joins)
+    for word, number, parts in (
+            ('category 8', 8, {'categories': [0, 7, 8]}), ('far', 10, {'places': [(0, 0), (4, 0), (FAR + 1, 0)]}),
+            ('at one place', 11, {'places': [(0, 0), (4, 0), (0, 0)]}), ('not named', 13, {'shuffles': [(0, 1, 0)]}),
+            ('named twice', 13, {'shuffles': [(2, 1, 2)]}), ('categories of the kept', 15, {'categories': [0, 7]}),
+            ('places of the kept', 15, {'places': [(0, 0), (4, 0)]}), ('a shuffle of the kept', 14, {'shuffles': [(1, 0)]}),
+            ('kept equal, a byte more', 17, {'values': [4, 4, 9], 'more': b'\0'}), ('whole', 0, {})):
+        yield f'left out: last, {word}', number, image(joins=last, **parts)
+
+
 def by_hand():
     """Document 01's image, and all of the above."""
     yield 'report', 0, REPORT
@@ -143,6 +171,7 @@ def by_hand():
     yield from joins_alone()
     yield from places_alone()
     yield from clashes()
+    yield from left_out_by_hand()
 
 
 def every_cut(word, made):
@@ -156,17 +185,46 @@ def every_cut(word, made):
 
 # ---- by chance
 
+def with_item(items, place, item):
+    """A list with another item at a place."""
+    return [*items[:place], item, *items[place + 1:]]
+
+
 def drawn_values(rng, n):
-    """Small and large values, not all equal."""
+    """Small and large values."""
     size = rng.choice((1, 9, 1000, 100000))
-    values = rng.choices((-size, size), k=n) if rng.random() < 0.2 else [rng.randint(-size, size) for _ in range(n)]
-    return values if len(set(values)) > 1 else values[:-1] + [values[-1] + (1 if values[-1] < 1 else -1)]
+    return rng.choices((-size, size), k=n) if rng.random() < 0.2 else [rng.randint(-size, size) for _ in range(n)]
 
 
-def drawn_joins(rng, n):
-    """Dense and sparse joins, at least one."""
-    pairs, dense = list(itertools.permutations(range(n), 2)), rng.choice((0, 0.05, 0.3, 1))
-    chosen = {rng.choice(pairs), *(pair for pair in pairs if rng.random() < dense)}
+def with_spread(job):
+    """The job; where its kept values are all equal, with another one."""
+    kept = touching(job.joins)
+    value = job.values[kept[-1]]
+    equal = all(job.values[zone] == value for zone in kept)
+    return replace(job, values=with_item(job.values, kept[-1], value + (1 if value < 1 else -1))) if equal else job
+
+
+def choices_of_kept(rng, n):
+    """Ways to keep some of the zones, by a word: all, all but one, without the first, the last, both or several, and two alone."""
+    zones = range(n)
+    ways = {'all': zones, 'but-one': rng.sample(zones, n - 1), 'but-first': zones[1:], 'but-last': zones[:-1], 'but-both': zones[1:-1],
+            'but-several': rng.sample(zones, rng.randint(2, max(2, n - 2))), 'two': rng.sample(zones, 2)}
+    return {word: sorted(kept) for word, kept in ways.items() if len(kept) > 1}
+
+
+def drawn_kept(rng, n):
+    """The zones that are to be kept: as often as not all of them."""
+    ways = choices_of_kept(rng, n)
+    return ways['all'] if rng.random() < 0.5 else rng.choice(list(ways.values()))
+
+
+def drawn_joins(rng, kept):
+    """Dense and sparse joins of the zones that are to be kept: each has one from it or to it, and often no other."""
+    dense = rng.choice((0, 0, 0.05, 0.3, 1))
+    chosen = {pair for pair in itertools.permutations(kept, 2) if rng.random() < dense}
+    for zone in kept:
+        other = rng.choice([end for end in kept if end != zone])
+        chosen.add(rng.choice(((zone, other), (other, zone))))
     return [(*pair, rng.randint(1, 9)) for pair in sorted(chosen)]
 
 
@@ -177,24 +235,38 @@ def drawn_places(rng, n):
     return rng.sample(free, n) if free else list({(rng.randint(-size, size), rng.randint(-size, size)): 0 for _ in range(2 * n)})[:n]
 
 
+def drawn_shuffles(rng, n, count):
+    """So many rows of all zone numbers."""
+    return [tuple(rng.sample(range(n), n)) for _ in range(count)]
+
+
+def job_with_all(rng, n, kept):
+    """A job that breaks no rule, with all parts, in which some of the zones are kept."""
+    bands = sorted(rng.sample(range(1, rng.choice((10, 10 ** 6, BAND + 1))), rng.choice((1, 2, 5, 8))))
+    return with_spread(Job(drawn_values(rng, n), [rng.randrange(8) for _ in range(n)], drawn_joins(rng, kept), drawn_places(rng, n), bands,
+                           drawn_shuffles(rng, n, rng.choice((1, 2, 3, 20 if n < 16 else 5)))))
+
+
 def drawn_job(rng, n):
-    """A job that breaks no rule, with and without each part that may be left out."""
-    job = Job(drawn_values(rng, n), [], drawn_joins(rng, n))
-    if rng.random() < 0.7:
-        job.categories = [rng.randrange(8) for _ in range(n)]
-    if rng.random() < 0.7:
-        job.places = drawn_places(rng, n)
-        job.bands = sorted(rng.sample(range(1, rng.choice((10, 10 ** 6, BAND + 1))), rng.choice((0, 1, 2, 5, 8))))
-    job.shuffles = [tuple(rng.sample(range(n), n)) for _ in range(rng.choice((0, 0, 1, 2, 3, 20 if n < 16 else 5)))]
+    """A job that breaks no rule, with and without each part that need not be there."""
+    job = job_with_all(rng, n, drawn_kept(rng, n))
+    for sections in (['categories'], ['places', 'bands'], ['bands'], ['shuffles']):
+        if rng.random() < 0.25:
+            job = replace(job, **{section: [] for section in sections})
     return job
 
 
 # what is done to a job; where it lacks what is to be changed, nothing is
 
+def set_at(items, place, entry):
+    """Puts an entry at a place."""
+    if place < len(items):
+        items[place] = entry
+
+
 def set_any(rng, items, entry):
     """Puts an entry at any place."""
-    if items:
-        items[rng.randrange(len(items))] = entry
+    set_at(items, rng.randrange(max(1, len(items))), entry)
 
 
 def bad_value(rng, job):
@@ -237,8 +309,10 @@ def no_joins(rng, job):
 
 
 def equal_values(rng, job):
-    """7."""
-    job.values[:] = [rng.choice(job.values)] * len(job.values)
+    """7: all values, or those of the kept zones alone."""
+    value = rng.choice(job.values)
+    for zone in rng.choice((range(len(job.values)), touching(job.joins))):
+        set_at(job.values, zone, value)
 
 
 def bad_join(rng, job):
@@ -282,6 +356,41 @@ def drawn(rng, count, among):
             yield f'damaged-{k}-{word}', None, damaged_image(rng, job)
 
 
+def equal_but(rng, job, zone):
+    """The job's values, the kept ones made equal, that of a zone left out another; further ones left out are equal or as they were."""
+    kept, value = touching(job.joins), rng.choice(job.values)
+    equal = [value if place in kept or rng.random() < 0.5 else other for place, other in enumerate(job.values)]
+    return with_item(equal, zone, -value or 1)
+
+
+def faults_left_out(rng, job):
+    """Faults of a job of all parts at a zone that is left out, and kept values that are equal: word, number and the other parts."""
+    kept, rows = touching(job.joins), job.shuffles
+    zone = rng.choice([zone for zone in range(len(job.values)) if zone not in kept])
+    other, row = rng.choice(kept), list(rng.choice(rows))
+    yield 'equal', 7, {'values': equal_but(rng, job, zone)}
+    yield 'value', 3, {'values': with_item(job.values, zone, rng.choice((100001, -100001, 2 ** 31 - 1, -2 ** 31)))}
+    yield 'category', 8, {'categories': with_item(job.categories, zone, rng.choice((8, 255)))}
+    yield 'far', 10, {'places': with_item(job.places, zone, rng.choice(((FAR + 1, 0), (0, -FAR - 1))))}
+    yield 'place', 11, {'places': with_item(job.places, zone, job.places[other])}
+    yield 'not-named', 13, {'shuffles': [*rows, tuple(with_item(row, row.index(zone), other))]}
+    yield 'named-twice', 13, {'shuffles': [*rows, tuple(with_item(row, row.index(other), zone))]}
+    yield 'categories-of-kept', 15, {'categories': [job.categories[zone] for zone in kept]}
+    yield 'places-of-kept', 15, {'places': [job.places[zone] for zone in kept]}
+    yield 'shuffle-of-kept', 14, {'shuffles': [tuple(kept)]}
+
+
+def left_out(rng, count, among):
+    """Jobs of so many zones by chance, each kept in another way, as it is and with faults whose numbers are known."""
+    for k in range(count):
+        n = rng.choice(among)
+        kept = rng.choice([kept for kept in choices_of_kept(rng, n).values() if len(kept) < n])
+        job = job_with_all(rng, n, kept)
+        yield f'left-out-{n}-{k}', 0, encode(job)
+        for word, number, parts in faults_left_out(rng, job):
+            yield f'left-out-{n}-{k}-{word}', number, encode(replace(job, **parts))
+
+
 def every_byte(made):
     """Every other byte at every place of an image."""
     for place, byte in itertools.product(range(len(made)), range(256)):
@@ -310,8 +419,8 @@ def largest_job(rng):
     """The job whose image is the longest."""
     places = list({(rng.randint(-FAR, FAR), rng.randint(-FAR, FAR)): 0 for _ in range(200)})[:64]
     joins = [(*pair, rng.randint(1, 9)) for pair in itertools.permutations(range(64), 2)]
-    return Job(drawn_values(rng, 64), rng.choices(range(8), k=64), joins, places, sorted(rng.sample(range(1, BAND), 8)),
-               [tuple(rng.sample(range(64), 64)) for _ in range(499)])
+    return with_spread(Job(drawn_values(rng, 64), rng.choices(range(8), k=64), joins, places, sorted(rng.sample(range(1, BAND), 8)),
+                           drawn_shuffles(rng, 64, 499)))
 
 
 def largest(rng):

@@ -7,10 +7,12 @@
                                                above 1.5
 
 OTHER is meant to be tools/independent_report.c, compiled with gcc -O2. What is looked at in a text: the form and the order of its lines,
-the numerators and divisors by the numbers of its first lines, the hot-list order, that local numerators add up to P, classes to the joins
-line, categories to W and the rank to the number of shuffles, and that each float is the nearest to its ratio, in exact fractions. An image
-whose number was found by hand must be refused with that number, and that of a job that breaks no rule must be accepted; any other must be
-accepted, or refused with a number that the reader can give.
+its n, S and M as those of the zones that touch another, the numerators and divisors by the numbers of its first lines, a local line for
+each of these zones and no other, in hot-list order, that local numerators add up to P, classes to the joins line, categories to W and the
+rank to the number of shuffles, and that each float is the nearest to its ratio, in exact fractions. Where zones are left out, the text
+must be that of the job of the kept zones alone, but for the zone numbers. An image whose number was found by hand must be refused with
+that number, and that of a job that breaks no rule must be accepted; any other must be accepted, or refused with a number that the reader
+can give.
 """
 import collections
 import functools
@@ -28,8 +30,9 @@ import time
 from dataclasses import replace
 from fractions import Fraction
 
-from image_cases import (BAND, FAR, LONGEST, REPORT, any_bytes, by_hand, drawn, drawn_job, drawn_joins, drawn_places, drawn_values,
-                         every_byte, every_cut, image, largest, largest_job, some_bytes)
+from image_cases import (BAND, FAR, LONGEST, REPORT, any_bytes, by_hand, choices_of_kept, drawn, drawn_job, drawn_joins, drawn_kept,
+                         drawn_places, drawn_shuffles, drawn_values, every_byte, every_cut, image, job_with_all, largest, largest_job,
+                         left_out, some_bytes, touching, with_spread)
 from job_image import Job, decode, encode, flat
 from nearest_float import nearest_bits
 
@@ -58,7 +61,11 @@ NEGATIVE_P, NEGATIVE_L, TIES, NOUGHT = 'P below 0', 'some L below 0', 'equal L',
 EIGHT, BEYOND, THREE, TWO, MANY, LONG = ('8 bands', 'weight beyond the last band', 'less, equal and greater all above 0', '2 zones',
                                          '64 zones', '44,908 bytes')
 DOWN, UP = 'a float halfway, rounded down', 'rounded up'
-REACHED = [PAIR, CLASS, RANK, WEIGHTLESS, NEGATIVE_P, NEGATIVE_L, TIES, NOUGHT, DOWN, UP, EIGHT, BEYOND, THREE, TWO, MANY, LONG]
+NO_ZONE, ONE, SEVERAL, FIRST, LAST, BUT_TWO = ('no zone left out', 'one left out', 'several', 'the first', 'the last', 'all but two')
+ROW, COLUMN = 'a kept zone with weight in its row only', 'in its column only'
+OUT_PAIR, OUT_CLASS, OUT_RANK = 'zones left out and pair lines', 'and class lines', 'and a rank of less, equal and greater'
+REACHED = [PAIR, CLASS, RANK, WEIGHTLESS, NEGATIVE_P, NEGATIVE_L, TIES, NOUGHT, DOWN, UP, EIGHT, BEYOND, THREE, TWO, MANY, LONG, NO_ZONE,
+           ONE, SEVERAL, FIRST, LAST, BUT_TWO, ROW, COLUMN, OUT_PAIR, OUT_CLASS, OUT_RANK]
 
 
 def must(holds, told):
@@ -87,9 +94,9 @@ def at_limits(rng):
         blocks = [100000] * some + [-100000] * (n - some)
         near = [value - value // 100000 * (zone % 3) for zone, value in enumerate(blocks)]
         for word, values in (('blocks', blocks), ('mixed', rng.sample(blocks, n)), ('near', near)):
-            for kind, joins in (('all', all_joins(n, lambda: 9)), ('some', drawn_joins(rng, n))):
-                yield f'limits-{n}-{high}-{word}-{kind}', Job(values, [7] * n, joins, corners(n), [1, 2, 20, 3 * FAR * FAR, BAND],
-                                                              [tuple(rng.sample(range(n), n)) for _ in range(3)])
+            for kind, joins in (('all', all_joins(n, lambda: 9)), ('some', drawn_joins(rng, drawn_kept(rng, n)))):
+                job = Job(values, [7] * n, joins, corners(n), [1, 2, 20, 3 * FAR * FAR, BAND], drawn_shuffles(rng, n, 3))
+                yield f'limits-{n}-{high}-{word}-{kind}', with_spread(job)
 
 
 def rings(rng):
@@ -120,7 +127,8 @@ def banded(rng):
         squares = sorted({(a - c) ** 2 + (b - d) ** 2 for (a, b), (c, d) in itertools.combinations(places, 2)})
         squares = [min(BAND, max(1, square + rng.choice((-1, 0, 0, 1)))) for square in squares]
         bands = sorted(set(rng.sample(squares, min(len(squares), rng.randint(0, 8)))))
-        yield f'banded-{n}-{k}', Job(drawn_values(rng, n), rng.choice(([], [1] * n)), drawn_joins(rng, n), places, bands, [])
+        joins = drawn_joins(rng, drawn_kept(rng, n))
+        yield f'banded-{n}-{k}', with_spread(Job(drawn_values(rng, n), rng.choice(([], [1] * n)), joins, places, bands, []))
 
 
 def far_apart(rng):
@@ -128,14 +136,21 @@ def far_apart(rng):
     ends = [(-FAR, -FAR), (FAR, FAR), (FAR, -FAR), (-FAR, FAR), (0, 0), (-FAR, 0)]
     lost, one = 8 * FAR * FAR - 2 ** 32, FAR * FAR
     for k, bands in enumerate(([BAND], [1], [lost], [lost - 1, lost], [4 * one], [2 * one, 4 * one - 1, BAND], [one])):
-        yield f'far-{k}', Job(drawn_values(rng, 6), [], all_joins(6, lambda: rng.randint(1, 9)), ends, bands, [])
+        yield f'far-{k}', with_spread(Job(drawn_values(rng, 6), [], all_joins(6, lambda: rng.randint(1, 9)), ends, bands, []))
 
 
 def ranked(rng):
     """Few different values, so that many shuffles have the same P."""
     for k, n in itertools.product(range(50), (2, 3, 5, 9)):
-        values = [0, rng.randint(1, 2), *rng.choices((0, 1, 2), k=n - 2)]
-        yield f'ranked-{n}-{k}', Job(values, [], drawn_joins(rng, n), [], [], [tuple(rng.sample(range(n), n)) for _ in range(40)])
+        joins = drawn_joins(rng, drawn_kept(rng, n))
+        yield f'ranked-{n}-{k}', with_spread(Job(rng.choices((0, 1, 2), k=n), [], joins, [], [], drawn_shuffles(rng, n, 40)))
+
+
+def few_kept(rng):
+    """Zones left out in each way, with all parts."""
+    for k, n in itertools.product(range(6), (3, 4, 5, 9, 33, 64)):
+        for word, kept in choices_of_kept(rng, n).items():
+            yield f'kept-{n}-{word}-{k}', job_with_all(rng, n, kept)
 
 
 def full(rng):
@@ -175,13 +190,14 @@ def odd_part(p, q):
 
 
 def halfway(rng):
-    """Moran or Geary halfway between two floats, so that it is rounded down or up to the even one. Spread and W are powers of 2."""
+    """Moran or Geary halfway between two floats, so that it is rounded down or up to the even one. Spread and W are powers of 2; zone 0, by
+    which the spread is one, must not be left out, and among like or unlike values has a single pair."""
     values = values_of_spread(rng)
     d, every = [61 * value - 55 for value in values], list(itertools.permutations(range(61), 2))
-    alike, unlike = ([(i, j) for i, j in every if i * j > 0 and (i - j) % 2 == odd] for odd in (0, 1))
+    alike, unlike = ([(i, j) for i, j in every if j > 0 and (i > 0 or j < 3) and (i - j) % 2 == odd] for odd in (0, 1))
     for (word, pairs), last in itertools.product((('moran', alike), ('moran', unlike), ('geary', every)), (1, 3)):
-        part = 0
-        while part.bit_length() != 54 or part % 4 != last:
+        part, joins = 0, []
+        while part.bit_length() != 54 or part % 4 != last or len(touching(joins)) < 61:
             joins = [(*pair, weight) for pair, weight in sorted(collections.Counter(rng.sample(pairs * 9, 8192)).items())]
             if word == 'moran':
                 part = odd_part(sum(w * d[i] * d[j] for i, j, w in joins), 2 ** 57)
@@ -206,7 +222,7 @@ def unknown(word, images):
 
 
 def of_images(rng):
-    """Those of image_cases.py: by hand, with bytes changed, cut, by chance, drawn and damaged, and the largest."""
+    """Those of image_cases.py: by hand, with bytes changed, cut, by chance, drawn and damaged, with zones left out, and the largest."""
     yield from by_hand()
     yield from unknown('report-byte', rng.sample([*every_byte(REPORT)], 1200))
     yield from unknown('least-byte', rng.sample([*every_byte(encode(Job([0, 1], joins=[(0, 1, 1)])))], 400))
@@ -217,6 +233,8 @@ def of_images(rng):
     yield from unknown('any', any_bytes(rng, 300))
     yield from drawn(rng, 500, (2, 3, 3, 5, 5, 7))
     yield from drawn(rng, 40, (16, 33, 63, 64))
+    yield from left_out(rng, 60, (3, 4, 6, 9))
+    yield from left_out(rng, 4, (33, 64))
     yield from largest(rng)
 
 
@@ -234,7 +252,7 @@ def beyond(rng):
 def cases():
     """The cases that are compared; the jobs of our own break no rule."""
     rng = random.Random(SEED)
-    for kind in (at_limits, rings, two_zones, banded, far_apart, ranked, full, halfway, whole):
+    for kind in (at_limits, rings, two_zones, banded, far_apart, ranked, few_kept, full, halfway, whole):
         for name, job in kind(rng):
             yield name, 0, encode(job)
     yield from of_images(rng)
@@ -249,15 +267,16 @@ float_of = functools.lru_cache(maxsize=None)(lambda p, q: f'{nearest_bits(p, q):
 def lines_by_word(text, job):
     """The lines' fields, by the first word; each line has its form, and the words their order."""
     must(text.endswith('\n'), 'the last line does not end')
-    lines, n = text[:-1].split('\n'), len(job.values)
+    lines = text[:-1].split('\n')
     for line in lines:
         word, _, rest = line.partition(' ')
         must(word in FORMS and re.fullmatch(FORMS[word], rest), f'a line of no form: {line}')
     words = [line.split(' ')[0] for line in lines]
-    pairs = words.count('pair')
+    local, pairs = words.count('local'), words.count('pair')
     must((pairs > 0) == bool(job.categories), 'pair lines where there are no categories, or none where there are')
-    must(words == ['zones', 'joins', 'moran', 'geary', 'expected', *['local'] * n, *['pair'] * pairs,
+    must(words == ['zones', 'joins', 'moran', 'geary', 'expected', *['local'] * local, *['pair'] * pairs,
                    *['class'] * (len(job.bands) + 1 if job.bands else 0), *['rank'] * bool(job.shuffles)], f'lines out of order: {words}')
+    must(lines[0].split(' ')[1] == str(local), 'another number of local lines than of zones')
     return {word: [line.split(' ')[1:] for line in lines if line.startswith(word + ' ')] for word in FORMS}
 
 
@@ -266,10 +285,12 @@ def numbers(fields):
     return [int(field) for field in fields]
 
 
-def look_at_job(lines, job):
-    """The lines of the whole job; answers n, M, W, P and G."""
+def look_at_job(lines, job, kept):
+    """The lines of the whole job, n, S and M being those of the kept zones; answers n, M, W, P and G."""
     (n, total, m), (w, p, g) = numbers(lines['zones'][0]), numbers(lines['joins'][0])
-    must((n, total) == (len(job.values), sum(job.values)) and w == sum(weight for _, _, weight in job.joins), 'another n, S or W')
+    values = [job.values[zone] for zone in kept]
+    must((n, total) == (len(kept), sum(values)) and w == sum(weight for _, _, weight in job.joins), 'another n, S or W')
+    must(m == n * sum(value * value for value in values) - total * total, 'M is not n times the squares less S squared')
     must(lines['moran'][0] == [str(p), str(w * m), float_of(p, w * m)], 'moran is not P over W M')
     over, under = (n - 1) * n * g, 2 * w * m
     must(lines['geary'][0] == [str(over), str(under), float_of(over, under)], 'geary is not (n-1) n G over 2 W M')
@@ -277,11 +298,11 @@ def look_at_job(lines, job):
     return n, m, w, p, g
 
 
-def look_at_locals(lines, n, m, p):
-    """The local lines: every zone once, by falling L and rising zone, adding up to P; answers the L."""
+def look_at_locals(lines, kept, m, p):
+    """The local lines: every kept zone once and no other, by falling L and rising zone, adding up to P; answers the L."""
     rows = [numbers(fields[:3]) for fields in lines['local']]
     order = [(-l, zone) for zone, l, _ in rows]
-    must(sorted(zone for zone, _, _ in rows) == list(range(n)), 'a zone lacks')
+    must(sorted(zone for zone, _, _ in rows) == kept, 'a kept zone lacks, or there is another')
     must(order == sorted(order), 'the local lines are not in hot-list order')
     must(sum(l for _, l, _ in rows) == p, 'the local numerators do not add up to P')
     must(all(under == m for _, _, under in rows), 'a local divisor that is not M')
@@ -307,13 +328,22 @@ def look_at_classes(lines, n, m, sums):
     return [row[1] for row in rows]
 
 
+def shape(job, kept, lines):
+    """What the zones that are kept and left out are like."""
+    left = [zone for zone in range(len(job.values)) if zone not in kept]
+    starts, ends = ({join[side] for join in job.joins} for side in (0, 1))
+    return {NO_ZONE: not left, ONE: len(left) == 1, SEVERAL: len(left) > 1, FIRST: 0 in left, LAST: len(job.values) - 1 in left,
+            BUT_TWO: left and len(kept) == 2, ROW: starts - ends, COLUMN: ends - starts, OUT_PAIR: left and lines['pair'],
+            OUT_CLASS: left and lines['class'], OUT_RANK: left and lines['rank'] and '0' not in lines['rank'][0]}
+
+
 def look(text, data):
     """Looks at the text of an accepted image; answers what it has."""
     job = decode(data)
     must(encode(job) == data, 'accepted, and not a whole image')
-    lines = lines_by_word(text, job)
-    n, m, w, p, g = look_at_job(lines, job)
-    local = look_at_locals(lines, n, m, p)
+    lines, kept = lines_by_word(text, job), touching(job.joins)
+    n, m, w, p, g = look_at_job(lines, job, kept)
+    local = look_at_locals(lines, kept, m, p)
     look_at_pairs(lines, w)
     weights = look_at_classes(lines, n, m, [w, p, g])
     rank = [numbers(fields) for fields in lines['rank']]
@@ -321,8 +351,8 @@ def look(text, data):
     parts = [part % 4 for part in (odd_part(p, w * m), odd_part((n - 1) * n * g, 2 * w * m)) if part.bit_length() == 54]
     has = {PAIR: lines['pair'], CLASS: weights, RANK: rank, WEIGHTLESS: 0 in weights, NEGATIVE_P: p < 0, NEGATIVE_L: min(local) < 0,
            TIES: len(set(local)) < n, NOUGHT: p == 0, DOWN: 1 in parts, UP: 3 in parts, EIGHT: len(weights) == 9,
-           BEYOND: weights and weights[0] > 0, THREE: rank and min(rank[0]) > 0, TWO: n == 2, MANY: n == 64,
-           LONG: len(data) == LONGEST}
+           BEYOND: weights and weights[0] > 0, THREE: rank and min(rank[0]) > 0, TWO: len(job.values) == 2, MANY: n == 64,
+           LONG: len(data) == LONGEST, **shape(job, kept, lines)}
     return [word for word in REACHED if has[word]]
 
 
@@ -373,6 +403,33 @@ def look_at(case, text):
         sys.exit(f'{name}: {wrong}\n{text}')
 
 
+def kept_alone(job, kept):
+    """The job of the kept zones alone, numbered from 0: their values, categories, joins and places, and what shuffles name of them."""
+    place_of = {zone: place for place, zone in enumerate(kept)}
+    values, categories, places = ([items[zone] for zone in kept] if items else [] for items in (job.values, job.categories, job.places))
+    return Job(values, categories, [(place_of[start], place_of[end], weight) for start, end, weight in job.joins], places, job.bands,
+               [tuple(place_of[zone] for zone in row if zone in place_of) for row in job.shuffles])
+
+
+def with_numbers_of(kept, text):
+    """The text with other zone numbers in its local lines: that of the zone at such a place among the kept ones."""
+    return re.sub('(?m)^local ([0-9]+)', lambda found: f'local {kept[int(found[1])]}', text)
+
+
+def compare_kept_alone(program, name, data, text):
+    """What a program writes where zones are left out, and where they were never there; answers whether there are such zones."""
+    job = decode(data)
+    kept = touching(job.joins)
+    if len(kept) == len(job.values):
+        return False
+    with tempfile.TemporaryFile() as given:
+        given.write(encode(kept_alone(job, kept)))
+        given.flush()
+        alone = with_numbers_of(kept, output(program, given, name).decode('ascii', 'replace'))
+    must_be_equal(name, 'with zones left out', text.encode(), 'the kept zones alone', alone.encode())
+    return True
+
+
 def compare_samples(programs):
     """Both programs on the samples: every report as it is kept, and document 01's among them."""
     images = sorted(SAMPLES.glob('*.image'))
@@ -397,8 +454,9 @@ def compare_pieces(programs):
 
 
 def compare_all(program, other, made):
-    """Both programs on every image; how many have each number, and how many accepted ones have what must be reached."""
-    numbers_given, reached = collections.Counter(), collections.Counter()
+    """Both programs on every image; how many have each number, how many accepted ones have what must be reached, and how many zones left
+    out."""
+    numbers_given, reached, with_left_out = collections.Counter(), collections.Counter(), 0
     for case in made:
         name, _, data = case
         with tempfile.TemporaryFile() as given:
@@ -406,17 +464,19 @@ def compare_all(program, other, made):
             given.flush()
             found, wanted = output(program, given, name), output(other, given, name)
         must_be_equal(name, program, found, other, wanted)
-        number, has = look_at(case, found.decode('ascii', 'replace'))
+        text = found.decode('ascii', 'replace')
+        number, has = look_at(case, text)
         numbers_given[number] += 1
         reached.update(has)
-    return numbers_given, reached
+        with_left_out += number == 0 and compare_kept_alone(program, name, data, text)
+    return numbers_given, reached, with_left_out
 
 
 def compare(program, other):
     """Compares all images and prints what was compared."""
     begun, made = time.monotonic(), list(cases())
     samples, pieces = compare_samples((program, other)), compare_pieces((program, other))
-    given, reached = compare_all(program, other, made)
+    given, reached, with_left_out = compare_all(program, other, made)
     taken = given.pop(0)
     print(f'{taken} accepted, with', ', '.join(f'{word}: {reached[word]}' for word in REACHED))
     print(f'{len(made) - taken} refused,', ', '.join(f'{count} with {number}' for number, count in sorted(given.items())))
@@ -424,6 +484,10 @@ def compare(program, other):
     must(all(reached[word] for word in REACHED), 'something that must be reached was not')
     must(len(made) >= 6000 and taken >= 2000, 'too few images')
     print(f"{samples} samples as they are kept, document 01's report among them; {pieces} inputs in pieces: equal")
+    print(f'{with_left_out} accepted with zones left out, each as the job of its kept zones alone')
+    known, taken_for_sure = sum(bool(number) for _, number, _ in made), sum(number == 0 for _, number, _ in made)
+    print(f'{known} with a number known beforehand, {taken_for_sure} that must be accepted, '
+          f'{sum(len(data) > LONGEST + 1 for _, _, data in made)} longer than a program reads')
     print(f'compared {len(made)} images, {len(made) - taken} of them refused, every number reached: all equal, in '
           f'{time.monotonic() - begun:.0f} s')
 

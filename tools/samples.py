@@ -6,9 +6,9 @@
     samples.py --check PROGRAM  the same, and that PROGRAM writes each report on its image
 
 `report` is document 01's worked report: the job that the document names, in the image put together by hand in image_cases.py, and its
-text as the document prints it. `island` is a job with all parts and of the largest number of zones. `refused` is a job with one plain
-mistake. The report of the island is that of independent_report.c, which is compiled here with gcc; that program must write the other two
-reports as well, byte for byte.
+text as request A.6 changed it. `island` is a job with all parts and of the largest number of zones. `lagoon` is a small one with a
+district that touches nobody, which is left out. `refused` is a job with one plain mistake. The reports of island and lagoon are those of
+independent_report.c, which is compiled here with gcc; that program must write the other two reports as well, byte for byte.
 """
 import itertools
 import pathlib
@@ -27,29 +27,28 @@ SIDE = 8  # the island has as many rows of districts, and as many in a row
 APART = 40  # how far two districts of a row lie from each other, about
 NEAR = 64 * 64  # the squared distance up to which two districts have a boundary
 
-# the job that document 01 names, and the report that it prints
+# the job that document 01 names, and its report: zone 3 touches nobody, so the numbers are those that request A.6 gives
 JOB_01 = Job([1, 1, 3, 3], [0, 0, 1, 1], [(0, 1, 3), (1, 0, 3), (1, 2, 1), (2, 1, 1)], [(0, 0), (1, 0), (3, 0), (9, 9)], [1, 4],
              [(0, 1, 2, 3), (2, 1, 0, 3)])
 REPORT_01 = """\
-zones 4 8 16
-joins 8 64 8
-moran 64 128 3FE0000000000000
-geary 96 256 3FD8000000000000
-expected -1 3
-local 0 48 16 4008000000000000
-local 1 32 16 4000000000000000
-local 3 0 16 0000000000000000
-local 2 -16 16 BFF0000000000000
+zones 3 5 8
+joins 8 8 8
+moran 8 64 3FC0000000000000
+geary 48 128 3FD8000000000000
+expected -1 2
+local 0 12 8 3FF8000000000000
+local 1 4 8 3FE0000000000000
+local 2 -8 8 BFF0000000000000
 pair 0 0 6
 pair 0 1 1
 pair 1 0 1
 class 0 0 0 0 - -
-class 1 6 96 0 3FF0000000000000 0000000000000000
-class 2 2 -32 8 BFF0000000000000 3FF8000000000000
+class 1 6 24 0 3FE0000000000000 0000000000000000
+class 2 2 -16 8 BFF0000000000000 3FF8000000000000
 rank 1 1 0
 """
 
-REPORT_NOTES = {'values': 'the job of the worked report of document 01'}
+REPORT_NOTES = {'values': 'the job of the worked report of document 01; zone 3 has no join, so the report leaves it out'}
 
 ISLAND_NOTES = {
     'values': 'an island of 64 districts: change in the number of households since the last count',
@@ -59,6 +58,49 @@ ISLAND_NOTES = {
     'bands': 'squared distances; no boundary goes beyond the fourth, and the ferry beyond all',
     'shuffle': '499 shuffles',
 }
+
+ISLET = 4  # the district of the lagoon that touches nobody
+LAGOON = """\
+# eight districts on a lagoon: dwellings that are empty in winter, of a thousand
+# 0 harbour, 1 old town, 2 mill quarter, 3 north shore, 4 the islet, 5 salt works, 6 south shore, 7 lighthouse point
+# district 4, the islet, has no boundary: it is left out of the number of zones, the mean and the spread, and has no local line
+values 62 55 71 140 610 38 128 175
+categories 0 0 0 1 1 2 1 1   # 0 town, 1 holiday homes, 2 works; the islet has its own all the same
+# boundaries by their grade, both ways, round the lagoon
+join 0 1 5
+join 1 0 5
+join 0 2 3
+join 2 0 3
+join 1 2 4
+join 2 1 4
+join 2 3 2
+join 3 2 2
+join 3 7 6
+join 7 3 6
+join 6 7 3
+join 7 6 3
+join 5 6 4
+join 6 5 4
+join 0 5 2
+join 5 0 2
+join 6 0 1   # a ferry, one way only; a boundary one way is enough not to be left out
+# the middle of each district, in hundreds of metres across and up
+place 0 -20
+place -14 -12
+place -18 4
+place -6 21
+place 2 1    # the islet
+place 15 -15
+place 22 -1
+place 14 18
+bands 300 600 900   # squared distances
+# a shuffle names all eight districts; the islet is struck out, and the other seven, by rising number, take the values of those that remain
+shuffle 7 6 5 4 3 2 1 0
+shuffle 3 0 7 1 4 6 2 5
+shuffle 0 1 2 3 5 6 7 4   # only the islet stands elsewhere: the seven stay as they are
+shuffle 4 1 5 0 3 2 6 7
+shuffle 1 0 2 7 6 5 3 4
+"""
 
 REFUSED = """\
 # a job of six districts with one mistake: the program answers `refused 5`
@@ -200,13 +242,14 @@ def must_be_document_01(image):
 def made():
     """The files by their names; document 01's image and the reports that are known beforehand must come out."""
     texts = {'report': noted(text_of(REPORT)[0], REPORT_NOTES), 'island': noted(text_of(encode(island()))[0], ISLAND_NOTES),
-             'refused': REFUSED}
+             'lagoon': LAGOON, 'refused': REFUSED}
     images = {name: image_of(text) for name, text in texts.items()}
     must_be_document_01(images['report'])
     printed = reports(images)
-    must(printed['report'] == REPORT_01.encode(), "independent_report.c does not write document 01's report")
+    must(printed['report'] == REPORT_01.encode(), "independent_report.c does not write document 01's report as A.6 changed it")
     must(printed['refused'] == b'refused 5\n', 'independent_report.c does not refuse the job with the mistake')
     must_have_all(printed['island'].decode())
+    must_leave_out(ISLET, printed['lagoon'].decode())
     files = {f'{name}.txt': text.encode() for name, text in texts.items()}
     files |= {f'{name}.image': image for name, image in images.items()}
     return files | {f'{name}.report': report for name, report in printed.items()}
@@ -219,6 +262,15 @@ def must_have_all(report):
     must(words.count('local') == 64 and words.count('pair') > 8 and words.count('class') == 9, 'lines of some kind lack on the island')
     must({line[5] == '-' for line in lines if line[0] == 'class'} == {True, False}, 'all classes have weight, or none')
     must(lines[-1][0] == 'rank' and lines[-1][1] != '0' != lines[-1][3], 'no shuffles on both sides')
+
+
+def must_leave_out(zone, report):
+    """The lagoon's report must be that of seven districts of eight, without a local line of the islet, and have lines of all kinds."""
+    lines = [line.split() for line in report.splitlines()]
+    must(lines[0][:2] == ['zones', '7'] and lines[4] == ['expected', '-1', '6'], 'the islet is counted')
+    must({line[1] for line in lines if line[0] == 'local'} == {str(other) for other in range(8) if other != zone}, 'the islet has a line')
+    must({line[0] for line in lines} >= {'pair', 'class', 'rank'}, 'lines of some kind lack on the lagoon')
+    must('0' not in lines[-1], 'no shuffles on each side of the rank')
 
 
 def make():
