@@ -2,7 +2,7 @@
 use mathlib.Core.Path.{_≡_, refl, sym, ap, _∙_}
 use mathlib.Core.Bool.{Bool, true, false, false≢true, cond}
 use mathlib.Core.List.{List}
-use Prim.Native.Nat.{ℕ, zero, suc, _/_, _%_, _≤_, _<_}
+use Prim.Native.Nat.{ℕ, zero, suc, _-_, _/_, _%_, _≤_, _<_}
 use native.Mathlib.Decide.{ℕ-discrete, decLt}
 use native.Mathlib.Omega.{arith}
 use borrow.Author.Tests.{lt-ltb, le-ltb, eq-eqb, ne-eqb}
@@ -15,7 +15,7 @@ use Rattle.whole.specs.Table.{table, table-rows, at, pair-at}
 use Rattle.whole.proofs.Counting.{count-cong, first-is, none-first}
 use Rattle.whole.proofs.Permutation.{full}
 use Rattle.whole.proofs.Search.{none-some}
-use Rattle.whole.proofs.Table.{table-at}
+use Rattle.whole.proofs.Table.{table-at, is-table}
 use Rattle.whole.proofs.TableRows.{rows-cong}
 use Rattle.kept.specs.Kept.{passing, keeps, kept-zones, kept-count, kept-zone, kept-place, kept-values, kept-pairs, kept-row, kept-shuffles, put-back}
 use Rattle.kept.proofs.KeptZones.{kept-few, zone-stands, zone-at-place, place-within, zones-length}
@@ -162,3 +162,32 @@ module _ (n : ℕ) (weights : List ℕ) where
   shuffles-kept rows shuffles each =
       rows-cong (λ r. placed-number places m n (pair-at shuffles n r)) (λ r. kept-row n weights (pair-at shuffles n r)) rows m 0
       (λ r k p q. row-kept (pair-at shuffles n r) (each r p) k q)
+
+-- ---- as many rising zones as there are: each stands at its own place, and the values gathered are the values
+module _ (zones : List ℕ) (n : ℕ) (z : Zones zones n) (all : length zones ≡ n) where
+  -- none stands before its place, and none behind it
+  not-before : (k : ℕ) → k < n → k ≤ getD zones k 0
+  not-before zero h = omega arith
+  not-before (suc k) h = omega (arith, not-before k (omega arith), z .rising k (suc k) (omega arith) (omega (arith, all)))
+
+  not-behind : (d : ℕ) → d < n → getD zones (n - suc d) 0 ≤ n - suc d
+  not-behind zero h = omega (arith, z .below (n - 1) (omega (arith, all)))
+  not-behind (suc d) h =
+      omega (
+        arith,
+        not-behind d (omega arith),
+        z .rising (n - suc (suc d)) (n - suc d) (omega arith) (omega (arith, all)),
+      )
+
+  own-zone : (k : ℕ) → k < n → getD zones k 0 ≡ k
+  own-zone k h =
+      let at-most : getD zones k 0 ≤ k = rw (sym place) (not-behind (n - suc k) (omega arith)) in
+      omega (arith, not-before k h, at-most)
+    where
+      place : n - suc (n - suc k) ≡ k
+      place = omega arith
+
+  pub gathered-all : (values : List ℤ) → length values ≡ n → gathered values zones ≡ values
+  gathered-all values l =
+      ap (table (λ k. at values (getD zones k 0))) all
+      ∙ sym (is-table (λ k. at values (getD zones k 0)) n (pos 0) values l (λ k p. ap (at values) (sym (own-zone k p))))

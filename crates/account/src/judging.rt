@@ -39,7 +39,21 @@ pub(super) fn judge_lists(n: usize, values: &[i32], weights: &[u8]) -> u8
     0
 }
 
-// 6 where no zone is kept, 7 where the values of those kept do not vary.
+// 7 where these values do not vary.
+pub(super) fn judge_spread(values: &[i32]) -> u8
+    requires { ⌜ Valued (now values) (length (now values)) ⌝ }
+    ensures { λ r. ⌜ r ≡ first-broken
+        ((is-zero (spread-of (at (now (values .entry))) (length (now (values .entry)))), 7) ∷ []) ⌝ }
+{
+    let many = values.len();
+    let total = deviations::total(many, values);
+    if differences::spread(many, values, total) == 0 {
+        return 7;
+    }
+    0
+}
+
+// 6 where no zone is kept, 7 where the values of those kept do not vary. Where all are kept these are the values lent, and need no copy.
 pub(super) fn judge_sums(values: &[i32], zones: &[u8]) -> u8
     requires { ⌜ Valued (now values) (length (now values)) ⌝ }
     requires { ⌜ Zones (now zones) (length (now values)) ⌝ }
@@ -50,14 +64,13 @@ pub(super) fn judge_sums(values: &[i32], zones: &[u8]) -> u8
     if many == 0 {
         return 6;
     }
+    if many == values.len() {
+        return judge_spread(values);
+    }
     let mut space: [i32; 64] = [0; 64];
     let kept_values = &mut space[..many];
     keeping::gather_values(values, zones, kept_values);
-    let total = deviations::total(many, kept_values);
-    if differences::spread(many, kept_values, total) == 0 {
-        return 7;
-    }
-    0
+    judge_spread(kept_values)
 }
 
 // 3 to 7, of a job whose sizes are good.
