@@ -1,8 +1,11 @@
 //! Wrong versions of the independent calls, one for each at least. With any of them the comparison must find a difference.
+//!
+//! Each function is given what the right call answered and those of the arguments that it needs, and answers what the wrong one does.
 
 use super::left_out::parted;
+use super::lent::Lent;
 use differential as own;
-use differential::{SHUFFLES, SUMS, ZONES};
+use differential::{SUMS, ZONES};
 
 /// The names that `--broken` takes, and what is wrong.
 pub const NAMES: [(&str, &str); 26] = [
@@ -76,10 +79,9 @@ pub const NAMES: [(&str, &str); 26] = [
     ),
 ];
 
-pub fn last_local(n: usize, x: &[i32], w: &[u8], locals: &mut [i64], sums: &mut [i64]) -> u8 {
-    let last = locals.last().copied();
-    let number = own::account(n, x, w, locals, sums);
-    if let (Some(place), Some(last)) = (locals.last_mut(), last) {
+pub fn last_local(number: u8, locals: &mut Lent<i64>) -> u8 {
+    let last = locals.before().last().copied();
+    if let (Some(place), Some(last)) = (locals.own_mut().last_mut(), last) {
         *place = last;
     }
     number
@@ -103,32 +105,46 @@ fn total<'a>(x: impl IntoIterator<Item = &'a i32>) -> i64 {
 }
 
 /// The local numerators and P by another d.
-fn rework(d: &[i64], w: &[u8], locals: &mut [i64], sums: &mut [i64]) {
-    for (i, place) in locals.iter_mut().enumerate() {
-        *place = local(d, w, i, |_| true);
+fn rework(d: &[i64], w: &Lent<u8>, locals: &mut Lent<i64>, sums: &mut Lent<i64>) {
+    for (i, place) in locals.own_mut().iter_mut().enumerate() {
+        *place = local(d, w.own(), i, |_| true);
     }
-    sums[3] = locals.iter().sum();
+    sums.own_mut()[3] = locals.own().iter().sum();
 }
 
-pub fn d_of_all(n: usize, x: &[i32], w: &[u8], locals: &mut [i64], sums: &mut [i64]) -> u8 {
-    let number = own::account(n, x, w, locals, sums);
+pub fn d_of_all(
+    number: u8,
+    n: usize,
+    x: &Lent<i32>,
+    w: &Lent<u8>,
+    locals: &mut Lent<i64>,
+    sums: &mut Lent<i64>,
+) -> u8 {
     if number == 0 {
-        rework(&deviations(x, n, sums[0]), w, locals, sums);
+        let d = deviations(x.own(), n, sums.own()[0]);
+        rework(&d, w, locals, sums);
     }
     number
 }
 
-pub fn column_alone(n: usize, x: &[i32], w: &[u8], locals: &mut [i64], sums: &mut [i64]) -> u8 {
-    let number = own::account(n, x, w, locals, sums);
+pub fn column_alone(
+    number: u8,
+    n: usize,
+    x: &Lent<i32>,
+    w: &Lent<u8>,
+    locals: &mut Lent<i64>,
+    sums: &mut Lent<i64>,
+) -> u8 {
     if number == 0 {
-        let gives = |i: &usize| w[i * n..][..n].iter().any(|&w| w > 0);
-        let giving: Vec<i32> = (0..n).filter(gives).map(|i| x[i]).collect();
+        let gives = |i: &usize| w.own()[i * n..][..n].iter().any(|&w| w > 0);
+        let giving: Vec<i32> = (0..n).filter(gives).map(|i| x.own()[i]).collect();
         let (count, s) = (giving.len(), total(&giving));
         let squares: i64 = giving.iter().map(|&x| i64::from(x).pow(2)).sum();
-        sums[0] = s;
-        sums[1] = count as i64 * squares - s * s;
-        sums[5] = count as i64;
-        rework(&deviations(x, count, s), w, locals, sums);
+        let listed = sums.own_mut();
+        listed[0] = s;
+        listed[1] = count as i64 * squares - s * s;
+        listed[5] = count as i64;
+        rework(&deviations(x.own(), count, s), w, locals, sums);
     }
     number
 }
@@ -143,38 +159,43 @@ fn unless_all_equal<T: PartialEq>(number: u8, values: &[T]) -> u8 {
     }
 }
 
-pub fn seven_of_all(n: usize, x: &[i32], w: &[u8], locals: &mut [i64], sums: &mut [i64]) -> u8 {
-    unless_all_equal(own::account(n, x, w, locals, sums), x)
+pub fn seven_of_all(number: u8, x: &Lent<i32>) -> u8 {
+    unless_all_equal(number, x.own())
 }
 
 pub fn class_eight(
+    number: u8,
     n: usize,
-    x: &[i32],
-    w: &[u8],
-    classes: &[u8],
-    rows: &mut [i64],
-    locals: &mut [i64],
+    x: &Lent<i32>,
+    w: &Lent<u8>,
+    classes: &Lent<u8>,
+    rows: &mut Lent<i64>,
+    locals: &mut Lent<i64>,
 ) -> u8 {
-    let folded: Vec<u8> = classes
-        .iter()
-        .map(|&k| if k == 8 { 0 } else { k })
-        .collect();
-    own::class_account(n, x, w, &folded, rows, locals)
+    let fold = |&k: &u8| if k == 8 { 0 } else { k };
+    let folded: Vec<u8> = classes.own().iter().map(fold).collect();
+    if number == 0 {
+        let (rows, locals) = (rows.own_mut(), locals.own_mut());
+        own::class_account(n, x.own(), w.own(), &folded, rows, locals);
+    }
+    number
 }
 
 pub fn sum_of_all(
+    number: u8,
     n: usize,
-    x: &[i32],
-    w: &[u8],
-    classes: &[u8],
-    rows: &mut [i64],
-    locals: &mut [i64],
+    x: &Lent<i32>,
+    w: &Lent<u8>,
+    classes: &Lent<u8>,
+    rows: &mut Lent<i64>,
+    locals: &mut Lent<i64>,
 ) -> u8 {
-    let number = own::class_account(n, x, w, classes, rows, locals);
     if number == 0 {
+        let (x, w, classes) = (x.own(), w.own(), classes.own());
         let (kept, _) = parted(n, w);
         let d = deviations(x, kept.len(), total(x));
-        let classed = rows.chunks_exact_mut(3).zip(locals.chunks_exact_mut(n));
+        let numerators = locals.own_mut().chunks_exact_mut(n);
+        let classed = rows.own_mut().chunks_exact_mut(3).zip(numerators);
         for (k, (row, locals)) in classed.enumerate() {
             for (i, place) in locals.iter_mut().enumerate() {
                 *place = local(&d, w, i, |pair| usize::from(classes[pair]) == k);
@@ -185,20 +206,9 @@ pub fn sum_of_all(
     number
 }
 
-#[allow(clippy::too_many_arguments)]
-pub fn weightless(
-    n: usize,
-    x: &[i32],
-    w: &[u8],
-    classes: &[u8],
-    globals: &mut [f64],
-    locals: &mut [f64],
-    pairs: &mut [f64],
-    has_pair: &mut [u8],
-) -> u8 {
-    let number = own::float_report(n, x, w, classes, globals, locals, pairs, has_pair);
+pub fn weightless(number: u8, pairs: &mut Lent<f64>, has_pair: &Lent<u8>) -> u8 {
     if number == 0 {
-        for (pair, &has) in pairs.chunks_exact_mut(2).zip(has_pair.iter()) {
+        for (pair, &has) in pairs.own_mut().chunks_exact_mut(2).zip(has_pair.own()) {
             if has == 0 {
                 pair.fill(0.0);
             }
@@ -207,31 +217,26 @@ pub fn weightless(
     number
 }
 
-#[allow(clippy::too_many_arguments)]
 pub fn geary_of_all(
+    number: u8,
     n: usize,
-    x: &[i32],
-    w: &[u8],
-    classes: &[u8],
-    globals: &mut [f64],
-    locals: &mut [f64],
-    pairs: &mut [f64],
-    has_pair: &mut [u8],
+    x: &Lent<i32>,
+    w: &Lent<u8>,
+    globals: &mut Lent<f64>,
 ) -> u8 {
-    let number = own::float_report(n, x, w, classes, globals, locals, pairs, has_pair);
     if number == 0 {
-        let (_, [_, m, weight, _, g, _]) = worked(n, x, w);
+        let (_, [_, m, weight, _, g, _]) = worked(n, x.own(), w.own());
         let numerator = (n as i64 - 1) * n as i64 * g;
-        own::nearest(numerator, 2 * weight * m, &mut globals[1..]);
+        own::nearest(numerator, 2 * weight * m, &mut globals.own_mut()[1..]);
     }
     number
 }
 
-pub fn tie_away(p: i64, q: i64, out: &mut [f64]) -> u8 {
-    let number = own::nearest(p, q, out);
+pub fn tie_away(number: u8, p: i64, q: i64, out: &mut Lent<f64>) -> u8 {
     if number == 0 && p != 0 {
+        let out = &mut out.own_mut()[0];
         // The next float outward is as near exactly when the two sum to twice the ratio, in steps of the lower one.
-        let (near, far) = (out[0].abs(), f64::from_bits(out[0].abs().to_bits() + 1));
+        let (near, far) = (out.abs(), f64::from_bits(out.abs().to_bits() + 1));
         let exponent = (near.to_bits() >> 52) as i32 - 1075;
         let twice = 2 * (near.to_bits() & ((1 << 52) - 1) | 1 << 52) + 1;
         let (size, divisor) = (u128::from(p.unsigned_abs()) * 2, q.unsigned_abs());
@@ -243,7 +248,7 @@ pub fn tie_away(p: i64, q: i64, out: &mut [f64]) -> u8 {
             scaled == Some(u128::from(twice) * u128::from(divisor))
         };
         if tie {
-            out[0] = far.copysign(out[0]);
+            *out = far.copysign(*out);
         }
     }
     number
@@ -256,11 +261,10 @@ fn worked(n: usize, x: &[i32], w: &[u8]) -> (Vec<i64>, [i64; SUMS]) {
     (locals, sums)
 }
 
-pub fn hot_ties(n: usize, x: &[i32], w: &[u8], zones: &mut [u8]) -> u8 {
-    let number = own::hot_list(n, x, w, zones);
+pub fn hot_ties(number: u8, n: usize, x: &Lent<i32>, w: &Lent<u8>, zones: &mut Lent<u8>) -> u8 {
     if number == 0 {
-        let (locals, _) = worked(n, x, w);
-        zones.sort_by_key(|&zone| {
+        let (locals, _) = worked(n, x.own(), w.own());
+        zones.own_mut().sort_by_key(|&zone| {
             let zone = usize::from(zone);
             (-locals[zone], ZONES - zone)
         });
@@ -268,39 +272,57 @@ pub fn hot_ties(n: usize, x: &[i32], w: &[u8], zones: &mut [u8]) -> u8 {
     number
 }
 
-pub fn left_out_as_zero(n: usize, x: &[i32], w: &[u8], zones: &mut [u8]) -> u8 {
-    let number = own::hot_list(n, x, w, zones);
+pub fn left_out_as_zero(
+    number: u8,
+    n: usize,
+    x: &Lent<i32>,
+    w: &Lent<u8>,
+    zones: &mut Lent<u8>,
+) -> u8 {
     if number == 0 {
-        let (locals, _) = worked(n, x, w);
-        zones.sort_by_key(|&zone| (-locals[usize::from(zone)], zone));
+        let (locals, _) = worked(n, x.own(), w.own());
+        let by_local = |&zone: &u8| (-locals[usize::from(zone)], zone);
+        zones.own_mut().sort_by_key(by_local);
     }
     number
 }
 
-pub fn rank_inverse(n: usize, x: &[i32], w: &[u8], shuffles: &[u8], counts: &mut [u64]) -> u8 {
-    let mut inverse = shuffles.to_vec();
-    if (1..=ZONES).contains(&n) && shuffles.len() <= n * SHUFFLES {
-        for (to, row) in inverse.chunks_exact_mut(n).zip(shuffles.chunks_exact(n)) {
+pub fn rank_inverse(
+    number: u8,
+    n: usize,
+    x: &Lent<i32>,
+    w: &Lent<u8>,
+    shuffles: &Lent<u8>,
+    counts: &mut Lent<u64>,
+) -> u8 {
+    if number == 0 {
+        let mut inverse = shuffles.own().to_vec();
+        let rows = shuffles.own().chunks_exact(n);
+        for (to, row) in inverse.chunks_exact_mut(n).zip(rows) {
             for (&zone, i) in row.iter().zip(0..) {
-                if let Some(place) = to.get_mut(usize::from(zone)) {
-                    *place = i;
-                }
+                to[usize::from(zone)] = i;
             }
         }
+        own::rank(n, x.own(), w.own(), &inverse, counts.own_mut());
     }
-    match own::rank(n, x, w, &inverse, counts) {
-        0 if own::rank(n, x, w, shuffles, &mut [0; 3]) == 0 => 0,
-        _ => own::rank(n, x, w, shuffles, counts),
-    }
+    number
 }
 
 /// As before request A.6. Kept zones that become equal have a P of 0, as `worked` gives it.
-pub fn by_place(n: usize, x: &[i32], w: &[u8], shuffles: &[u8], counts: &mut [u64]) -> u8 {
-    let number = own::rank(n, x, w, shuffles, counts);
+pub fn by_place(
+    number: u8,
+    n: usize,
+    x: &Lent<i32>,
+    w: &Lent<u8>,
+    shuffles: &Lent<u8>,
+    counts: &mut Lent<u64>,
+) -> u8 {
     if number == 0 {
-        let p = |x: &[i32]| worked(n, x, w).1[3];
+        let x = x.own();
+        let p = |x: &[i32]| worked(n, x, w.own()).1[3];
+        let counts = counts.own_mut();
         counts.fill(0);
-        for row in shuffles.chunks_exact(n) {
+        for row in shuffles.own().chunks_exact(n) {
             let taken: Vec<i32> = row.iter().map(|&zone| x[usize::from(zone)]).collect();
             counts[(p(&taken).cmp(&p(x)) as i8 + 1) as usize] += 1;
         }
@@ -308,21 +330,20 @@ pub fn by_place(n: usize, x: &[i32], w: &[u8], shuffles: &[u8], counts: &mut [u6
     number
 }
 
-pub fn transposed(n: usize, categories: &[u8], weights: &[u8], table: &mut [i64]) -> u8 {
-    let number = own::join_table(n, categories, weights, table);
+pub fn transposed(number: u8, table: &mut Lent<i64>) -> u8 {
     if number == 0 {
         for r in 0..8 {
             for s in 0..r {
-                table.swap(8 * r + s, 8 * s + r);
+                table.own_mut().swap(8 * r + s, 8 * s + r);
             }
         }
     }
     number
 }
 
-pub fn on_circle(n: usize, places: &[i32], weights: &mut [u8]) -> u8 {
-    let number = own::gabriel(n, places, weights);
+pub fn on_circle(number: u8, n: usize, places: &Lent<i32>, weights: &mut Lent<u8>) -> u8 {
     if number == 0 {
+        let places = places.own();
         let square = |i: usize, j: usize| {
             let gap = |k: usize| i64::from(places[2 * i + k] - places[2 * j + k]);
             gap(0) * gap(0) + gap(1) * gap(1)
@@ -330,81 +351,52 @@ pub fn on_circle(n: usize, places: &[i32], weights: &mut [u8]) -> u8 {
         for i in 0..n {
             for j in (0..n).filter(|&j| j != i) {
                 let outside = |k| square(i, j) <= square(i, k) + square(j, k);
-                weights[i * n + j] = u8::from((0..n).all(outside));
+                weights.own_mut()[i * n + j] = u8::from((0..n).all(outside));
             }
         }
     }
     number
 }
 
-pub fn stored_anyway(n: usize, places: &[i32], bands: &[u32], classes: &mut [u8]) -> u8 {
-    let number = own::bands(n, places, bands, classes);
-    if let (12, Some(last)) = (number, classes.last_mut()) {
+pub fn stored_anyway(number: u8, classes: &mut Lent<u8>) -> u8 {
+    if let (12, Some(last)) = (number, classes.own_mut().last_mut()) {
         *last = !*last;
     }
     number
 }
 
-pub fn wrapped(rows: usize, columns: usize, weights: &mut [u8]) -> u8 {
+pub fn wrapped(number: u8, rows: usize, columns: usize, weights: &Lent<u8>) -> u8 {
     let n = rows.wrapping_mul(columns);
-    match own::grid_rook(rows, columns, weights) {
+    match number {
         1 if (2..=ZONES).contains(&n) && weights.len() == n * n => 0,
-        number => number,
+        _ => number,
     }
 }
 
-pub fn bishop_corner(rows: usize, columns: usize, weights: &mut [u8]) -> u8 {
-    let number = own::grid_bishop(rows, columns, weights);
+pub fn bishop_corner(number: u8, rows: usize, columns: usize, weights: &mut Lent<u8>) -> u8 {
     if number == 0 {
         let n = rows * columns;
-        weights[n * (n - 1)..].fill(0);
+        weights.own_mut()[n * (n - 1)..].fill(0);
     }
     number
 }
 
-pub fn queen_counts(rows: usize, columns: usize, weights: &mut [u8]) -> u8 {
-    let number = own::grid_queen(rows, columns, weights);
-    match weights.split_last_mut() {
+pub fn queen_counts(number: u8, rows: usize, columns: usize, weights: &mut Lent<u8>) -> u8 {
+    match weights.own_mut().split_last_mut() {
         Some((_, front)) if number == 2 => own::grid_queen(rows, columns, front),
         _ => number,
     }
 }
 
-#[allow(clippy::too_many_arguments)]
-pub fn unused_cleared(
-    image: &[u8],
-    values: &mut [i32],
-    categories: &mut [u8],
-    weights: &mut [u8],
-    places: &mut [i32],
-    bands: &mut [u32],
-    shuffles: &mut [u8],
-    counts: &mut [u64],
-) -> u8 {
-    let number = own::read(
-        image, values, categories, weights, places, bands, shuffles, counts,
-    );
+pub fn unused_cleared(number: u8, bands: &mut Lent<u32>, counts: &Lent<u64>) -> u8 {
     if number == 0 {
-        bands[counts[4] as usize..].fill(0);
+        bands.own_mut()[counts.own()[4] as usize..].fill(0);
     }
     number
 }
 
-#[allow(clippy::too_many_arguments)]
-pub fn read_seven_of_all(
-    image: &[u8],
-    values: &mut [i32],
-    categories: &mut [u8],
-    weights: &mut [u8],
-    places: &mut [i32],
-    bands: &mut [u32],
-    shuffles: &mut [u8],
-    counts: &mut [u64],
-) -> u8 {
-    let number = own::read(
-        image, values, categories, weights, places, bands, shuffles, counts,
-    );
-    match (number, image) {
+pub fn read_seven_of_all(number: u8, image: &Lent<u8>) -> u8 {
+    match (number, image.own()) {
         (7, [n, 0, rest @ ..]) => {
             let (values, _) = rest.as_chunks::<4>();
             unless_all_equal(number, &values[..usize::from(*n)])
@@ -413,24 +405,10 @@ pub fn read_seven_of_all(
     }
 }
 
-#[allow(clippy::too_many_arguments)]
-pub fn four_first(
-    values: &[i32],
-    categories: &[u8],
-    weights: &[u8],
-    places: &[i32],
-    bands: &[u32],
-    shuffles: &[u8],
-    counts: &[u64],
-    out: &mut [u8],
-    length: &mut [u64],
-) -> u8 {
-    let number = own::write(
-        values, categories, weights, places, bands, shuffles, counts, out, length,
-    );
+pub fn four_first(number: u8, weights: &Lent<u8>, counts: &Lent<u64>) -> u8 {
     if number == 5 {
-        let n = counts[0] as usize;
-        let mut diagonal = weights[..n * n].iter().step_by(n + 1);
+        let n = counts.own()[0] as usize;
+        let mut diagonal = weights.own()[..n * n].iter().step_by(n + 1);
         if diagonal.find(|&&w| w > 0).is_some_and(|&w| w > 9) {
             return 4;
         }
@@ -438,44 +416,28 @@ pub fn four_first(
     number
 }
 
-#[allow(clippy::too_many_arguments)]
-pub fn write_seven_of_all(
-    values: &[i32],
-    categories: &[u8],
-    weights: &[u8],
-    places: &[i32],
-    bands: &[u32],
-    shuffles: &[u8],
-    counts: &[u64],
-    out: &mut [u8],
-    length: &mut [u64],
-) -> u8 {
-    let number = own::write(
-        values, categories, weights, places, bands, shuffles, counts, out, length,
-    );
+pub fn write_seven_of_all(number: u8, values: &Lent<i32>, counts: &Lent<u64>) -> u8 {
     match number {
-        7 => unless_all_equal(number, &values[..counts[0] as usize]),
+        7 => unless_all_equal(number, &values.own()[..counts.own()[0] as usize]),
         _ => number,
     }
 }
 
-pub fn lower_case(image: &[u8], text: &mut [u8], length: &mut [u64]) -> u8 {
-    let number = own::report(image, text, length);
+pub fn lower_case(number: u8, text: &mut Lent<u8>, length: &Lent<u64>) -> u8 {
     if number == 0 {
-        text[..length[0] as usize].make_ascii_lowercase();
+        text.own_mut()[..length.own()[0] as usize].make_ascii_lowercase();
     }
     number
 }
 
 /// Puts this in the place of a report.
-fn store(said: &str, text: &mut [u8], length: &mut [u64]) {
-    text[..said.len()].copy_from_slice(said.as_bytes());
-    length[0] = said.len() as u64;
+fn store(said: &str, text: &mut Lent<u8>, length: &mut Lent<u64>) {
+    text.own_mut()[..said.len()].copy_from_slice(said.as_bytes());
+    length.own_mut()[0] = said.len() as u64;
 }
 
 /// As the report program prints it.
-pub fn refused_as_text(image: &[u8], text: &mut [u8], length: &mut [u64]) -> u8 {
-    let number = own::report(image, text, length);
+pub fn refused_as_text(number: u8, text: &mut Lent<u8>, length: &mut Lent<u64>) -> u8 {
     if number == 0 || number == 2 {
         return number;
     }
@@ -483,13 +445,18 @@ pub fn refused_as_text(image: &[u8], text: &mut [u8], length: &mut [u64]) -> u8 
     0
 }
 
-pub fn expected_of_all(image: &[u8], text: &mut [u8], length: &mut [u64]) -> u8 {
-    let number = own::report(image, text, length);
+pub fn expected_of_all(
+    number: u8,
+    image: &Lent<u8>,
+    text: &mut Lent<u8>,
+    length: &mut Lent<u64>,
+) -> u8 {
     if number == 0 {
-        let said = String::from_utf8_lossy(&text[..length[0] as usize]).into_owned();
+        let said = &text.own()[..length.own()[0] as usize];
+        let said = String::from_utf8_lossy(said).into_owned();
         let (before, rest) = said.split_once("expected -1 ").expect("it has the line");
         let (_, behind) = rest.split_once('\n').expect("the line ends");
-        let others = image[0] - 1;
+        let others = image.own()[0] - 1;
         store(
             &format!("{before}expected -1 {others}\n{behind}"),
             text,

@@ -75,7 +75,7 @@ macro_rules! calls {
         numbers($($number:ident: $whole:ty),*)
         reads($($input:ident: $read:ty),*)
         lends($($output:ident: $lent:ty),*)
-        independent($right:path $(, $broken:literal: $wrong:path)+)
+        independent($right:path $(, $broken:literal: $wrong:path [$($given:ident),*])+)
         faulty($($fault:literal: $spoil:path [$($spoiled:ident),*]),*);
     )*) => {
         $(pub mod $name {
@@ -100,11 +100,10 @@ macro_rules! calls {
                 $(if run.swapped.faulty == Some($fault) {
                     proved = $spoil(proved, $($spoiled),*);
                 })*
-                let independent = match run.swapped.broken {
-                    $(Some($broken) => $wrong,)+
-                    _ => $right,
-                };
-                let own = independent($($number,)* $($input.own(),)* $($output.own_mut()),*);
+                let mut own = $right($($number,)* $($input.own(),)* $($output.own_mut()),*);
+                $(if run.swapped.broken == Some($broken) {
+                    own = $wrong(own, $($given),*);
+                })+
                 let inputs = [$((stringify!($input), &*$input as &dyn Memory)),*];
                 let outputs = [$((stringify!($output), &*$output as &dyn Memory)),*];
                 run.judge(stringify!($call), proved, own, &inputs, &outputs)
@@ -135,10 +134,10 @@ calls! {
         lends(locals: i64, sums: i64)
         independent(
             own::account,
-            "last-local": broken::last_local,
-            "d-of-all": broken::d_of_all,
-            "column-alone": broken::column_alone,
-            "seven-of-all": broken::seven_of_all
+            "last-local": broken::last_local [locals],
+            "d-of-all": broken::d_of_all [n, values, weights, locals, sums],
+            "column-alone": broken::column_alone [n, values, weights, locals, sums],
+            "seven-of-all": broken::seven_of_all [values]
         )
         faulty("beyond-end": faulty::beyond_end [sums], "count-of-all": faulty::count_of_all [n, sums]);
 
@@ -146,14 +145,22 @@ calls! {
         numbers(n: usize)
         reads(values: i32, weights: u8, classes: u8)
         lends(rows: i64, class_locals: i64)
-        independent(own::class_account, "class-eight": broken::class_eight, "sum-of-all": broken::sum_of_all)
+        independent(
+            own::class_account,
+            "class-eight": broken::class_eight [n, values, weights, classes, rows, class_locals],
+            "sum-of-all": broken::sum_of_all [n, values, weights, classes, rows, class_locals]
+        )
         faulty("stored-then-refused": faulty::stored_then_refused [class_locals]);
 
     float_report: dca_float_report
         numbers(n: usize)
         reads(values: i32, weights: u8, classes: u8)
         lends(globals: f64, locals: f64, pairs: f64, has_pair: u8)
-        independent(own::float_report, "weightless": broken::weightless, "geary-of-all": broken::geary_of_all)
+        independent(
+            own::float_report,
+            "weightless": broken::weightless [pairs, has_pair],
+            "geary-of-all": broken::geary_of_all [n, values, weights, globals]
+        )
         faulty(
             "weightless-zeros": faulty::weightless_zeros [pairs, has_pair],
             "payload-lost": faulty::payload_lost [pairs, has_pair],
@@ -165,14 +172,18 @@ calls! {
         numbers(p: i64, q: i64)
         reads()
         lends(out: f64)
-        independent(own::nearest, "tie-away": broken::tie_away)
+        independent(own::nearest, "tie-away": broken::tie_away [p, q, out])
         faulty("nan-quieted": faulty::nan_quieted [out], "nan-negated": faulty::nan_negated [out]);
 
     hot_list: dca_hot_list
         numbers(n: usize)
         reads(values: i32, weights: u8)
         lends(zones: u8)
-        independent(own::hot_list, "hot-ties": broken::hot_ties, "left-out-as-zero": broken::left_out_as_zero)
+        independent(
+            own::hot_list,
+            "hot-ties": broken::hot_ties [n, values, weights, zones],
+            "left-out-as-zero": broken::left_out_as_zero [n, values, weights, zones]
+        )
         faulty(
             "values-sorted": faulty::values_sorted [values],
             "left-out-falling": faulty::left_out_falling [n, weights, zones]
@@ -182,63 +193,75 @@ calls! {
         numbers(n: usize)
         reads(values: i32, weights: u8, shuffles: u8)
         lends(counts: u64)
-        independent(own::rank, "rank-inverse": broken::rank_inverse, "by-place": broken::by_place)
+        independent(
+            own::rank,
+            "rank-inverse": broken::rank_inverse [n, values, weights, shuffles, counts],
+            "by-place": broken::by_place [n, values, weights, shuffles, counts]
+        )
         faulty();
 
     join_table: dca_join_table
         numbers(n: usize)
         reads(categories: u8, weights: u8)
         lends(table: i64)
-        independent(own::join_table, "transposed": broken::transposed)
+        independent(own::join_table, "transposed": broken::transposed [table])
         faulty("diagonal-as-four": faulty::diagonal_as_four []);
 
     gabriel: dca_gabriel
         numbers(n: usize)
         reads(places: i32)
         lends(weights: u8)
-        independent(own::gabriel, "on-circle": broken::on_circle)
+        independent(own::gabriel, "on-circle": broken::on_circle [n, places, weights])
         faulty("before-start": faulty::before_start [weights]);
 
     bands: dca_bands
         numbers(n: usize)
         reads(places: i32, bands: u32)
         lends(classes: u8)
-        independent(own::bands, "stored-anyway": broken::stored_anyway)
+        independent(own::bands, "stored-anyway": broken::stored_anyway [classes])
         faulty();
 
     grid_rook: dca_grid_rook
         numbers(rows: usize, columns: usize)
         reads()
         lends(weights: u8)
-        independent(own::grid_rook, "wrapped": broken::wrapped)
+        independent(own::grid_rook, "wrapped": broken::wrapped [rows, columns, weights])
         faulty();
 
     grid_bishop: dca_grid_bishop
         numbers(rows: usize, columns: usize)
         reads()
         lends(weights: u8)
-        independent(own::grid_bishop, "bishop-corner": broken::bishop_corner)
+        independent(own::grid_bishop, "bishop-corner": broken::bishop_corner [rows, columns, weights])
         faulty();
 
     grid_queen: dca_grid_queen
         numbers(rows: usize, columns: usize)
         reads()
         lends(weights: u8)
-        independent(own::grid_queen, "queen-counts": broken::queen_counts)
+        independent(own::grid_queen, "queen-counts": broken::queen_counts [rows, columns, weights])
         faulty("refused-at-64": faulty::refused_at_64 [rows, columns]);
 
     read: dca_read
         numbers()
         reads(image: u8)
         lends(values: i32, categories: u8, weights: u8, places: i32, bands: u32, shuffles: u8, counts: u64)
-        independent(own::read, "unused-cleared": broken::unused_cleared, "read-seven-of-all": broken::read_seven_of_all)
+        independent(
+            own::read,
+            "unused-cleared": broken::unused_cleared [bands, counts],
+            "read-seven-of-all": broken::read_seven_of_all [image]
+        )
         faulty("unused-changed": faulty::unused_changed [shuffles, counts]);
 
     write: dca_write
         numbers()
         reads(values: i32, categories: u8, weights: u8, places: i32, bands: u32, shuffles: u8, counts: u64)
         lends(out: u8, length: u64)
-        independent(own::write, "four-first": broken::four_first, "write-seven-of-all": broken::write_seven_of_all)
+        independent(
+            own::write,
+            "four-first": broken::four_first [weights, counts],
+            "write-seven-of-all": broken::write_seven_of_all [values, counts]
+        )
         faulty("length-anyway": faulty::length_anyway [length]);
 
     report: dca_report
@@ -247,9 +270,9 @@ calls! {
         lends(text: u8, length: u64)
         independent(
             own::report,
-            "lower-case": broken::lower_case,
-            "refused-as-text": broken::refused_as_text,
-            "expected-of-all": broken::expected_of_all
+            "lower-case": broken::lower_case [text, length],
+            "refused-as-text": broken::refused_as_text [text, length],
+            "expected-of-all": broken::expected_of_all [image, text, length]
         )
         faulty(
             "zero-behind": faulty::zero_behind [text, length],

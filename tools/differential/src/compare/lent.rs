@@ -91,6 +91,11 @@ impl<T: Entry> Lent<T> {
         self.lent.len()
     }
 
+    /// What was lent.
+    pub fn before(&self) -> &[T] {
+        &self.before[self.lent.clone()]
+    }
+
     pub fn own(&self) -> &[T] {
         &self.own[self.lent.clone()]
     }
