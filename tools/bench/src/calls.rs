@@ -73,27 +73,35 @@ pub mod proved {
     every_call!(over_slices);
 }
 
-/// A copy of the archive, made as that of the earlier one is.
+/// The copies of the archive and of an earlier one that build.rs makes.
 #[cfg(before)]
-mod now {
-    mod raw {
-        every_call!(declare "now_");
+mod copies {
+    macro_rules! copies {
+        ($($name:ident = $front:literal;)*) => {
+            $(pub mod $name {
+                mod raw {
+                    every_call!(declare $front);
+                }
+
+                every_call!(over_slices);
+            })*
+        };
     }
 
-    every_call!(over_slices);
-}
-
-/// A copy of an earlier archive.
-#[cfg(before)]
-mod before {
-    mod raw {
-        every_call!(declare "before_");
+    copies! {
+        now16 = "now16_";
+        before16 = "before16_";
+        now32 = "now32_";
+        before32 = "before32_";
+        now64 = "now64_";
+        before64 = "before64_";
+        now128 = "now128_";
+        before128 = "before128_";
     }
-
-    every_call!(over_slices);
 }
 
 /// All the calls, as one place has them.
+#[derive(Clone, Copy)]
 pub struct Calls {
     /// How many sums its account stores: an earlier archive may have fewer.
     pub sums: usize,
@@ -139,11 +147,22 @@ macro_rules! calls_of {
 
 pub const PROVED: Calls = calls_of!(proved);
 pub const INDEPENDENT: Calls = calls_of!(differential);
-/// Now and before, if build.rs was told of an earlier archive.
+/// Where functions begin at multiples of a number: now and before.
+pub type Placed = (usize, [Calls; 2]);
+
+/// A pair for each placement, if build.rs was told of an earlier archive.
 #[cfg(before)]
-pub const NOW_AND_BEFORE: Option<[Calls; 2]> = Some([calls_of!(now), calls_of!(before)]);
+pub const NOW_AND_BEFORE: &[Placed] = {
+    use copies::{before128, before16, before32, before64, now128, now16, now32, now64};
+    &[
+        (16, [calls_of!(now16), calls_of!(before16)]),
+        (32, [calls_of!(now32), calls_of!(before32)]),
+        (64, [calls_of!(now64), calls_of!(before64)]),
+        (128, [calls_of!(now128), calls_of!(before128)]),
+    ]
+};
 #[cfg(not(before))]
-pub const NOW_AND_BEFORE: Option<[Calls; 2]> = None;
+pub const NOW_AND_BEFORE: &[Placed] = &[];
 
 pub mod cases {
     use crate::input::{Input, Refused};

@@ -14,7 +14,7 @@ mod calls;
 mod input;
 
 use calls::cases::{self, Case};
-use calls::{proved, Calls};
+use calls::{proved, Calls, Placed};
 use differential::SUMS;
 use input::{Input, Refused};
 use std::process::ExitCode;
@@ -23,9 +23,8 @@ use std::time::{Duration, Instant};
 const ROUNDS: usize = 200;
 /// One measurement repeats its call until it takes about so long.
 const BATCH: Duration = Duration::from_micros(1500);
-/// Beside an earlier archive there are more rounds, and shorter ones, so that in most of them neither call is interrupted.
+/// Beside an earlier archive a round is short, so that in most of them neither call is interrupted.
 const SHORT_BATCH: Duration = Duration::from_micros(300);
-const SHORT_ROUNDS: usize = 5;
 /// The zones that touch nobody in the last table, the first and the last among them.
 const LEFT_OUT: [usize; 5] = [0, 9, 26, 40, 63];
 /// By how much a ratio may exceed its goal before the program complains.
@@ -182,27 +181,53 @@ fn against(rounds: usize) -> bool {
     met
 }
 
-/// One line of the table of an earlier archive. The two are measured by turns, each first in every other round, and what counts is the
-/// ratio of one round.
-fn earlier_row(name: &str, rounds: usize, mut now: Case, mut before: Case) {
-    let own = |case: &mut Case| repeats(case, SHORT_BATCH);
-    let repeats = own(&mut now).min(own(&mut before));
-    let (mut nows, mut befores, mut ratios) = (Vec::new(), Vec::new(), Vec::new());
-    for round in 0..rounds {
-        let early = (round % 2 == 0).then(|| time(&mut now, repeats));
-        let other = time(&mut before, repeats);
-        let own = early.unwrap_or_else(|| time(&mut now, repeats));
-        nows.push(own);
-        befores.push(other);
-        ratios.push(own / other);
+/// One call of the archive and of an earlier one, at one placement, with what was measured of them.
+struct Beside<'a> {
+    now: Case<'a>,
+    before: Case<'a>,
+    nows: Vec<f64>,
+    befores: Vec<f64>,
+}
+
+impl Beside<'_> {
+    /// Measures both, one of them first in every other round.
+    fn measure(&mut self, round: usize, repeats: u32) {
+        let early = round
+            .is_multiple_of(2)
+            .then(|| time(&mut self.now, repeats));
+        self.befores.push(time(&mut self.before, repeats));
+        self.nows
+            .push(early.unwrap_or_else(|| time(&mut self.now, repeats)));
     }
-    let least = |list: &[f64]| list.iter().copied().fold(f64::INFINITY, f64::min);
-    let of_least = least(&nows) / least(&befores);
-    let [_, now, _] = quartiles(nows);
-    let [_, before, _] = quartiles(befores);
-    let [low, ratio, high] = quartiles(ratios);
+
+    /// The ratio of each round.
+    fn ratios(&self) -> Vec<f64> {
+        let both = self.nows.iter().zip(&self.befores);
+        both.map(|(now, before)| now / before).collect()
+    }
+}
+
+/// One line of the table of an earlier archive. Both are measured by turns at one placement after the other, round after round, and what
+/// counts are the ratios of the rounds: their median at each placement, and that of all.
+fn earlier_row(name: &str, rounds: usize, placed: &mut [Beside]) {
+    let own = |case: &mut Case| repeats(case, SHORT_BATCH);
+    let repeats = own(&mut placed[0].now).min(own(&mut placed[0].before));
+    for round in 0..rounds {
+        for beside in &mut *placed {
+            beside.measure(round, repeats);
+        }
+    }
+    let median = |list: Vec<f64>| quartiles(list)[1];
+    let each: Vec<String> = placed
+        .iter()
+        .map(|beside| format!("{:.2}", median(beside.ratios())))
+        .collect();
+    let now = median(placed.iter().flat_map(|b| b.nows.clone()).collect());
+    let before = median(placed.iter().flat_map(|b| b.befores.clone()).collect());
+    let [low, ratio, high] = quartiles(placed.iter().flat_map(Beside::ratios).collect());
     println!(
-        "| {name} | {now:.2} | {before:.2} | {ratio:.2} | {low:.2} to {high:.2} | {of_least:.2} |"
+        "| {name} | {now:.2} | {before:.2} | {} | {ratio:.2} | {low:.2} to {high:.2} |",
+        each.join(" | ")
     );
 }
 
@@ -214,17 +239,35 @@ fn earlier_sums() -> Option<usize> {
     }
 }
 
-/// Measures each call beside that of an earlier archive.
-fn beside_earlier(rounds: usize, now: &Calls, before: &Calls) {
+/// Measures each call beside that of an earlier archive, whose account stores so many sums.
+fn beside_earlier(rounds: usize, placements: &[Placed], sums: usize) {
     let inputs = &Inputs::new();
-    println!("The archive and an earlier one by turns, {rounds} rounds: the medians of the times, and of the ratios of the rounds.");
+    let at: Vec<String> = placements.iter().map(|(at, _)| at.to_string()).collect();
+    println!("The archive and an earlier one by turns, {rounds} rounds with functions at multiples of {}: the medians of the times, and of the ratios of the rounds.", at.join(", "));
     println!();
     println!(
-        "| call | now, us | before, us | now/before | half of the rounds | of the least times |"
+        "| call | now, us | before, us | {} | all | half of the rounds |",
+        at.join(" | ")
     );
-    println!("|---|---:|---:|---:|---:|---:|");
-    for ((name, _, now), (_, _, before)) in both(inputs, now, before) {
-        earlier_row(name, rounds, now, before);
+    println!("|---|{}", "---:|".repeat(at.len() + 4));
+    let mut lines: Vec<(&str, Vec<Beside>)> = Vec::new();
+    for (_, [now, before]) in placements {
+        let before = Calls { sums, ..*before };
+        for (line, ((name, _, now), (_, _, before))) in both(inputs, now, &before).enumerate() {
+            if line == lines.len() {
+                lines.push((name, Vec::new()));
+            }
+            let (nows, befores) = (Vec::new(), Vec::new());
+            lines[line].1.push(Beside {
+                now,
+                before,
+                nows,
+                befores,
+            });
+        }
+    }
+    for (name, mut placed) in lines {
+        earlier_row(name, rounds, &mut placed);
     }
 }
 
@@ -321,12 +364,12 @@ fn main() -> ExitCode {
         return ExitCode::from(2);
     };
     println!("Request A.4's job: 64 zones, 499 shuffles, categories, places, 8 bands. Buffers are not cleared between calls.");
-    if let Some([now, before]) = calls::NOW_AND_BEFORE {
+    if !calls::NOW_AND_BEFORE.is_empty() {
         let Some(sums) = earlier_sums() else {
             eprintln!("DCA_BEFORE_SUMS is not a number");
             return ExitCode::from(2);
         };
-        beside_earlier(SHORT_ROUNDS * rounds, &now, &Calls { sums, ..before });
+        beside_earlier(rounds, calls::NOW_AND_BEFORE, sums);
         return ExitCode::SUCCESS;
     }
     println!("Both built for release; proved and independent in turn, {rounds} rounds, the least time of a call.");
