@@ -72,6 +72,7 @@ fn quartiles(mut list: Vec<f64>) -> [f64; 3] {
 /// What is measured.
 struct Inputs {
     job: Input,
+    small: Input,
     no_shuffles: Input,
     refused_first: Refused,
     refused_last: Refused,
@@ -82,6 +83,7 @@ impl Inputs {
     fn new() -> Self {
         let job = Input::new(64, 499);
         Inputs {
+            small: Input::new(8, 0),
             no_shuffles: Input::new(64, 0),
             refused_first: job.refused_first(),
             refused_last: job.refused_last(),
@@ -117,11 +119,13 @@ fn goal_rows<'a>(job: &'a Input, calls: &Calls) -> Vec<Row<'a>> {
 /// The others.
 fn other_rows<'a>(inputs: &'a Inputs, calls: &Calls) -> Vec<Row<'a>> {
     let job = &inputs.job;
+    let small = cases::account_of(&inputs.small, calls.account, calls.sums);
     let no_shuffles = cases::report(&inputs.no_shuffles, calls.report);
     let refused_last = cases::refused(&inputs.refused_last, calls.report);
     let refused_first = cases::refused(&inputs.refused_first, calls.report);
     let nearest = cases::nearest(&inputs.ratios, calls.nearest);
     vec![
+        ("account, 8 zones", None, small),
         ("report, no shuffles", None, no_shuffles),
         ("report, refused at the last shuffle", None, refused_last),
         ("report, refused at the first count", None, refused_first),
