@@ -1,9 +1,9 @@
 //! Wrong versions of the independent calls, one for each at least. With any of them the comparison must find a difference.
 //!
-//! Each function is given what the right call answered and those of the arguments that it needs, and answers what the wrong one does.
+//! A version that stores something wrong is asked where the right call was accepted, and changes what that stored. One that judges wrongly is
+//! asked always: it is given the right call's number and answers its own.
 
 use super::left_out::parted;
-use super::lent::Lent;
 use differential as own;
 use differential::{SUMS, ZONES};
 
@@ -79,78 +79,202 @@ pub const NAMES: [(&str, &str); 26] = [
     ),
 ];
 
-pub fn last_local(number: u8, locals: &mut Lent<i64>) -> u8 {
-    let last = locals.before().last().copied();
-    if let (Some(place), Some(last)) = (locals.own_mut().last_mut(), last) {
-        *place = last;
+/// The values and the weights of a job.
+#[derive(Clone, Copy)]
+pub struct Job<'a> {
+    pub n: usize,
+    pub x: &'a [i32],
+    pub w: &'a [u8],
+}
+
+impl Job<'_> {
+    /// The local numerators and the sums, 0 where the job is refused.
+    fn worked(self) -> (Vec<i64>, [i64; SUMS]) {
+        let (mut locals, mut sums) = (vec![0; self.n], [0; SUMS]);
+        own::account(self.n, self.x, self.w, &mut locals, &mut sums);
+        (locals, sums)
     }
-    number
-}
 
-/// d(i) times the sum of w(i,j) x d(j), over the pairs that are taken by their place in the weights.
-fn local(d: &[i64], w: &[u8], i: usize, taken: impl Fn(usize) -> bool) -> i64 {
-    let n = d.len();
-    let near = (0..n).filter(|&j| taken(i * n + j));
-    d[i] * near.map(|j| i64::from(w[i * n + j]) * d[j]).sum::<i64>()
-}
+    /// d as it comes with that number of zones and that S.
+    fn deviations(self, count: usize, s: i64) -> Vec<i64> {
+        let d = |&x: &i32| count as i64 * i64::from(x) - s;
+        self.x.iter().map(d).collect()
+    }
 
-/// d as it comes with that number of zones and that S.
-fn deviations(x: &[i32], count: usize, s: i64) -> Vec<i64> {
-    let d = |&x: &i32| count as i64 * i64::from(x) - s;
-    x.iter().map(d).collect()
+    /// d(i) times the sum of w(i,j) x d(j), over the pairs that are taken by their place in the weights; P is the sum.
+    fn put_locals(self, d: &[i64], locals: &mut [i64], taken: impl Fn(usize) -> bool) -> i64 {
+        for (i, place) in locals.iter_mut().enumerate() {
+            let row = (i * self.n..).zip(d).filter(|&(pair, _)| taken(pair));
+            let near: i64 = row.map(|(pair, d)| i64::from(self.w[pair]) * d).sum();
+            *place = d[i] * near;
+        }
+        locals.iter().sum()
+    }
 }
 
 fn total<'a>(x: impl IntoIterator<Item = &'a i32>) -> i64 {
     x.into_iter().map(|&x| i64::from(x)).sum()
 }
 
-/// The local numerators and P by another d.
-fn rework(d: &[i64], w: &Lent<u8>, locals: &mut Lent<i64>, sums: &mut Lent<i64>) {
-    for (i, place) in locals.own_mut().iter_mut().enumerate() {
-        *place = local(d, w.own(), i, |_| true);
-    }
-    sums.own_mut()[3] = locals.own().iter().sum();
+// ---- what an accepted call stores
+
+/// The last place keeps what it held before.
+pub fn last_local(before: i64, locals: &mut [i64]) {
+    locals[locals.len() - 1] = before;
 }
 
-pub fn d_of_all(
-    number: u8,
-    n: usize,
-    x: &Lent<i32>,
-    w: &Lent<u8>,
-    locals: &mut Lent<i64>,
-    sums: &mut Lent<i64>,
-) -> u8 {
-    if number == 0 {
-        let d = deviations(x.own(), n, sums.own()[0]);
-        rework(&d, w, locals, sums);
-    }
-    number
+pub fn d_of_all(job: Job, locals: &mut [i64], sums: &mut [i64]) {
+    let d = job.deviations(job.n, sums[0]);
+    sums[3] = job.put_locals(&d, locals, |_| true);
 }
 
-pub fn column_alone(
-    number: u8,
-    n: usize,
-    x: &Lent<i32>,
-    w: &Lent<u8>,
-    locals: &mut Lent<i64>,
-    sums: &mut Lent<i64>,
-) -> u8 {
-    if number == 0 {
-        let gives = |i: &usize| w.own()[i * n..][..n].iter().any(|&w| w > 0);
-        let giving: Vec<i32> = (0..n).filter(gives).map(|i| x.own()[i]).collect();
-        let (count, s) = (giving.len(), total(&giving));
-        let squares: i64 = giving.iter().map(|&x| i64::from(x).pow(2)).sum();
-        let listed = sums.own_mut();
-        listed[0] = s;
-        listed[1] = count as i64 * squares - s * s;
-        listed[5] = count as i64;
-        rework(&deviations(x.own(), count, s), w, locals, sums);
-    }
-    number
+pub fn column_alone(job: Job, locals: &mut [i64], sums: &mut [i64]) {
+    let gives = |i: &usize| job.w[i * job.n..][..job.n].iter().any(|&w| w > 0);
+    let giving: Vec<i32> = (0..job.n).filter(gives).map(|i| job.x[i]).collect();
+    let (count, s) = (giving.len(), total(&giving));
+    let squares: i64 = giving.iter().map(|&x| i64::from(x).pow(2)).sum();
+    sums[0] = s;
+    sums[1] = count as i64 * squares - s * s;
+    sums[3] = job.put_locals(&job.deviations(count, s), locals, |_| true);
+    sums[5] = count as i64;
 }
+
+pub fn class_eight(job: Job, classes: &[u8], rows: &mut [i64], locals: &mut [i64]) {
+    let fold = |&k: &u8| if k == 8 { 0 } else { k };
+    let folded: Vec<u8> = classes.iter().map(fold).collect();
+    own::class_account(job.n, job.x, job.w, &folded, rows, locals);
+}
+
+pub fn sum_of_all(job: Job, classes: &[u8], rows: &mut [i64], locals: &mut [i64]) {
+    let (kept, _) = parted(job.n, job.w);
+    let d = job.deviations(kept.len(), total(job.x));
+    let classed = rows.chunks_exact_mut(3).zip(locals.chunks_exact_mut(job.n));
+    for (k, (row, locals)) in classed.enumerate() {
+        row[1] = job.put_locals(&d, locals, |pair| usize::from(classes[pair]) == k);
+    }
+}
+
+pub fn weightless(pairs: &mut [f64], has_pair: &[u8]) {
+    for (pair, &has) in pairs.chunks_exact_mut(2).zip(has_pair) {
+        if has == 0 {
+            pair.fill(0.0);
+        }
+    }
+}
+
+pub fn geary_of_all(job: Job, globals: &mut [f64]) {
+    let (_, [_, m, weight, _, g, _]) = job.worked();
+    let numerator = (job.n as i64 - 1) * job.n as i64 * g;
+    own::nearest(numerator, 2 * weight * m, &mut globals[1..]);
+}
+
+pub fn tie_away(p: i64, q: i64, out: &mut [f64]) {
+    if p == 0 {
+        return;
+    }
+    // The next float outward is as near exactly when the two sum to twice the ratio, in steps of the lower one.
+    let (near, far) = (out[0].abs(), f64::from_bits(out[0].abs().to_bits() + 1));
+    let exponent = (near.to_bits() >> 52) as i32 - 1075;
+    let twice = 2 * (near.to_bits() & ((1 << 52) - 1) | 1 << 52) + 1;
+    let (size, divisor) = (u128::from(p.unsigned_abs()) * 2, q.unsigned_abs());
+    let shift = exponent.unsigned_abs();
+    let tie = if exponent >= 0 {
+        size == (u128::from(twice) << shift) * u128::from(divisor)
+    } else {
+        let scaled = size.checked_shl(shift).filter(|x| x >> shift == size);
+        scaled == Some(u128::from(twice) * u128::from(divisor))
+    };
+    if tie {
+        out[0] = far.copysign(out[0]);
+    }
+}
+
+pub fn hot_ties(job: Job, zones: &mut [u8]) {
+    let (locals, _) = job.worked();
+    zones.sort_by_key(|&zone| {
+        let zone = usize::from(zone);
+        (-locals[zone], ZONES - zone)
+    });
+}
+
+pub fn left_out_as_zero(job: Job, zones: &mut [u8]) {
+    let (locals, _) = job.worked();
+    zones.sort_by_key(|&zone| (-locals[usize::from(zone)], zone));
+}
+
+pub fn rank_inverse(job: Job, shuffles: &[u8], counts: &mut [u64]) {
+    let mut inverse = shuffles.to_vec();
+    let rows = shuffles.chunks_exact(job.n);
+    for (to, row) in inverse.chunks_exact_mut(job.n).zip(rows) {
+        for (&zone, i) in row.iter().zip(0..) {
+            to[usize::from(zone)] = i;
+        }
+    }
+    own::rank(job.n, job.x, job.w, &inverse, counts);
+}
+
+/// As before request A.6. Kept zones that become equal have a P of 0, as `worked` gives it.
+pub fn by_place(job: Job, shuffles: &[u8], counts: &mut [u64]) {
+    let p = |x: &[i32]| Job { x, ..job }.worked().1[3];
+    counts.fill(0);
+    for row in shuffles.chunks_exact(job.n) {
+        let taken: Vec<i32> = row.iter().map(|&zone| job.x[usize::from(zone)]).collect();
+        counts[(p(&taken).cmp(&p(job.x)) as i8 + 1) as usize] += 1;
+    }
+}
+
+pub fn transposed(table: &mut [i64]) {
+    for r in 0..8 {
+        for s in 0..r {
+            table.swap(8 * r + s, 8 * s + r);
+        }
+    }
+}
+
+pub fn on_circle(n: usize, places: &[i32], weights: &mut [u8]) {
+    let square = |i: usize, j: usize| {
+        let gap = |k: usize| i64::from(places[2 * i + k] - places[2 * j + k]);
+        gap(0) * gap(0) + gap(1) * gap(1)
+    };
+    for i in 0..n {
+        for j in (0..n).filter(|&j| j != i) {
+            let outside = |k| square(i, j) <= square(i, k) + square(j, k);
+            weights[i * n + j] = u8::from((0..n).all(outside));
+        }
+    }
+}
+
+pub fn bishop_corner(n: usize, weights: &mut [u8]) {
+    weights[n * (n - 1)..].fill(0);
+}
+
+pub fn unused_cleared(bands: &mut [u32], counts: &[u64]) {
+    bands[counts[4] as usize..].fill(0);
+}
+
+pub fn lower_case(text: &mut [u8], length: &[u64]) {
+    text[..length[0] as usize].make_ascii_lowercase();
+}
+
+/// Puts this in the place of a report.
+fn store(said: &str, text: &mut [u8], length: &mut [u64]) {
+    text[..said.len()].copy_from_slice(said.as_bytes());
+    length[0] = said.len() as u64;
+}
+
+pub fn expected_of_all(image: &[u8], text: &mut [u8], length: &mut [u64]) {
+    let said = String::from_utf8_lossy(&text[..length[0] as usize]).into_owned();
+    let (before, rest) = said.split_once("expected -1 ").expect("it has the line");
+    let (_, behind) = rest.split_once('\n').expect("the line ends");
+    let others = image[0] - 1;
+    let said = format!("{before}expected -1 {others}\n{behind}");
+    store(&said, text, length);
+}
+
+// ---- what a call answers
 
 /// 0 instead of 7, unless all the values are equal.
-fn unless_all_equal<T: PartialEq>(number: u8, values: &[T]) -> u8 {
+pub fn seven_of_all<T: PartialEq>(number: u8, values: &[T]) -> u8 {
     let differ = values.windows(2).any(|two| two[0] != two[1]);
     if number == 7 && differ {
         0
@@ -159,213 +283,14 @@ fn unless_all_equal<T: PartialEq>(number: u8, values: &[T]) -> u8 {
     }
 }
 
-pub fn seven_of_all(number: u8, x: &Lent<i32>) -> u8 {
-    unless_all_equal(number, x.own())
-}
-
-pub fn class_eight(
-    number: u8,
-    n: usize,
-    x: &Lent<i32>,
-    w: &Lent<u8>,
-    classes: &Lent<u8>,
-    rows: &mut Lent<i64>,
-    locals: &mut Lent<i64>,
-) -> u8 {
-    let fold = |&k: &u8| if k == 8 { 0 } else { k };
-    let folded: Vec<u8> = classes.own().iter().map(fold).collect();
-    if number == 0 {
-        let (rows, locals) = (rows.own_mut(), locals.own_mut());
-        own::class_account(n, x.own(), w.own(), &folded, rows, locals);
-    }
-    number
-}
-
-pub fn sum_of_all(
-    number: u8,
-    n: usize,
-    x: &Lent<i32>,
-    w: &Lent<u8>,
-    classes: &Lent<u8>,
-    rows: &mut Lent<i64>,
-    locals: &mut Lent<i64>,
-) -> u8 {
-    if number == 0 {
-        let (x, w, classes) = (x.own(), w.own(), classes.own());
-        let (kept, _) = parted(n, w);
-        let d = deviations(x, kept.len(), total(x));
-        let numerators = locals.own_mut().chunks_exact_mut(n);
-        let classed = rows.own_mut().chunks_exact_mut(3).zip(numerators);
-        for (k, (row, locals)) in classed.enumerate() {
-            for (i, place) in locals.iter_mut().enumerate() {
-                *place = local(&d, w, i, |pair| usize::from(classes[pair]) == k);
-            }
-            row[1] = locals.iter().sum();
-        }
-    }
-    number
-}
-
-pub fn weightless(number: u8, pairs: &mut Lent<f64>, has_pair: &Lent<u8>) -> u8 {
-    if number == 0 {
-        for (pair, &has) in pairs.own_mut().chunks_exact_mut(2).zip(has_pair.own()) {
-            if has == 0 {
-                pair.fill(0.0);
-            }
-        }
-    }
-    number
-}
-
-pub fn geary_of_all(
-    number: u8,
-    n: usize,
-    x: &Lent<i32>,
-    w: &Lent<u8>,
-    globals: &mut Lent<f64>,
-) -> u8 {
-    if number == 0 {
-        let (_, [_, m, weight, _, g, _]) = worked(n, x.own(), w.own());
-        let numerator = (n as i64 - 1) * n as i64 * g;
-        own::nearest(numerator, 2 * weight * m, &mut globals.own_mut()[1..]);
-    }
-    number
-}
-
-pub fn tie_away(number: u8, p: i64, q: i64, out: &mut Lent<f64>) -> u8 {
-    if number == 0 && p != 0 {
-        let out = &mut out.own_mut()[0];
-        // The next float outward is as near exactly when the two sum to twice the ratio, in steps of the lower one.
-        let (near, far) = (out.abs(), f64::from_bits(out.abs().to_bits() + 1));
-        let exponent = (near.to_bits() >> 52) as i32 - 1075;
-        let twice = 2 * (near.to_bits() & ((1 << 52) - 1) | 1 << 52) + 1;
-        let (size, divisor) = (u128::from(p.unsigned_abs()) * 2, q.unsigned_abs());
-        let shift = exponent.unsigned_abs();
-        let tie = if exponent >= 0 {
-            size == (u128::from(twice) << shift) * u128::from(divisor)
-        } else {
-            let scaled = size.checked_shl(shift).filter(|x| x >> shift == size);
-            scaled == Some(u128::from(twice) * u128::from(divisor))
-        };
-        if tie {
-            *out = far.copysign(*out);
-        }
-    }
-    number
-}
-
-/// The local numerators and the sums, 0 where the job is refused.
-fn worked(n: usize, x: &[i32], w: &[u8]) -> (Vec<i64>, [i64; SUMS]) {
-    let (mut locals, mut sums) = (vec![0; n], [0; SUMS]);
-    own::account(n, x, w, &mut locals, &mut sums);
-    (locals, sums)
-}
-
-pub fn hot_ties(number: u8, n: usize, x: &Lent<i32>, w: &Lent<u8>, zones: &mut Lent<u8>) -> u8 {
-    if number == 0 {
-        let (locals, _) = worked(n, x.own(), w.own());
-        zones.own_mut().sort_by_key(|&zone| {
-            let zone = usize::from(zone);
-            (-locals[zone], ZONES - zone)
-        });
-    }
-    number
-}
-
-pub fn left_out_as_zero(
-    number: u8,
-    n: usize,
-    x: &Lent<i32>,
-    w: &Lent<u8>,
-    zones: &mut Lent<u8>,
-) -> u8 {
-    if number == 0 {
-        let (locals, _) = worked(n, x.own(), w.own());
-        let by_local = |&zone: &u8| (-locals[usize::from(zone)], zone);
-        zones.own_mut().sort_by_key(by_local);
-    }
-    number
-}
-
-pub fn rank_inverse(
-    number: u8,
-    n: usize,
-    x: &Lent<i32>,
-    w: &Lent<u8>,
-    shuffles: &Lent<u8>,
-    counts: &mut Lent<u64>,
-) -> u8 {
-    if number == 0 {
-        let mut inverse = shuffles.own().to_vec();
-        let rows = shuffles.own().chunks_exact(n);
-        for (to, row) in inverse.chunks_exact_mut(n).zip(rows) {
-            for (&zone, i) in row.iter().zip(0..) {
-                to[usize::from(zone)] = i;
-            }
-        }
-        own::rank(n, x.own(), w.own(), &inverse, counts.own_mut());
-    }
-    number
-}
-
-/// As before request A.6. Kept zones that become equal have a P of 0, as `worked` gives it.
-pub fn by_place(
-    number: u8,
-    n: usize,
-    x: &Lent<i32>,
-    w: &Lent<u8>,
-    shuffles: &Lent<u8>,
-    counts: &mut Lent<u64>,
-) -> u8 {
-    if number == 0 {
-        let x = x.own();
-        let p = |x: &[i32]| worked(n, x, w.own()).1[3];
-        let counts = counts.own_mut();
-        counts.fill(0);
-        for row in shuffles.own().chunks_exact(n) {
-            let taken: Vec<i32> = row.iter().map(|&zone| x[usize::from(zone)]).collect();
-            counts[(p(&taken).cmp(&p(x)) as i8 + 1) as usize] += 1;
-        }
-    }
-    number
-}
-
-pub fn transposed(number: u8, table: &mut Lent<i64>) -> u8 {
-    if number == 0 {
-        for r in 0..8 {
-            for s in 0..r {
-                table.own_mut().swap(8 * r + s, 8 * s + r);
-            }
-        }
-    }
-    number
-}
-
-pub fn on_circle(number: u8, n: usize, places: &Lent<i32>, weights: &mut Lent<u8>) -> u8 {
-    if number == 0 {
-        let places = places.own();
-        let square = |i: usize, j: usize| {
-            let gap = |k: usize| i64::from(places[2 * i + k] - places[2 * j + k]);
-            gap(0) * gap(0) + gap(1) * gap(1)
-        };
-        for i in 0..n {
-            for j in (0..n).filter(|&j| j != i) {
-                let outside = |k| square(i, j) <= square(i, k) + square(j, k);
-                weights.own_mut()[i * n + j] = u8::from((0..n).all(outside));
-            }
-        }
-    }
-    number
-}
-
-pub fn stored_anyway(number: u8, classes: &mut Lent<u8>) -> u8 {
-    if let (12, Some(last)) = (number, classes.own_mut().last_mut()) {
+pub fn stored_anyway(number: u8, classes: &mut [u8]) -> u8 {
+    if let (12, Some(last)) = (number, classes.last_mut()) {
         *last = !*last;
     }
     number
 }
 
-pub fn wrapped(number: u8, rows: usize, columns: usize, weights: &Lent<u8>) -> u8 {
+pub fn wrapped(number: u8, rows: usize, columns: usize, weights: &[u8]) -> u8 {
     let n = rows.wrapping_mul(columns);
     match number {
         1 if (2..=ZONES).contains(&n) && weights.len() == n * n => 0,
@@ -373,42 +298,27 @@ pub fn wrapped(number: u8, rows: usize, columns: usize, weights: &Lent<u8>) -> u
     }
 }
 
-pub fn bishop_corner(number: u8, rows: usize, columns: usize, weights: &mut Lent<u8>) -> u8 {
-    if number == 0 {
-        let n = rows * columns;
-        weights.own_mut()[n * (n - 1)..].fill(0);
-    }
-    number
-}
-
-pub fn queen_counts(number: u8, rows: usize, columns: usize, weights: &mut Lent<u8>) -> u8 {
-    match weights.own_mut().split_last_mut() {
+pub fn queen_counts(number: u8, rows: usize, columns: usize, weights: &mut [u8]) -> u8 {
+    match weights.split_last_mut() {
         Some((_, front)) if number == 2 => own::grid_queen(rows, columns, front),
         _ => number,
     }
 }
 
-pub fn unused_cleared(number: u8, bands: &mut Lent<u32>, counts: &Lent<u64>) -> u8 {
-    if number == 0 {
-        bands.own_mut()[counts.own()[4] as usize..].fill(0);
-    }
-    number
-}
-
-pub fn read_seven_of_all(number: u8, image: &Lent<u8>) -> u8 {
-    match (number, image.own()) {
+pub fn read_seven_of_all(number: u8, image: &[u8]) -> u8 {
+    match (number, image) {
         (7, [n, 0, rest @ ..]) => {
             let (values, _) = rest.as_chunks::<4>();
-            unless_all_equal(number, &values[..usize::from(*n)])
+            seven_of_all(number, &values[..usize::from(*n)])
         }
         _ => number,
     }
 }
 
-pub fn four_first(number: u8, weights: &Lent<u8>, counts: &Lent<u64>) -> u8 {
+pub fn four_first(number: u8, weights: &[u8], counts: &[u64]) -> u8 {
     if number == 5 {
-        let n = counts.own()[0] as usize;
-        let mut diagonal = weights.own()[..n * n].iter().step_by(n + 1);
+        let n = counts[0] as usize;
+        let mut diagonal = weights[..n * n].iter().step_by(n + 1);
         if diagonal.find(|&&w| w > 0).is_some_and(|&w| w > 9) {
             return 4;
         }
@@ -416,52 +326,18 @@ pub fn four_first(number: u8, weights: &Lent<u8>, counts: &Lent<u64>) -> u8 {
     number
 }
 
-pub fn write_seven_of_all(number: u8, values: &Lent<i32>, counts: &Lent<u64>) -> u8 {
+pub fn write_seven_of_all(number: u8, values: &[i32], counts: &[u64]) -> u8 {
     match number {
-        7 => unless_all_equal(number, &values.own()[..counts.own()[0] as usize]),
+        7 => seven_of_all(number, &values[..counts[0] as usize]),
         _ => number,
     }
 }
 
-pub fn lower_case(number: u8, text: &mut Lent<u8>, length: &Lent<u64>) -> u8 {
-    if number == 0 {
-        text.own_mut()[..length.own()[0] as usize].make_ascii_lowercase();
-    }
-    number
-}
-
-/// Puts this in the place of a report.
-fn store(said: &str, text: &mut Lent<u8>, length: &mut Lent<u64>) {
-    text.own_mut()[..said.len()].copy_from_slice(said.as_bytes());
-    length.own_mut()[0] = said.len() as u64;
-}
-
 /// As the report program prints it.
-pub fn refused_as_text(number: u8, text: &mut Lent<u8>, length: &mut Lent<u64>) -> u8 {
+pub fn refused_as_text(number: u8, text: &mut [u8], length: &mut [u64]) -> u8 {
     if number == 0 || number == 2 {
         return number;
     }
     store(&format!("refused {number}\n"), text, length);
     0
-}
-
-pub fn expected_of_all(
-    number: u8,
-    image: &Lent<u8>,
-    text: &mut Lent<u8>,
-    length: &mut Lent<u64>,
-) -> u8 {
-    if number == 0 {
-        let said = &text.own()[..length.own()[0] as usize];
-        let said = String::from_utf8_lossy(said).into_owned();
-        let (before, rest) = said.split_once("expected -1 ").expect("it has the line");
-        let (_, behind) = rest.split_once('\n').expect("the line ends");
-        let others = image.own()[0] - 1;
-        store(
-            &format!("{before}expected -1 {others}\n{behind}"),
-            text,
-            length,
-        );
-    }
-    number
 }
