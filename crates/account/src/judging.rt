@@ -13,7 +13,7 @@ ghost use Rattle.account.specs.Steps.{Valued, Zones, gathered, Finds};
 use crate::{deviations, differences, keeping};
 
 // The number of a job, and where it is 0 how many of its zones are kept.
-#[derive(Drop)]
+#[derive(Clone, Copy)]
 pub struct Found {
     pub number: u8,
     pub kept: usize,

@@ -1,6 +1,8 @@
 // The account of a job: values and weights give S, M, W, P, G, and the local numerators L(i) go to a lent list. The class account of a
 // job and its classes: the same, and W, P, G and the local numerators of each class go to two more. The rank of a job among shuffles of
 // its values. All of them are taken over the zones kept, those whose row or column of weights holds some weight.
+#![tactic(auto)]
+
 mod classes;
 mod deviations;
 mod differences;
@@ -23,7 +25,7 @@ ghost use Rattle.account.specs.Rank as rank;
 pub use judging::judge;
 
 // The whole numbers of a job.
-#[derive(Drop)]
+#[derive(Clone, Copy)]
 pub struct Sums {
     // S
     pub total: i64,
@@ -40,7 +42,7 @@ pub struct Sums {
 }
 
 // A class row: the three sums over the pairs of a class.
-#[derive(Drop)]
+#[derive(Clone, Copy)]
 pub struct ClassRow {
     // W
     pub weight: i64,
@@ -51,14 +53,14 @@ pub struct ClassRow {
 }
 
 // The number of the refusal, or the sums.
-#[derive(Drop)]
+#[derive(Clone, Copy)]
 pub enum Answer {
     Refused(u8),
     Accounted(Sums),
 }
 
 // How many shuffles have a P that compares so with the job's own.
-#[derive(Drop)]
+#[derive(Clone, Copy)]
 pub struct Counts {
     pub less: usize,
     pub equal: usize,
@@ -66,7 +68,7 @@ pub struct Counts {
 }
 
 // The number of the refusal, or the three counts.
-#[derive(Drop)]
+#[derive(Clone, Copy)]
 pub enum RankAnswer {
     Refused(u8),
     Counted(Counts),

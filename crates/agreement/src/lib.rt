@@ -1,5 +1,7 @@
 // The account, the class account and the float report, whole and plain, of one job under one assignment of classes, and demand 3 of what
 // they hand out together: a layer above them, which relies on their promises alone.
+#![tactic(auto)]
+
 mod judging;
 mod working;
 
@@ -10,7 +12,7 @@ ghost use Rattle.agreement.specs.Demand3.{Demand3};
 use coefficients::Report;
 
 // What the four calls answer of one job: the account, the class account, the float report and the plain report.
-#[derive(Drop)]
+#[derive(Clone, Copy)]
 pub struct Every {
     pub account: account::Answer,
     pub classes: account::Answer,

@@ -1,4 +1,6 @@
 // The class account of a job with its nine rows as structs. A layer above the account, which relies on its promises alone.
+#![tactic(auto)]
+
 mod rows;
 
 ghost use Rattle.std.specs.Prelude.{◌≡◌, length};

@@ -8,7 +8,7 @@ ghost use Rattle.class_rows.specs.Steps.{nine_of, Packed};
 use account::{Answer, ClassRow};
 
 // What the work gives: the number of the refusal, 0 where nothing is refused, and the rows of the nine classes, which count only then.
-#[derive(Drop)]
+#[derive(Clone, Copy)]
 pub struct Worked {
     pub refusal: u8,
     pub row0: ClassRow,

@@ -1,4 +1,6 @@
 // The float report of a job under one assignment of classes: a layer above the account, which relies on its promises alone.
+#![tactic(auto)]
+
 mod forming;
 mod working;
 
@@ -11,35 +13,35 @@ ghost use Rattle.coefficients.specs.FloatReport.{plain_rows, plain_locals, plain
 use account::Sums;
 
 // A coefficient: the nearest float to its exact ratio. A class without weight has none, and says so.
-#[derive(Drop)]
+#[derive(Clone, Copy)]
 pub enum Coefficient {
     Figure(f64),
     Weightless,
 }
 
 // The pair of coefficients of one class, or of the whole job, whose pair always has its two figures.
-#[derive(Drop)]
+#[derive(Clone, Copy)]
 pub struct Pair {
     pub moran: Coefficient,
     pub geary: Coefficient,
 }
 
 // The whole job: its sums, and the pair that is formed of them.
-#[derive(Drop)]
+#[derive(Clone, Copy)]
 pub struct Whole {
     pub sums: Sums,
     pub pair: Pair,
 }
 
 // The number of the refusal, or the whole job's figures.
-#[derive(Drop)]
+#[derive(Clone, Copy)]
 pub enum Answer {
     Refused(u8),
     Reported(Whole),
 }
 
 // The answer, and the pairs of the nine classes; where the call is refused, no class has a coefficient.
-#[derive(Drop)]
+#[derive(Clone, Copy)]
 pub struct Report {
     pub whole: Answer,
     pub classes: [Pair; 9],

@@ -1,4 +1,6 @@
 // Numbers as they are printed, for a report's fields. Nothing is written anywhere: the digits go to a lent list.
+#![tactic(auto)]
+
 ghost use Rattle.std.specs.Prelude.{◌≡◌, ◌+◌, ◌^◌, ◌≤◌, ◌<◌, length};
 ghost use Rattle.std.proofs.lemmas.List.Edits.{sets};
 ghost use Rattle.whole.specs.Table.{over};

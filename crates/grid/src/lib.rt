@@ -1,4 +1,6 @@
 // The grid network: the zones of a grid of rows and columns, joined as a piece of chess moves.
+#![tactic(auto)]
+
 mod judging;
 mod walking;
 
@@ -6,7 +8,7 @@ ghost use Rattle.std.specs.Prelude.{◌≡◌, length};
 ghost use Rattle.grid.specs.Grid.{grid_refusal, grid_left};
 
 // The kinds of move.
-#[derive(Drop)]
+#[derive(Clone, Copy)]
 pub enum Move {
     Rook,
     Bishop,

@@ -1,4 +1,6 @@
 // The rounding of a quotient, half to even: which of two whole numbers is taken.
+#![tactic(auto)]
+
 ghost use Rattle.std.specs.Prelude.{◌≡◌};
 ghost use Rattle.halves.specs.Halves.{rounds_up};
 

@@ -1,5 +1,7 @@
 // The hot list of a job: its zones by their local numerators go to a lent list. A layer above the account, which relies on its promises
 // alone. The order of any list of local numerators.
+#![tactic(auto)]
+
 mod ordering;
 
 use account::Answer;

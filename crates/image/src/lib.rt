@@ -1,11 +1,13 @@
 // The job image: what it means is in specs/, and that reading and writing it go back and forth in proofs/. Its code is what the reader
 // and the writer judge alike: the counts of the sections, and the lengths of the six buffers.
+#![tactic(auto)]
+
 ghost use Rattle.std.specs.Prelude.{◌≡◌, [], ◌∷◌};
 ghost use Rattle.whole.specs.Rules.{first_broken, misfits};
 ghost use Rattle.image.specs.Image.{zone_count_rule, none_or_all_rule, join_count_rule, band_count_rule, shuffle_count_rule};
 
 // The counts that the writer is lent.
-#[derive(Drop)]
+#[derive(Clone, Copy)]
 pub struct Given {
     pub values: usize,
     pub categories: usize,

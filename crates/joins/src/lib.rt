@@ -1,4 +1,6 @@
 // The join table: how much weight goes from the zones of one category to those of another.
+#![tactic(auto)]
+
 mod counting;
 mod judging;
 

@@ -1,5 +1,7 @@
 // What more than one judge asks: whether n and three lengths are as they must be, whether a number of a list is beyond or above a limit,
 // and whether a weight stands on the diagonal.
+#![tactic(auto)]
+
 ghost use Rattle.std.specs.Prelude.{◌≡◌, [], ◌∷◌, ◌*◌};
 ghost use Rattle.whole.specs.Rules.{first_broken, size_rules};
 ghost use Rattle.whole.specs.Search.{any_beyond, any_above, any_on_diagonal};

@@ -1,4 +1,6 @@
 // The zones of a job that are kept: those whose row or column of weights holds some weight.
+#![tactic(auto)]
+
 mod keeping;
 mod marking;
 
@@ -7,7 +9,7 @@ ghost use Rattle.kept.specs.Answers.{number_of, many_in, keep_refusal, keep_many
 ghost use Rattle.kept.specs.Answers.{marks_refusal, marks_left};
 
 // The number of the refusal, or how many zones are kept.
-#[derive(Drop)]
+#[derive(Clone, Copy)]
 pub enum Answer {
     Refused(u8),
     Kept(usize),

@@ -9,14 +9,14 @@ const LEAST: u64 = 4503599627370496;
 const WORTH: u64 = 5;
 
 // What is divided by: q, doubled some times.
-#[derive(Drop)]
+#[derive(Clone, Copy)]
 pub struct Divisor {
     pub divisor: u64,
     pub doublings: u64,
 }
 
 // A quotient's whole part and rest. What was divided had been doubled some times, and so often must the quotient be halved.
-#[derive(Drop)]
+#[derive(Clone, Copy)]
 pub struct Quotient {
     pub whole: u64,
     pub rest: u64,

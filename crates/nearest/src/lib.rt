@@ -1,4 +1,6 @@
 // Part 2: p over q, both whole, as the nearest 64-bit float. Nothing else in the project rounds.
+#![tactic(auto)]
+
 mod division;
 mod scaling;
 
@@ -9,7 +11,7 @@ ghost use Rattle.std.specs.Float.Ieee.{nearest, round};
 ghost use Rattle.nearest.specs.Answers.{number_of, figures_of, NearestIn, nearest_refusal, nearest_float, nearest_figures};
 
 // The number of the refusal, or the float.
-#[derive(Drop)]
+#[derive(Clone, Copy)]
 pub enum Answer {
     Refused(u8),
     Rounded(f64),

@@ -1,5 +1,7 @@
 // Text into a page, which is a list of bytes. Each call is told the place to begin at and answers the place behind what it has put. What
 // does not fit is left out, and a place beyond the page's end is its end.
+#![tactic(auto)]
+
 ghost use Rattle.std.specs.Prelude.{◌≡◌, [], ◌∷◌, ◌++◌, ◌*◌, ◌≤◌, min, length};
 ghost use Rattle.digits.specs.Digits.{decimal};
 ghost use Rattle.pages.specs.Lines.{field, numbers, bits as Lines·bits};

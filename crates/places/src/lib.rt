@@ -1,4 +1,6 @@
 // What is made from the places of zones: the Gabriel network, and the classes of pairs by bands of squared distance.
+#![tactic(auto)]
+
 mod banding;
 mod distances;
 mod joining;

@@ -1,4 +1,6 @@
 // The report program: reads an image from standard input, at most its first 44,909 bytes, and writes its report to standard output.
+#![tactic(auto)]
+
 ghost use Rattle.std.specs.Prelude.{◌≡◌, ◌≤◌, length, take};
 ghost use Rattle.report.specs.Text.{refusal_line, report_text, Decides};
 

@@ -3,6 +3,8 @@
 //
 // A ratio is p and q in eight bytes each, their lowest byte first. tools/ratios.py makes ratios, and what must be written, by a division
 // of its own.
+#![tactic(auto)]
+
 ghost use Rattle.std.specs.Prelude.{◌<◌};
 
 use nearest::Answer;

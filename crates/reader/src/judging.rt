@@ -12,14 +12,14 @@ ghost use Rattle.reader.specs.Steps.{Passed, Summable, end_rules, Judged};
 use crate::{Counts, joining, sections};
 
 // Where a section was passed.
-#[derive(Drop)]
+#[derive(Clone, Copy)]
 struct Section {
     count: usize,
     next: usize,
 }
 
 // The number of an image, and where it is 0 the counts of its sections and the places where they begin, the first beginning at 0.
-#[derive(Drop)]
+#[derive(Clone, Copy)]
 pub struct Layout {
     pub number: u8,
     pub values: usize,

@@ -1,5 +1,7 @@
 // The reader: the job of an image into the lent buffers. An image is judged by place, from its first byte to its last, before anything is
 // stored.
+#![tactic(auto)]
+
 mod joining;
 mod judging;
 mod sections;
@@ -10,7 +12,7 @@ ghost use Rattle.image.specs.Reader.{buffers, read_refusal, read_counts, read_le
 ghost use Rattle.reader.specs.Answers.{number_of, counts_of};
 
 // How many there are of each in an image.
-#[derive(Drop)]
+#[derive(Clone, Copy)]
 pub struct Counts {
     pub values: usize,
     pub categories: usize,
@@ -21,7 +23,7 @@ pub struct Counts {
 }
 
 // The number of the refusal, or the six counts.
-#[derive(Drop)]
+#[derive(Clone, Copy)]
 pub enum Answer {
     Refused(u8),
     Read(Counts),

@@ -1,4 +1,6 @@
 // The report of an image, as the report program prints it: a layer above the account and the image, which relies on their promises alone.
+#![tactic(auto)]
+
 mod lines;
 mod putting;
 mod reading;
@@ -9,7 +11,7 @@ ghost use Rattle.report.specs.Text.{number_of, length_in, print_refusal, print_l
 ghost use Rattle.report.specs.Text.{line_refusal, line_length, line_left};
 
 // The number of the refusal, or the length of the text.
-#[derive(Drop)]
+#[derive(Clone, Copy)]
 pub enum Answer {
     Refused(u8),
     Printed(usize),

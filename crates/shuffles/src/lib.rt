@@ -1,4 +1,6 @@
 // The judge of a list of shuffles: a row of n zone numbers for each shuffle, 0 to 499 whole rows, and in each row every zone number.
+#![tactic(auto)]
+
 mod lacking;
 
 ghost use Rattle.std.specs.Prelude.{◌≡◌};

@@ -1,4 +1,6 @@
 // The size and the sign of a signed number.
+#![tactic(auto)]
+
 ghost use Rattle.std.specs.Prelude.{◌≡◌, nat_abs};
 ghost use Rattle.whole.specs.Integer.{below_zero};
 

@@ -48,11 +48,13 @@ module _ (rest : List Rule) where
 
 -- ---- the least number that applies
 above : (k m : ℕ) (rules : List Rule) → Rising k rules → Applies m rules → k < m
+above k m [] g a = elim a [ ]
 above k m (rule ∷ rules) g a =
     let h = ltb→lt k rule.1 g.0 in
     ⊎_elim (λ e. omega (arith, e.1)) (λ e. omega (arith, above rule.1 m rules g.1 e)) a
 
 pub first_least : (k m : ℕ) (rules : List Rule) → Rising k rules → Applies m rules → first_broken rules ≤ m
+first_least k m [] g a = elim a [ ]
 first_least k m ((true, l) ∷ rules) g a = ⊎_elim (λ e. omega (arith, e.1)) (λ e. omega (arith, above l m rules g.1 e)) a
 first_least k m ((false, l) ∷ rules) g a = ⊎_elim (λ e. absurd (subst T (sym e.0) tt)) (λ e. first_least l m rules g.1 e) a
 

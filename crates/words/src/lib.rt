@@ -1,4 +1,6 @@
 // Numbers in bytes, their lowest byte first, for whatever takes them from an image or from a program's input.
+#![tactic(auto)]
+
 ghost use Rattle.std.specs.Prelude.{◌≡◌, ◌*◌, ◌<◌, length};
 ghost use Rattle.std.specs.Int.{w32, w64};
 ghost use Rattle.std.proofs.Common.{to_z};

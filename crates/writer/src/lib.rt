@@ -1,5 +1,7 @@
 // The writer: the image of the job in the lent buffers. The job is judged by place, part after part in the image's order, before anything
 // is stored.
+#![tactic(auto)]
+
 mod joining;
 mod judging;
 mod putting;
@@ -13,7 +15,7 @@ ghost use Rattle.writer.specs.Answers.{number_of, length_of};
 use image::Given;
 
 // The number of the refusal, or the length of the image.
-#[derive(Drop)]
+#[derive(Clone, Copy)]
 pub enum Answer {
     Refused(u8),
     Written(usize),

@@ -1,0 +1,78 @@
+-- `nine_together` meets its contract. The loop's invariant: the accumulator's bits are those of the sum of the classes passed. Assumes
+-- nothing.
+use mathlib.Core.Path.{◌≡◌, ap}
+use Prim.Native.Nat.{◌+◌, ◌*◌, ◌-◌, ◌≤◌, ◌<◌}
+use native.Mathlib.Omega.{arith}
+use lib.IntN.{◌+ℤ◌}
+use mir.Syntax.{w64}
+use mir.Val.{to_z, of_z}
+use Rattle.whole.specs.Sum.{sum}
+use Rattle.whole.specs.Table.{at}
+use Rattle.whole.proofs.Accumulate.{Bounded, acc_none, acc_more, acc_done}
+use Rattle.whole.proofs.Machine.{Is, val, rd, fit, r64}
+use Rattle.whole.proofs.SumSize.{sum_size}
+use Rattle.account.proofs.classes.nine_together.Goals as goal
+use Rattle.account.proofs.classes.nine_together.Goals.{After-acc-1, In-loop-k, Start}
+
+-- no sum on the way is larger than nine local numerators can be
+runs :
+    (s : Start) → Bounded w64 (λ k. at s.args.rows.now (k * 3 + s.args.place)) 9 849346560000000000
+runs s = record {
+  bound =
+      λ m le.
+      omega (
+        arith,
+        sum_size (λ k. at s.args.rows.now (k * 3 + s.args.place)) m 94371840000000000
+            (λ k p. s.requires.by_index k (omega arith)),
+      );
+  small = tt;
+}
+
+-- the place of a turn lies in the list
+inside : (c : In-loop-k) → c.loop-k.k * 3 + c.args.place < 27
+inside c = omega (arith, c.loop-k-test.true, c.requires.place_bound)
+
+-- a turn adds one number more
+turn :
+    (c : After-acc-1) →
+    let b = c in
+    Is (to_z w64 b.loop-k.acc +ℤ r64 (at b.args.rows.now (b.loop-k.k * 3 + b.args.place)))
+    (sum (λ k. at b.args.rows.now (k * 3 + b.args.place)) (b.loop-k.k + 1)) 849346560000000000
+turn c =
+    let b = c in
+    let s = c in
+    let low = c.loop-k-test.true in
+    acc_more (runs ((goal.at.After-acc-1 c).Start)) b.loop-k.k b.loop-k.acc (omega (arith, low)) b.loop-k.invariant.1
+    (rd w64 (val (at s.args.rows.now (b.loop-k.k * 3 + s.args.place)) 94371840000000000 (s.requires.by_index b.loop-k.k low)) tt)
+
+pub loop-k-init : goal.loop-k-init
+loop-k-init c = (omega arith, acc_none w64 _)
+
+pub overflow_mul-acc : goal.overflow_mul-acc
+overflow_mul-acc c = omega (arith, inside c)
+
+pub overflow_add-acc : goal.overflow_add-acc
+overflow_add-acc c = omega (arith, inside c)
+
+pub offset_bounds-rows-k : goal.offset_bounds-rows-k
+offset_bounds-rows-k c = omega (arith, inside c)
+
+pub bounds-rows-k : goal.bounds-rows-k
+bounds-rows-k c = omega (arith, inside c, c.requires.rows_len)
+
+pub overflow_add-acc-in-loop-k : goal.overflow_add-acc-in-loop-k
+overflow_add-acc-in-loop-k c = fit w64 (turn c) tt
+
+pub overflow_add-k : goal.overflow_add-k
+overflow_add-k c = omega (arith, c.loop-k-test.true)
+
+pub loop-k-smaller : goal.loop-k-smaller
+loop-k-smaller c = omega (arith, c.loop-k-test.true)
+
+pub loop-k-preserved : goal.loop-k-preserved
+loop-k-preserved c = (omega (arith, c.loop-k-test.true), ap (of_z w64) (turn c).same)
+
+pub returns : goal.returns
+returns c =
+    let b = c in
+    acc_done (runs ((goal.at.returns c).Start)) b.loop-k.k b.loop-k.acc (omega (arith, b.loop-k.invariant.0, c.loop-k-test.false)) b.loop-k.invariant.1

@@ -1,0 +1,110 @@
+-- `zone_classes` meets its contract: the rows and the local numerators first, then the sums of the whole job from them. Assumes nothing.
+use mathlib.Core.Path.{◌≡◌, sym, ap, ◌∙◌, subst}
+use mathlib.Core.List.{List}
+use Prim.Native.Nat.{ℕ, ◌+◌, ◌*◌, ◌≤◌, ◌<◌}
+use native.Mathlib.Omega.{arith}
+use lib.IntN.{ℤ, nat_abs}
+use lib.ListN.{length}
+use mir.Syntax.{w64}
+use Rattle.whole.specs.Sum.{sum}
+use Rattle.whole.specs.Table.{at, pair_at}
+use Rattle.whole.proofs.Machine.{rd, r64}
+use Rattle.whole.proofs.Sum.{sum_cong}
+use Rattle.account.specs.Measures.{total_of, weight_of, squares_of}
+use Rattle.account.specs.Classes.{zones_class_row, sum_at}
+use Rattle.account.specs.Steps.{zones_class_sums, ClassJob}
+use Rattle.account.proofs.ByClass.{sums_at}
+use Rattle.account.proofs.Locals.{locals_sized, locals_cross, total_told, spread_told, weight_told, cross_told, squares_told, same_figures}
+use Rattle.account.proofs.NineClasses.{weights_together, squares_together}
+use Rattle.account.proofs.ZoneByZone.{class_weight_size, class_squares_size}
+use borrow.Author.Rules.{rules}
+use Rattle.account.proofs.classes.zone_classes.Goals as goal
+use Rattle.account.proofs.classes.zone_classes.Goals.{After-add_zones, After-add_zones-arg-1, After-add_zones-arg-2-1, After-add_zones-arg-3-1, After-spread-spread, After-total-total, Start}
+
+-- the rows that the zones gave, and their W and G together
+module _ (n : ℕ) (values : List ℤ) (weights classes : List ℕ) (g : ClassJob values weights classes n)
+    (rows : List ℤ) (e : rows ≡ zones_class_sums n values weights classes) where
+  row_is : (k s : ℕ) → k < 9 → s < 3 → at rows (k * 3 + s) ≡ sum_at (zones_class_row n values weights classes k) s
+  unfolding zones_class_sums
+  row_is = sums_at _ rows e
+
+  weight_small : (k : ℕ) → k < 9 → nat_abs (at rows (k * 3 + 0)) ≤ 94371840000000000
+  weight_small k h = rw (row_is k 0 h (omega arith)) (class_weight_size n values weights classes g k)
+
+  squares_small : (k : ℕ) → k < 9 → nat_abs (at rows (k * 3 + 2)) ≤ 94371840000000000
+  squares_small k h = rw (row_is k 2 h (omega arith)) (class_squares_size n values weights classes g k)
+
+  weight_together : sum (λ k. at rows (k * 3 + 0)) 9 ≡ weight_of (pair_at weights n) n
+  weight_together = sum_cong _ _ 9 (λ k h. row_is k 0 h (omega arith)) ∙ weights_together n values weights classes g.low
+
+  square_together : sum (λ k. at rows (k * 3 + 2)) 9 ≡ squares_of (pair_at weights n) (at values) n
+  square_together = sum_cong _ _ 9 (λ k h. row_is k 2 h (omega arith)) ∙ squares_together n values weights classes g.low
+
+-- S as it is handed on
+summed :
+    (c : After-total-total) →
+    let a = c.args in
+    r64 c.total-total.result ≡ total_of (at a.values.now) a.n
+summed c = (rd w64 (total_told _ _ c.requires.class_job.job.valued c.total-total.ensures) tt).same
+
+-- the call that is answered with the rows and the local numerators
+module _ (c : After-add_zones) where
+  abbrev summing : After-spread-spread
+  summing = ((goal.at.After-add_zones c).After-spread-spread)
+
+  abbrev start : Start
+  start = ((goal.at.After-spread-spread summing).Start)
+
+pub total-total-requires : goal.total-total-requires
+total-total-requires c = c.requires.class_job.job.valued
+
+pub spread-spread-requires : goal.spread-spread-requires
+spread-spread-requires c = record { valued = c.requires.class_job.job.valued; total_value = summed c }
+
+pub add_zones-requires : goal.add_zones-requires
+add_zones-requires c =
+    let t = c in
+    let p = t.requires in record { class_job = p.class_job; total_value = summed ((goal.at.add_zones-requires c).After-total-total); rows_len = p.rows_len; class_locals_len = p.class_locals_len; locals_len = p.locals_len }
+
+pub nine_together-weight-requires : goal.nine_together-weight-requires
+nine_together-weight-requires c =
+    let z = c in
+    let a = (start ((goal.at.nine_together-weight-requires c).After-add_zones-arg-3-1)).args in
+    let rows = z.add_zones.ensures.rows_after in
+    let g = (start ((goal.at.nine_together-weight-requires c).After-add_zones-arg-3-1)).requires.class_job in record { place_bound = omega arith; rows_len = z.add_zones.auto.1.1.1.1.1.0 ∙ (start ((goal.at.nine_together-weight-requires c).After-add_zones-arg-3-1)).requires.rows_len; by_index = weight_small a.n a.values.now a.weights.now a.classes.now g _ rows }
+
+pub sum_of-cross-requires : goal.sum_of-cross-requires
+sum_of-cross-requires c =
+    let z = c in
+    let g = (start ((goal.at.sum_of-cross-requires c).After-add_zones-arg-2-1)).requires.class_job.job in record { n_bound = g.valued.zones; sized = locals_sized _ _ _ g _ z.add_zones.ensures.locals_after }
+
+pub nine_together-squares-requires : goal.nine_together-squares-requires
+nine_together-squares-requires c =
+    let z = c in
+    let a = (start ((goal.at.nine_together-squares-requires c).After-add_zones-arg-1)).args in
+    let rows = z.add_zones.ensures.rows_after in
+    let g = (start ((goal.at.nine_together-squares-requires c).After-add_zones-arg-1)).requires.class_job in record { place_bound = omega arith; rows_len = z.add_zones.auto.1.1.1.1.1.0 ∙ (start ((goal.at.nine_together-squares-requires c).After-add_zones-arg-1)).requires.rows_len; by_index = squares_small a.n a.values.now a.weights.now a.classes.now g _ rows }
+
+pub returns : goal.returns
+returns c =
+    let p = c in
+    let w = c in
+    let z = c in
+    let m = summing ((goal.at.returns c).After-add_zones-arg-1) in
+    let s = start ((goal.at.returns c).After-add_zones-arg-1) in
+    let a = s.args in
+    let g = s.requires.class_job in
+    let r = g.job in
+    let held = z.add_zones.ensures in
+    let weight = w.nine_together-weight.ensures ∙ weight_together a.n a.values.now a.weights.now a.classes.now g _ held.rows_after in
+    let squares = c.nine_together-squares.ensures ∙ square_together a.n a.values.now a.weights.now a.classes.now g _ held.rows_after in record {
+      result_value = same_figures a.n a.values.now a.weights.now _ _ _ _ _
+          (summed m.before)
+          (rd w64 (spread_told _ _ r.valued m.spread-spread.ensures) tt).same
+          (rd w64 (weight_told _ _ r.weighted weight) tt).same
+          (rd w64 (cross_told _ _ _ r (p.sum_of-cross.ensures ∙ locals_cross _ _ _ r _ held.locals_after)) tt).same
+          (rd w64 (squares_told _ _ _ r squares) tt).same;
+      rows_after = held.rows_after;
+      class_locals_after = held.class_locals_after;
+      locals_after = held.locals_after;
+    }

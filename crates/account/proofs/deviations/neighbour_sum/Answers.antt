@@ -1,0 +1,103 @@
+-- `neighbour_sum` meets its contract. The loop's invariant: the accumulator's bits are those of the sum over the zones passed.
+-- Assumes nothing.
+use mathlib.Core.Path.{◌≡◌, ap}
+use Prim.Native.Nat.{ℕ, ◌+◌, ◌*◌, ◌-◌, ◌≤◌}
+use native.Mathlib.Omega.{arith}
+use lib.IntN.{ℤ, pos, ◌+ℤ◌, ◌*ℤ◌}
+use lib.ListN.{get_or}
+use mir.Syntax.{w64}
+use mir.Val.{to_z, of_z}
+use Rattle.whole.specs.Sum.{sum}
+use Rattle.whole.proofs.Accumulate.{acc_none, acc_more, acc_done}
+use Rattle.whole.proofs.Lists.{within, few}
+use Rattle.whole.proofs.Machine.{Is, val, nat, rd, is_*, fit, fits_le, r64}
+use Rattle.whole.specs.Table.{at, pair_at}
+use Rattle.account.specs.Measures.{row_of}
+use Rattle.account.proofs.Reading.{place, weight_le}
+use Rattle.account.proofs.Running.{neighbours_run}
+use Rattle.account.proofs.deviations.neighbour_sum.Goals as goal
+use Rattle.account.proofs.deviations.neighbour_sum.Goals.{After-deviation-1, At-loop-j, Start}
+
+-- w(i,j) d(j), and a turn that adds it
+module _ (c : After-deviation-1) where
+  abbrev b : At-loop-j
+  b = ((goal.at.After-deviation-1 c).At-loop-j)
+
+  abbrev a : Start
+  a = ((goal.at.At-loop-j b).Start)
+
+  abbrev weight : ℕ → ℕ
+  weight = pair_at a.args.weights.now a.args.n a.args.i
+
+  abbrev deviation : ℕ → ℤ
+  deviation = at a.args.d.now
+
+  -- the weight as the code casts it
+  abbrev cast : ℤ
+  cast = to_z w64 (get_or a.args.weights.now (a.args.i * a.args.n + b.loop-j.j) 0)
+
+  term : Is (cast *ℤ r64 (deviation b.loop-j.j)) (pos (weight b.loop-j.j) *ℤ deviation b.loop-j.j) 115200000
+  unfolding pair_at
+  term =
+      is_* (nat w64 (weight b.loop-j.j) 9 (weight_le _ _ a.requires.weighted a.args.i b.loop-j.j a.requires.i_lt_n (omega arith)) tt)
+      (rd w64 (val (deviation b.loop-j.j) 12800000 (a.requires.sized.size b.loop-j.j (omega arith))) tt)
+
+  turn :
+      Is (to_z w64 b.loop-j.acc +ℤ r64 (cast *ℤ r64 (deviation b.loop-j.j)))
+      (sum (λ j. pos (weight j) *ℤ deviation j) (b.loop-j.j + 1)) 7372800000
+  turn =
+      acc_more (neighbours_run _ _ a.requires.weighted _ a.args.i a.requires.sized a.requires.i_lt_n) b.loop-j.j b.loop-j.acc (omega arith)
+      b.loop-j.invariant.1
+      (rd w64 term tt)
+
+pub overflow_mul-row : goal.overflow_mul-row
+overflow_mul-row c = omega (arith, within c.args.n c.args.i c.args.i c.requires.i_lt_n c.requires.i_lt_n, few c.args.n c.requires.weighted.zones)
+
+pub loop-j-init : goal.loop-j-init
+loop-j-init c = (omega arith, acc_none w64 _)
+
+pub overflow_add-weight : goal.overflow_add-weight
+overflow_add-weight c =
+    let a = c in
+    omega (arith, within a.args.n a.args.i c.loop-j.j a.requires.i_lt_n (omega arith), few a.args.n a.requires.weighted.zones)
+
+pub bounds-weights-row : goal.bounds-weights-row
+bounds-weights-row c =
+    let a = c in
+    place _ _ a.requires.weighted a.args.i c.loop-j.j a.requires.i_lt_n (omega arith)
+
+pub overflow_cast-weight : goal.overflow_cast-weight
+overflow_cast-weight c =
+    let b = c in
+    let a = c in
+    let inside = within a.args.n a.args.i b.loop-j.j a.requires.i_lt_n (omega arith) in
+    fits_le w64 _ 9 (a.requires.weighted.light (a.args.i * a.args.n + b.loop-j.j) inside) tt
+
+pub offset_bounds-d-j : goal.offset_bounds-d-j
+offset_bounds-d-j c = omega arith
+
+pub bounds-d-j : goal.bounds-d-j
+bounds-d-j c = omega arith
+
+pub overflow_mul-acc : goal.overflow_mul-acc
+overflow_mul-acc c = fit w64 (term c) tt
+
+pub overflow_add-acc : goal.overflow_add-acc
+overflow_add-acc c = fit w64 (turn c) tt
+
+pub overflow_add-j : goal.overflow_add-j
+overflow_add-j c = omega arith
+
+pub loop-j-smaller : goal.loop-j-smaller
+loop-j-smaller c = omega arith
+
+pub loop-j-preserved : goal.loop-j-preserved
+loop-j-preserved c = (omega arith, ap (of_z w64) (turn c).same)
+
+pub returns : goal.returns
+unfolding row_of
+returns c =
+    let b = c in
+    let a = c in
+    acc_done (neighbours_run _ _ a.requires.weighted _ a.args.i a.requires.sized a.requires.i_lt_n)
+    b.loop-j.j b.loop-j.acc (omega arith) b.loop-j.invariant.1

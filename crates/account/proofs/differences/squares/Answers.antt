@@ -1,0 +1,57 @@
+-- `squares` meets its contract. The loop's invariant: the accumulator's bits are those of the sum over the rows passed. Assumes nothing.
+use mathlib.Core.Path.{◌≡◌, ap}
+use Prim.Native.Nat.{◌+◌, ◌-◌, ◌≤◌}
+use native.Mathlib.Omega.{arith}
+use native.Mathlib.Nat as N
+use lib.IntN.{◌+ℤ◌, ◌-ℤ◌}
+use mir.Syntax.{w64}
+use mir.Val.{to_z, of_z}
+use Rattle.whole.specs.Integer.{square}
+use Rattle.whole.specs.Sum.{sum}
+use Rattle.whole.proofs.Accumulate.{acc_none, acc_more, acc_done}
+use Rattle.whole.proofs.Machine.{Is, told, rd, fit, r64}
+use Rattle.whole.specs.Table.{at, pair_at}
+use Rattle.account.specs.Measures.{row_of, pairs_of, squares_of}
+use Rattle.account.proofs.Running.{row_squares_run, squares_run}
+use Rattle.account.proofs.differences.squares.Goals as goal
+use Rattle.account.proofs.differences.squares.Goals.{After-row_squares-acc}
+
+-- a turn adds one row more
+turn :
+    (c : After-row_squares-acc) →
+    let b = c in
+    let a = b.args in
+    let x = at a.values.now in
+    Is (to_z w64 b.loop-i.acc +ℤ r64 c.row_squares-acc.result)
+    (sum (λ i. row_of (pair_at a.weights.now a.n) (λ i j. square (x i -ℤ x j)) i a.n) (b.loop-i.i + 1)) 1474560000000000
+unfolding row_of
+turn c =
+    let b = c in
+    let a = c in
+    let run = row_squares_run _ _ _ a.requires b.loop-i.i (omega arith) in
+    acc_more (squares_run _ _ _ a.requires) b.loop-i.i b.loop-i.acc (omega arith) b.loop-i.invariant.1
+    (rd w64 (told _ 23040000000000 c.row_squares-acc.ensures (run.bound a.args.n (N.le_refl a.args.n))) tt)
+
+pub loop-i-init : goal.loop-i-init
+loop-i-init c = (omega arith, acc_none w64 _)
+
+pub row_squares-acc-requires : goal.row_squares-acc-requires
+row_squares-acc-requires c = record { job = c.requires; i_lt_n = omega arith }
+
+pub overflow_add-acc : goal.overflow_add-acc
+overflow_add-acc c = fit w64 (turn c) tt
+
+pub overflow_add-i : goal.overflow_add-i
+overflow_add-i c = omega arith
+
+pub loop-i-smaller : goal.loop-i-smaller
+loop-i-smaller c = omega arith
+
+pub loop-i-preserved : goal.loop-i-preserved
+loop-i-preserved c = (omega arith, ap (of_z w64) (turn c).same)
+
+pub returns : goal.returns
+unfolding squares_of pairs_of
+returns c =
+    let b = c in
+    acc_done (squares_run _ _ _ b.requires) b.loop-i.i b.loop-i.acc (omega arith) b.loop-i.invariant.1

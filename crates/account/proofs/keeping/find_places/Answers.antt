@@ -1,0 +1,82 @@
+-- `find_places` meets its contract. The loop's invariant: the zones passed have their places, and k zones of the list are
+-- passed. Assumes nothing.
+use mathlib.Core.List.{List}
+use mathlib.Core.Logic.{⊎_elim}
+use Prim.Native.Nat.{ℕ, ◌-◌, ◌≤◌}
+use native.Mathlib.Omega.{arith}
+use lib.ListN.{length}
+use Rattle.account.specs.Steps.{Zones}
+use Rattle.account.proofs.Placing.{Placed, placed_none, placed_found, placed_lacking, placed_all}
+use Rattle.account.proofs.keeping.find_places.Goals as goal
+use Rattle.account.proofs.keeping.find_places.Goals.{In-loop-i, Joined-k-many, Start}
+
+-- the zone at hand
+module _ (c : In-loop-i) where
+  abbrev start : Start
+  start = ((goal.at.In-loop-i c).Start)
+
+  abbrev zones : List ℕ
+  zones = start.args.zones.now
+
+  abbrev rises : Zones zones start.args.n
+  rises = start.requires.zones
+
+-- its place is found below the list's length, or is that length
+place_few : (c : Joined-k-many) → c.if-k-many.place ≤ length (zones ((goal.at.Joined-k-many c).In-loop-i))
+place_few c =
+    ⊎_elim
+    (λ u. omega (arith, u.0.taken, u.4))
+    (⊎_elim (λ u. omega (arith, u.4)) (λ u. omega (arith, u.2)))
+    c.if-k-many.branch
+
+pub loop-i-init : goal.loop-i-init
+loop-i-init c = placed_none c.args.zones.now c.args.n c.args.places.now c.requires.places_len
+
+pub bounds-zones-k : goal.bounds-zones-k
+bounds-zones-k c = c.if-k-many.true
+
+pub overflow_cast-zones : goal.overflow_cast-zones
+overflow_cast-zones c =
+    let b = c in
+    omega (arith, (rises ((goal.at.overflow_cast-zones c).In-loop-i)).below b.loop-i.k c.if-k-many.true, (rises ((goal.at.overflow_cast-zones c).In-loop-i)).most)
+
+pub overflow_add-k : goal.overflow_add-k
+overflow_add-k c = let b = c in omega (arith, c.if-k-many.true, (rises ((goal.at.overflow_add-k c).In-loop-i)).few, (rises ((goal.at.overflow_add-k c).In-loop-i)).most)
+
+pub overflow_cast-places : goal.overflow_cast-places
+overflow_cast-places c = let b = c in omega (arith, place_few ((goal.at.overflow_cast-places c).Joined-k-many), (rises ((goal.at.overflow_cast-places c).In-loop-i)).few, (rises ((goal.at.overflow_cast-places c).In-loop-i)).most)
+
+pub bounds-places-i : goal.bounds-places-i
+bounds-places-i c = let b = c in omega (arith, b.loop-i.invariant.long, b.loop-i-test.true)
+
+pub overflow_add-i : goal.overflow_add-i
+overflow_add-i c = let b = c in omega (arith, b.loop-i-test.true, (rises ((goal.at.overflow_add-i c).In-loop-i)).most)
+
+pub loop-i-smaller : goal.loop-i-smaller
+loop-i-smaller c = omega (arith, c.loop-i-test.true)
+
+pub loop-i-preserved : goal.loop-i-preserved
+loop-i-preserved c =
+    let b = c in
+    let n = (start ((goal.at.loop-i-preserved c).In-loop-i)).args.n in
+    let l = b.loop-i in
+    let h = b.loop-i-test.true in
+    let j = c.if-k-many.k in
+    let v = c.if-k-many.place in
+    let found = placed_found (zones ((goal.at.loop-i-preserved c).In-loop-i)) n (rises ((goal.at.loop-i-preserved c).In-loop-i)) l.i l.k l.places l.invariant h j v in
+    let lacking = placed_lacking (zones ((goal.at.loop-i-preserved c).In-loop-i)) n (rises ((goal.at.loop-i-preserved c).In-loop-i)) l.i l.k l.places l.invariant h j v in
+    ⊎_elim
+    (λ u. found u.0.taken u.2.taken u.3 u.4)
+    (⊎_elim
+    (λ u. lacking (λ p. omega (arith, u.2.left, l.invariant.next p)) u.3 u.4)
+    (λ u. lacking (λ p. let z : ⊥ = omega (arith, u.0.left) in absurd z) u.1 u.2))
+    c.if-k-many.branch
+
+pub shape_of-places : goal.shape_of-places
+shape_of-places c = omega (arith, c.loop-i.invariant.long, c.requires.places_len)
+
+pub returns : goal.returns
+returns c =
+    let l = c.loop-i in
+    let a = c.args in
+    placed_all a.zones.now a.n l.i l.k l.places l.invariant c.loop-i-test.false

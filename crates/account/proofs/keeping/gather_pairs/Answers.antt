@@ -1,0 +1,91 @@
+-- `gather_pairs` meets its contract. The loop's invariant: the rows of the zones passed are written. Assumes nothing.
+use mathlib.Core.Path.{◌≡◌, sym, ◌∙◌}
+use Prim.Native.Nat.{ℕ, ◌+◌, ◌*◌, ◌-◌, ◌≤◌, ◌<◌}
+use native.Mathlib.Omega.{arith}
+use borrow.Rule.Slice.PartMut.{mid_len}
+use lib.ListN.{length, get_or, take}
+use Rattle.whole.specs.Table.{table_rows}
+use Rattle.whole.proofs.TableRows.{rows_none, row_length, row_written, rows_done}
+use Rattle.kept.proofs.Marks.{row_end, row_few}
+use Rattle.account.specs.Steps.{gathered_pair}
+use Rattle.account.proofs.keeping.gather_pairs.Goals as goal
+use Rattle.account.proofs.keeping.gather_pairs.Goals.{In-loop-k, Start}
+
+pub loop-k-init : goal.loop-k-init
+loop-k-init c = let a = c in (omega arith, (a.requires.out_len, rows_none _ _ a.args.out.now))
+
+-- the zone at hand, and its row
+module _ (c : In-loop-k) where
+  abbrev s : Start
+  s = ((goal.at.In-loop-k c).Start)
+
+  abbrev many : ℕ
+  many = length s.args.zones.now
+
+  abbrev k : ℕ
+  k = c.loop-k.k
+
+  below : get_or s.args.zones.now k 0 < s.args.n
+  below = s.requires.zones.below k c.loop-k-test.true
+
+  room : k * many + many ≤ length c.loop-k.out
+  room = omega (arith, row_end many k c.loop-k-test.true, c.loop-k.invariant.1.0)
+
+  ends : k * many + many ≤ 4096
+  ends = row_few many k (omega (arith, s.requires.zones.few, s.requires.zones.most)) c.loop-k-test.true
+
+pub bounds-zones-k : goal.bounds-zones-k
+bounds-zones-k c = c.loop-k-test.true
+
+pub overflow_cast-zone : goal.overflow_cast-zone
+overflow_cast-zone c = let b = c in omega (arith, below ((goal.at.overflow_cast-zone c).In-loop-k), (s ((goal.at.overflow_cast-zone c).In-loop-k)).requires.zones.most)
+
+pub overflow_mul-first : goal.overflow_mul-first
+overflow_mul-first c = omega (arith, ends ((goal.at.overflow_mul-first c).In-loop-k))
+
+pub overflow_add-end : goal.overflow_add-end
+overflow_add-end c = omega (arith, ends ((goal.at.overflow_add-end c).In-loop-k))
+
+pub slice_bounds-gather_row-count : goal.slice_bounds-gather_row-count
+slice_bounds-gather_row-count c = omega arith
+
+-- LEFT (no such goal now): part_gather_row_start : Need-slice-bounds-gather-row-start
+-- part_gather_row_start c = omega arith
+
+-- LEFT (no such goal now): part_gather_row_end : Need-slice-bounds-gather-row-end
+-- part_gather_row_end c = room c.before
+
+pub gather_row-requires : goal.gather_row-requires
+gather_row-requires c =
+    let b = c in
+    let p = ((s ((goal.at.gather_row-requires c).In-loop-k)).requires.zones, ((s ((goal.at.gather_row-requires c).In-loop-k)).requires.pairs_len, (s ((goal.at.gather_row-requires c).In-loop-k)).requires.out_len)) in record { zones = p.0; pairs_len = p.1.0; zone_lt_n = below ((goal.at.gather_row-requires c).In-loop-k); out_len = mid_len (k ((goal.at.gather_row-requires c).In-loop-k) * many ((goal.at.gather_row-requires c).In-loop-k)) (k ((goal.at.gather_row-requires c).In-loop-k) * many ((goal.at.gather_row-requires c).In-loop-k) + many ((goal.at.gather_row-requires c).In-loop-k)) b.loop-k.out (room ((goal.at.gather_row-requires c).In-loop-k)) ∙ omega arith }
+
+pub overflow_add-k : goal.overflow_add-k
+overflow_add-k c =
+    let b = c in
+    omega (arith, b.loop-k-test.true, (s ((goal.at.overflow_add-k c).In-loop-k)).requires.zones.few, (s ((goal.at.overflow_add-k c).In-loop-k)).requires.zones.most)
+
+pub loop-k-smaller : goal.loop-k-smaller
+loop-k-smaller c = omega (arith, c.loop-k-test.true)
+
+pub loop-k-preserved : goal.loop-k-preserved
+loop-k-preserved c =
+    let b = c in
+    let row = c.gather_row.ensures in
+    let l = b.loop-k in
+    let a = (s ((goal.at.loop-k-preserved c).In-loop-k)).args in
+    let f : ℕ → ℕ → ℕ = λ k. gathered_pair a.n a.pairs.now a.zones.now (get_or a.zones.now k 0) in (
+      omega (arith, b.loop-k-test.true),
+      (
+        row_length f (many ((goal.at.loop-k-preserved c).In-loop-k)) (k ((goal.at.loop-k-preserved c).In-loop-k)) l.out _ (room ((goal.at.loop-k-preserved c).In-loop-k)) l.invariant.1.1 row ∙ l.invariant.1.0,
+        row_written f (many ((goal.at.loop-k-preserved c).In-loop-k)) (k ((goal.at.loop-k-preserved c).In-loop-k)) l.out _ (room ((goal.at.loop-k-preserved c).In-loop-k)) l.invariant.1.1 row,
+      ),
+    )
+
+pub shape_of-out : goal.shape_of-out
+shape_of-out c = c.loop-k.invariant.1.0 ∙ sym c.requires.out_len
+
+pub returns : goal.returns
+returns c =
+    let l = c.loop-k in
+    rows_done _ _ _ l.k l.out (omega (arith, l.invariant.0, c.loop-k-test.false)) l.invariant.1.0 l.invariant.1.1

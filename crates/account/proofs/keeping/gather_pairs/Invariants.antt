@@ -1,0 +1,19 @@
+use mathlib.Core.Path.{◌≡◌, sym, ◌∙◌}
+use Prim.Native.Nat.{ℕ, ◌+◌, ◌*◌, ◌-◌, ◌≤◌, ◌<◌}
+use native.Mathlib.Omega.{arith}
+use borrow.Rule.Slice.PartMut.{mid_len}
+use lib.ListN.{length, get_or, take}
+use Rattle.whole.specs.Table.{table_rows}
+use Rattle.whole.proofs.TableRows.{rows_none, row_length, row_written, rows_done}
+use Rattle.kept.proofs.Marks.{row_end, row_few}
+use Rattle.account.specs.Steps.{gathered_pair}
+use Rattle.account.proofs.keeping.gather_pairs.Given as goal
+
+abbrev pub invariant-loop-k : goal.invariant-loop-k
+invariant-loop-k l =
+    (l.k ≤ length l.zones)
+    × ((length l.out ≡ length l.zones * length l.zones)
+    × (take (l.k * length l.zones) l.out ≡ table_rows (λ k'. gathered_pair l.n l.pairs l.zones (get_or l.zones k' 0)) l.k (length l.zones)))
+
+abbrev pub decreases-loop-k : goal.decreases-loop-k
+decreases-loop-k l = length l.zones - l.k

@@ -1,0 +1,18 @@
+-- `job_sums` meets its contract: where all zones are kept, what is worked of them is the job's. Assumes nothing.
+use mathlib.Core.Path.{sym, ◌∙◌}
+use Rattle.account.proofs.AllKept.{all_figures, all_locals}
+use Rattle.account.proofs.KeptWork.{zones_count}
+use borrow.Author.Rules.{rules}
+use Rattle.account.proofs.kept_zones.job_sums.Goals as goal
+
+pub returns-then-zones-n : goal.returns-then-zones-n
+returns-then-zones-n c =
+    let b = c in
+    let t = c in
+    let s = c in
+    let n = s.args.n in
+    let values = s.args.values.now in
+    let weights = s.args.weights.now in
+    let all = sym (zones_count n weights s.args.zones.now s.requires.zones_value) ∙ t.if-zones-n.true in
+    let valued = s.requires.job.valued.near.count in
+    let weighted = s.requires.job.weighted.count in record { result_value = b.zone_sums.ensures.result_value ∙ sym (all_figures n values weights all valued weighted); locals_after = b.zone_sums.ensures.locals_after ∙ sym (all_locals n values weights all valued weighted) }

@@ -1,0 +1,71 @@
+-- `shuffle_cross` meets its contract: the zones take their deviations in a local array, whose first n places are lent. Assumes nothing.
+use mathlib.Core.Path.{◌≡◌, sym, ◌∙◌}
+use mathlib.Core.List.{List}
+use Prim.Native.Nat.{ℕ}
+use lib.IntN.{ℤ, pos}
+use lib.ListN.{length}
+use lib.Seq.{length-take-le}
+use mir.Syntax.{w64}
+use Rattle.whole.specs.Table.{table, at, pair_at}
+use Rattle.whole.proofs.Lists.{front, front_le, front_length}
+use Rattle.whole.proofs.Machine.{rd}
+use Rattle.whole.proofs.Table.{table_length, table_held}
+use Rattle.account.specs.Rank.{shuffled}
+use Rattle.account.specs.Steps.{Sized, cross_held, cross_moved}
+use Rattle.account.proofs.Adding.{cross_alike}
+use Rattle.account.proofs.Locals.{deviations_cross_told}
+use Rattle.account.proofs.Reading.{table_sized}
+use Rattle.account.proofs.Shuffled.{shuffled_size}
+use Rattle.account.proofs.ranking.shuffle_cross.Goals as goal
+use Rattle.account.proofs.ranking.shuffle_cross.Goals.{After-shuffle_deviations, Start}
+
+-- the shuffled deviations, as the array's front holds them
+module _ (c : After-shuffle_deviations) where
+  abbrev a : Start
+  a = ((goal.at.After-shuffle_deviations c).Start)
+
+  abbrev n : ℕ
+  n = a.args.n
+
+  abbrev moved : ℕ → ℤ
+  moved = shuffled (at a.args.d.now) (pair_at a.args.shuffles.now n a.args.r)
+
+  as_long : length (table moved n) ≡ n
+  as_long = table_length moved n
+
+  sized : (l : List ℤ) → l ≡ table moved n → Sized 12800000 l n
+  sized l e = table_sized 12800000 n moved l e (shuffled_size _ _ _ _ _ a.requires.sized a.requires.shuffle)
+
+  same :
+      (l : List ℤ) → l ≡ table moved n →
+      cross_held a.args.weights.now n l ≡ cross_moved a.args.weights.now n a.args.d.now a.args.shuffles.now a.args.r
+  same l e = cross_alike (pair_at a.args.weights.now n) n (at l) moved (table_held moved n (pos 0) l e)
+
+pub slice_bounds-moved-end : goal.slice_bounds-moved-end
+slice_bounds-moved-end c = c.requires.weighted.zones
+
+pub slice_bounds-shuffle_deviations-end : goal.slice_bounds-shuffle_deviations-end
+slice_bounds-shuffle_deviations-end c = sym (length-take-le _ _ c.requires.weighted.zones)
+
+pub shuffle_deviations-requires : goal.shuffle_deviations-requires
+shuffle_deviations-requires c = let a = c in record { d_len = a.requires.sized.count; moved_len = length-take-le _ _ a.requires.weighted.zones; shuffle = a.requires.shuffle }
+
+pub slice_bounds-moved-end-2 : goal.slice_bounds-moved-end-2
+slice_bounds-moved-end-2 c =
+    let b = c in
+    front_le {A = ℤ} _ _ (table (moved ((goal.at.slice_bounds-moved-end-2 c).After-shuffle_deviations)) (n ((goal.at.slice_bounds-moved-end-2 c).After-shuffle_deviations))) _ b.shuffle_deviations.ensures (as_long ((goal.at.slice_bounds-moved-end-2 c).After-shuffle_deviations))
+
+pub slice_bounds-cross_sum-end : goal.slice_bounds-cross_sum-end
+slice_bounds-cross_sum-end c =
+    let b = c in
+    front_length {A = ℤ} _ _ (table (moved ((goal.at.slice_bounds-cross_sum-end c).After-shuffle_deviations)) (n ((goal.at.slice_bounds-cross_sum-end c).After-shuffle_deviations))) _ b.shuffle_deviations.ensures (as_long ((goal.at.slice_bounds-cross_sum-end c).After-shuffle_deviations))
+
+pub cross_sum-requires : goal.cross_sum-requires
+cross_sum-requires c = let b = c in record { weighted = (a ((goal.at.cross_sum-requires c).After-shuffle_deviations)).requires.weighted; sized = sized ((goal.at.cross_sum-requires c).After-shuffle_deviations) _ (front {A = ℤ} _ _ (table (moved ((goal.at.cross_sum-requires c).After-shuffle_deviations)) (n ((goal.at.cross_sum-requires c).After-shuffle_deviations))) _ b.shuffle_deviations.ensures (as_long ((goal.at.cross_sum-requires c).After-shuffle_deviations))) }
+
+pub returns : goal.returns
+returns c =
+    let b = c in
+    let e = same ((goal.at.returns c).After-shuffle_deviations) _ (front {A = ℤ} _ _ (table (moved ((goal.at.returns c).After-shuffle_deviations)) (n ((goal.at.returns c).After-shuffle_deviations))) _ b.shuffle_deviations.ensures (as_long ((goal.at.returns c).After-shuffle_deviations))) in
+    let w = ((a ((goal.at.returns c).After-shuffle_deviations)).requires.weighted, ((a ((goal.at.returns c).After-shuffle_deviations)).requires.sized, (a ((goal.at.returns c).After-shuffle_deviations)).requires.shuffle)) in
+    (rd w64 (deviations_cross_told _ _ w.0 (moved ((goal.at.returns c).After-shuffle_deviations)) (shuffled_size _ _ _ _ _ w.1.0 w.1.1) (c.cross_sum.ensures ∙ e)) tt).same

@@ -1,0 +1,46 @@
+-- `class_pairs` meets its contract: nine pairs in a row. Assumes nothing.
+use mathlib.Core.Path.{◌≡◌, refl, ap, ◌∙◌}
+use mathlib.Core.List.{[], ◌∷◌}
+use Prim.Native.Nat.{ℕ}
+use mir.Syntax.{w64}
+use mir.ValLaws.{to_z-of_z}
+use Rattle.whole.specs.Table.{table}
+use Rattle.whole.proofs.Machine.{r64}
+use Rattle.account.specs.Classes.{row_at}
+use Rattle.coefficients.specs.Coefficients.{pair_of}
+use Rattle.coefficients.specs.declared.Pair.{Pair}
+use borrow.Author.Rules.{rules}
+use Rattle.coefficients.proofs.forming.class_pairs.Goals as goal
+
+listed :
+    (p : ℕ → Pair) (a b c d e f g h i : Pair) → a ≡ p 0 → b ≡ p 1 → c ≡ p 2 → d ≡ p 3 → e ≡ p 4 → f ≡ p 5 → g ≡ p 6 → h ≡ p 7 → i ≡ p 8 →
+    (a ∷ b ∷ c ∷ d ∷ e ∷ f ∷ g ∷ h ∷ i ∷ []) ≡ table p 9
+unfolding table
+listed p a b c d e f g h i e0 e1 e2 e3 e4 e5 e6 e7 e8 = rw (e0, e1, e2, e3, e4, e5, e6, e7, e8) refl
+
+pub returns : goal.returns
+returns c =
+    let c8 = c in
+    let c7 = c in
+    let c6 = c in
+    let c5 = c in
+    let c4 = c in
+    let c3 = c in
+    let c2 = c in
+    let c1 = c in
+    let s = c in
+    let n = s.args.n in
+    let rows = s.args.rows.now in
+    let m = s.args.spread in
+    let read : (k : ℕ) → pair_of n (r64 m) (row_at rows k) ≡ pair_of n m (row_at rows k) =
+    λ k. ap (λ v. pair_of n v (row_at rows k)) (to_z-of_z w64 m s.ranges.spread) in
+    listed (λ k. pair_of n s.args.spread (row_at rows k)) _ _ _ _ _ _ _ _ _
+    (c1.class_pair.ensures ∙ read 0)
+    (c2.class_pair-2.ensures ∙ read 1)
+    (c3.class_pair-3.ensures ∙ read 2)
+    (c4.class_pair-4.ensures ∙ read 3)
+    (c5.class_pair-5.ensures ∙ read 4)
+    (c6.class_pair-6.ensures ∙ read 5)
+    (c7.class_pair-7.ensures ∙ read 6)
+    (c8.class_pair-8.ensures ∙ read 7)
+    (c.class_pair-9.ensures ∙ read 8)

@@ -1,0 +1,47 @@
+-- `dca_read` meets its contract: the list of counts is judged, then the reader judges and stores. Assumes nothing.
+use Rattle.image.specs.Reader.{buffers}
+use Rattle.exports.proofs.ImageAnswers.{read_by_length, read_by_refusal, read_by_counts}
+use borrow.Author.Rules.{rules}
+use Rattle.exports.proofs.images.dca_read.Goals as goal
+
+pub returns-then-counts-ne6 : goal.returns-then-counts-ne6
+returns-then-counts-ne6 c =
+    let a = c.args in let all = read_by_length a.image.now
+    (buffers a.values.now a.categories.now a.weights.now a.places.now a.bands.now a.shuffles.now)
+    a.counts.now
+    c.if-counts-ne6.true in record { number = all.0; lent = all.1.0; counts = all.1.1 }
+
+pub returns-in-Refused : goal.returns-in-Refused
+returns-in-Refused c =
+    let b = c in
+    let e = c in
+    let a = e.args in let all = read_by_refusal a.image.now
+    (buffers a.values.now a.categories.now a.weights.now a.places.now a.bands.now a.shuffles.now)
+    a.counts.now
+    e.if-counts-ne6.false
+    _
+    _
+    b.read.ensures.number
+    b.read.ensures.counts
+    b.read.ensures.lent
+    _
+    c.number-1.given.1 in record { number = all.0; lent = all.1.0; counts = all.1.1 }
+
+pub returns-in-Read : goal.returns-in-Read
+returns-in-Read c =
+    let m = c in
+    let b = c in
+    let e = c in
+    let a = e.args in let all = read_by_counts a.image.now
+    (buffers a.values.now a.categories.now a.weights.now a.places.now a.bands.now a.shuffles.now)
+    a.counts.now
+    e.if-counts-ne6.false
+    _
+    _
+    b.read.ensures.number
+    b.read.ensures.counts
+    b.read.ensures.lent
+    _
+    _
+    c.six-1.given.1
+    c.put_counts.ensures in record { number = all.0; lent = all.1.0; counts = all.1.1 }

@@ -1,0 +1,36 @@
+-- `grid` meets its contract: judged first, and worked only where no rule is broken. Assumes nothing.
+use mathlib.Core.Path.{◌≡◌, sym, ◌∙◌}
+use mathlib.Core.List.{[], ◌∷◌}
+use Prim.Native.Nat.{◌*◌}
+use borrow.Author.Rules.{rules}
+use lib.ListN.{length}
+use Rattle.whole.proofs.Rules.{Sizes, sizes_hold, fits, kept_when_refused, worked_when_taken}
+use Rattle.grid.specs.Grid.{grid_refusal, grid_left}
+use Rattle.grid.proofs.grid.Goals as goal
+use Rattle.grid.proofs.grid.Goals.{Else-number-ne0}
+
+-- nothing is refused
+accepted : (c : Else-number-ne0) → let a = c.args in grid_refusal a.rows a.columns (length a.weights.now) ≡ 0
+accepted c = sym c.judge_grid-number.ensures ∙ c.if-number-ne0.false
+
+-- so the sizes are good
+good :
+    (c : Else-number-ne0) →
+    let a = c.args in
+    let n = a.rows * a.columns in
+    Sizes n ((length a.weights.now, n * n) ∷ [])
+unfolding grid_refusal
+good c = sizes_hold _ _ (accepted c)
+
+pub returns-then-number-ne0 : goal.returns-then-number-ne0
+unfolding grid_left
+returns-then-number-ne0 c = let found = c.judge_grid-number.ensures in record { number = found; lent = sym (kept_when_refused _ _ _ (λ e. c.if-number-ne0.true (found ∙ e))) }
+
+pub walk_cells-requires : goal.walk_cells-requires
+walk_cells-requires c = let g = good ((goal.at.walk_cells-requires c).Else-number-ne0) in record { columns_bound = g.zones; weights_len = (fits _ _ [] g.fitting).0 }
+
+pub returns : goal.returns
+unfolding grid_left
+returns c =
+    let w = c in
+    let e = accepted ((goal.at.returns c).Else-number-ne0) in record { number = sym e; lent = w.walk_cells.ensures ∙ sym (worked_when_taken _ _ _ e) }

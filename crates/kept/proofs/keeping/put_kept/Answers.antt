@@ -1,0 +1,124 @@
+-- `put_kept` meets its contract. The loop's invariant: the kept zones passed are counted and stand at the front. Assumes nothing.
+use mathlib.Core.Path.{◌≡◌, refl, sym, ap, ◌∙◌}
+use mathlib.Core.Bool.{Bool}
+use mathlib.Core.List.{List, [], ◌∷◌, ◌++◌}
+use mathlib.Core.Logic.{⊎_elim}
+use Prim.Native.Nat.{ℕ, ◌-◌, ◌+◌, ◌≤◌, ◌<◌}
+use native.Mathlib.Omega.{arith}
+use lib.ListN.{length}
+use lib.Seq.{sets, length-take-le}
+use Rattle.whole.specs.Search.{count}
+use Rattle.whole.specs.Table.{table}
+use Rattle.whole.proofs.Counting.{count_zero, count_yes, count_no, count_le}
+use Rattle.whole.proofs.Lists.{front, front_le, front_length}
+use Rattle.whole.proofs.Stores.{Stored, stored_length, stored_none, stored_next, stored_over}
+use Rattle.whole.proofs.Table.{table_length, table_front}
+use Rattle.kept.specs.Kept.{passing, keeps, kept_zones, kept_count}
+use Rattle.kept.specs.Steps.{column_mark}
+use Rattle.kept.proofs.Passing.{list_found, list_passed, passing_length}
+use borrow.Author.Rules.{rules}
+use Rattle.kept.proofs.keeping.put_kept.Goals as goal
+use Rattle.kept.proofs.keeping.put_kept.Goals.{At-loop-i, Start}
+
+-- the marks, as the array's front holds them
+module _ (b : At-loop-i) where
+  abbrev start : Start
+  start = ((goal.at.At-loop-i b).Start)
+
+  abbrev n : ℕ
+  n = start.args.n
+
+  abbrev test : ℕ → Bool
+  test = keeps n start.args.weights.now
+
+  abbrev marks : List ℕ
+  marks = table (column_mark n start.args.weights.now n) n
+
+  as_long : length marks ≡ n
+  as_long = table_length (column_mark n start.args.weights.now n) n
+
+  -- no more zones are kept than passed
+  few : b.loop-i.many ≤ b.loop-i.i
+  few = omega (arith, b.loop-i.invariant.1.0, count_le test b.loop-i.i)
+
+  -- the list has its 64 places
+  places : length b.loop-i.zones ≡ 64
+  places = stored_length b.loop-i.invariant.1.1 ∙ start.requires.zones_len
+
+pub slice_bounds-space-end : goal.slice_bounds-space-end
+slice_bounds-space-end c = c.requires.n_bound
+
+pub slice_bounds-mark_columns-end : goal.slice_bounds-mark_columns-end
+slice_bounds-mark_columns-end c = sym (length-take-le _ _ c.requires.n_bound)
+
+pub mark_columns-requires : goal.mark_columns-requires
+unfolding table
+mark_columns-requires c = let s = c in record { n_bound = s.requires.n_bound; weights_len = s.requires.weights_len; marks_value = table_front (λ j. 0) s.args.n 64 s.requires.n_bound }
+
+pub loop-i-init : goal.loop-i-init
+unfolding passing
+loop-i-init c = let s = c in (omega arith, (sym (count_zero _), stored_none _ refl))
+
+pub slice_bounds-space-end-in-loop-i : goal.slice_bounds-space-end-in-loop-i
+slice_bounds-space-end-in-loop-i c = let b = c in front_le {A = ℕ} _ _ (marks ((goal.at.slice_bounds-space-end-in-loop-i c).At-loop-i)) _ b.mark_columns.ensures (as_long ((goal.at.slice_bounds-space-end-in-loop-i c).At-loop-i))
+
+pub slice_bounds-touches-end : goal.slice_bounds-touches-end
+slice_bounds-touches-end c = let b = c in front_length {A = ℕ} _ _ (marks ((goal.at.slice_bounds-touches-end c).At-loop-i)) _ b.mark_columns.ensures (as_long ((goal.at.slice_bounds-touches-end c).At-loop-i))
+
+pub touches-requires : goal.touches-requires
+touches-requires c =
+    let b = c in
+    let s = start ((goal.at.touches-requires c).At-loop-i) in record { n_bound = s.requires.n_bound; weights_len = s.requires.weights_len; i_lt_n = c.loop-i-test.true; marks_value = front {A = ℕ} _ _ (marks ((goal.at.touches-requires c).At-loop-i)) _ b.mark_columns.ensures (as_long ((goal.at.touches-requires c).At-loop-i)) }
+
+pub overflow_cast-zones : goal.overflow_cast-zones
+overflow_cast-zones c = let b = c in omega (arith, (start ((goal.at.overflow_cast-zones c).At-loop-i)).requires.n_bound, c.loop-i-test.true)
+
+pub bounds-zones-many : goal.bounds-zones-many
+bounds-zones-many c =
+    let b = c in
+    omega (arith, (start ((goal.at.bounds-zones-many c).At-loop-i)).requires.n_bound, few ((goal.at.bounds-zones-many c).At-loop-i), places ((goal.at.bounds-zones-many c).At-loop-i), c.loop-i-test.true)
+
+pub overflow_add-many : goal.overflow_add-many
+overflow_add-many c =
+    let b = c in
+    omega (arith, (start ((goal.at.overflow_add-many c).At-loop-i)).requires.n_bound, few ((goal.at.overflow_add-many c).At-loop-i), c.loop-i-test.true)
+
+pub overflow_add-i : goal.overflow_add-i
+overflow_add-i c = omega arith
+
+pub loop-i-smaller : goal.loop-i-smaller
+loop-i-smaller c = omega arith
+
+pub loop-i-preserved : goal.loop-i-preserved
+loop-i-preserved c =
+    let b = c in
+    let inv = b.loop-i.invariant.1 in
+    let told = sym c.touches.ensures in
+    let many-are : b.loop-i.many ≡ 0 + length (passing (test ((goal.at.loop-i-preserved c).At-loop-i)) b.loop-i.i) =
+    omega (arith, inv.0, passing_length (test ((goal.at.loop-i-preserved c).At-loop-i)) b.loop-i.i) in (
+      omega arith,
+      ⊎_elim
+          (λ u. (
+            u.2 ∙ count_yes (test ((goal.at.loop-i-preserved c).At-loop-i)) b.loop-i.i b.loop-i.many inv.0 (told ∙ u.0.taken),
+            stored_next (b.loop-i.i ∷ []) inv.1 u.1 many-are (sym (list_found (test ((goal.at.loop-i-preserved c).At-loop-i)) b.loop-i.i _ (told ∙ u.0.taken) refl)),
+          ))
+          (λ u. (
+            u.2 ∙ count_no (test ((goal.at.loop-i-preserved c).At-loop-i)) b.loop-i.i b.loop-i.many inv.0 (told ∙ u.0.left),
+            record { same = u.1 ∙ inv.1.same ∙ ap (sets (start ((goal.at.loop-i-preserved c).At-loop-i)).args.zones.now 0) (list_passed (test ((goal.at.loop-i-preserved c).At-loop-i)) b.loop-i.i _ (told ∙ u.0.left) refl) },
+          ))
+          c.if-touches.branch,
+    )
+
+pub shape_of-zones : goal.shape_of-zones
+shape_of-zones c = stored_length c.loop-i.invariant.1.1
+
+pub returns : goal.returns
+unfolding kept_count kept_zones
+returns c =
+    let b = c in
+    let all : b.loop-i.i ≡ n ((goal.at.returns c).At-loop-i) = omega arith in
+    let old = (start ((goal.at.returns c).At-loop-i)).args.zones.now in
+    let front : Stored old 0 (passing (test ((goal.at.returns c).At-loop-i)) (n ((goal.at.returns c).At-loop-i))) b.loop-i.zones =
+    record { same = b.loop-i.invariant.1.1.same ∙ ap (λ k. sets old 0 (passing (test ((goal.at.returns c).At-loop-i)) k)) all } in
+    let few-kept : length (passing (test ((goal.at.returns c).At-loop-i)) (n ((goal.at.returns c).At-loop-i))) ≤ length old =
+    omega (arith, passing_length (test ((goal.at.returns c).At-loop-i)) (n ((goal.at.returns c).At-loop-i)), count_le (test ((goal.at.returns c).At-loop-i)) (n ((goal.at.returns c).At-loop-i)), (start ((goal.at.returns c).At-loop-i)).requires.n_bound, (start ((goal.at.returns c).At-loop-i)).requires.zones_len) in record { value = b.loop-i.invariant.1.0 ∙ ap (count (test ((goal.at.returns c).At-loop-i))) all; zones_after = stored_over front few-kept }

@@ -1,0 +1,93 @@
+-- `put_marks` meets its contract. The loop's invariant: the zones passed have their marks. Assumes nothing.
+use mathlib.Core.Path.{◌≡◌, refl, sym, ap, ◌∙◌}
+use mathlib.Core.Bool.{Bool, cond}
+use mathlib.Core.List.{List}
+use mathlib.Core.Logic.{⊎_elim}
+use Prim.Native.Nat.{ℕ, ◌-◌, ◌+◌, ◌≤◌, ◌<◌}
+use native.Mathlib.Omega.{arith}
+use lib.ListN.{length, get_or, length-set}
+use lib.Seq.{length-take-le}
+use Rattle.whole.specs.Table.{table}
+use Rattle.whole.proofs.Lists.{front, front_le, front_length}
+use Rattle.whole.proofs.Table.{table_length, table_front, is_table, stored}
+use Rattle.kept.specs.Kept.{keeps}
+use Rattle.kept.specs.Steps.{column_mark}
+use Rattle.kept.proofs.keeping.put_marks.Goals as goal
+use Rattle.kept.proofs.keeping.put_marks.Goals.{At-loop-i, Start}
+
+-- the marks of the columns, as the array's front holds them
+module _ (b : At-loop-i) where
+  abbrev start : Start
+  start = ((goal.at.At-loop-i b).Start)
+
+  abbrev n : ℕ
+  n = start.args.n
+
+  abbrev test : ℕ → Bool
+  test = keeps n start.args.weights.now
+
+  abbrev columns : List ℕ
+  columns = table (column_mark n start.args.weights.now n) n
+
+  as_long : length columns ≡ n
+  as_long = table_length (column_mark n start.args.weights.now n) n
+
+pub slice_bounds-space-end : goal.slice_bounds-space-end
+slice_bounds-space-end c = c.requires.n_bound
+
+pub slice_bounds-mark_columns-end : goal.slice_bounds-mark_columns-end
+slice_bounds-mark_columns-end c = sym (length-take-le _ _ c.requires.n_bound)
+
+pub mark_columns-requires : goal.mark_columns-requires
+unfolding table
+mark_columns-requires c = let s = c in record { n_bound = s.requires.n_bound; weights_len = s.requires.weights_len; marks_value = table_front (λ j. 0) s.args.n 64 s.requires.n_bound }
+
+pub loop-i-init : goal.loop-i-init
+loop-i-init c =
+    let s = c in
+    (omega arith, (s.requires.marks_len, λ k p. let z : ⊥ = omega arith in absurd z))
+
+pub slice_bounds-space-end-in-loop-i : goal.slice_bounds-space-end-in-loop-i
+slice_bounds-space-end-in-loop-i c = let b = c in front_le {A = ℕ} _ _ (columns ((goal.at.slice_bounds-space-end-in-loop-i c).At-loop-i)) _ b.mark_columns.ensures (as_long ((goal.at.slice_bounds-space-end-in-loop-i c).At-loop-i))
+
+pub slice_bounds-touches-end : goal.slice_bounds-touches-end
+slice_bounds-touches-end c = let b = c in front_length {A = ℕ} _ _ (columns ((goal.at.slice_bounds-touches-end c).At-loop-i)) _ b.mark_columns.ensures (as_long ((goal.at.slice_bounds-touches-end c).At-loop-i))
+
+pub touches-requires : goal.touches-requires
+touches-requires c =
+    let b = c in
+    let s = start ((goal.at.touches-requires c).At-loop-i) in record { n_bound = s.requires.n_bound; weights_len = s.requires.weights_len; i_lt_n = c.loop-i-test.true; marks_value = front {A = ℕ} _ _ (columns ((goal.at.touches-requires c).At-loop-i)) _ b.mark_columns.ensures (as_long ((goal.at.touches-requires c).At-loop-i)) }
+
+pub bounds-marks-i : goal.bounds-marks-i
+bounds-marks-i c =
+    let b = c in
+    omega (arith, b.loop-i.invariant.1.0, c.loop-i-test.true)
+
+pub overflow_add-i : goal.overflow_add-i
+overflow_add-i c = omega arith
+
+pub loop-i-smaller : goal.loop-i-smaller
+loop-i-smaller c = omega arith
+
+pub loop-i-preserved : goal.loop-i-preserved
+loop-i-preserved c =
+    let b = c in
+    let inv = b.loop-i.invariant.1 in
+    let told = sym c.touches.ensures in
+    let marked : c.if-touches.mark ≡ cond (test ((goal.at.loop-i-preserved c).At-loop-i) b.loop-i.i) 1 0 =
+    ⊎_elim (λ u. u.1 ∙ rw (told ∙ u.0.taken) refl) (λ u. u.1 ∙ rw (told ∙ u.0.left) refl) c.if-touches.branch in (
+      omega arith,
+      (
+        simp length-set inv.0,
+        stored (λ k. cond (test ((goal.at.loop-i-preserved c).At-loop-i) k) 1 0) 0 _ b.loop-i.marks b.loop-i.i
+            (omega (arith, inv.0, c.loop-i-test.true)) marked inv.1,
+      ),
+    )
+
+pub shape_of-marks : goal.shape_of-marks
+shape_of-marks c = let b = c in b.loop-i.invariant.1.0 ∙ sym (start ((goal.at.shape_of-marks c).At-loop-i)).requires.marks_len
+
+pub returns : goal.returns
+returns c =
+    let b = c in
+    is_table _ _ 0 b.loop-i.marks b.loop-i.invariant.1.0 (λ k p. b.loop-i.invariant.1.1 k (omega (arith, p, c.loop-i-test.false)))

@@ -1,0 +1,57 @@
+-- `mark_row` meets its contract. The loop's invariant: marked anew are the zones passed. Assumes nothing.
+use mathlib.Core.Path.{◌≡◌, sym, ap, ◌∙◌}
+use mathlib.Core.Logic.{⊎_elim}
+use Prim.Native.Nat.{ℕ, ◌+◌, ◌*◌, ◌-◌, ◌≤◌}
+use native.Mathlib.Omega.{arith}
+use lib.ListN.{length}
+use Rattle.whole.specs.Table.{pair_at}
+use Rattle.whole.proofs.Table.{table_length}
+use Rattle.kept.specs.Steps.{column_mark}
+use Rattle.kept.proofs.Marks.{Changed, changed_none, changed_next, changed_all, mark_set, mark_stays, row_end, row_few}
+use Rattle.kept.proofs.marking.mark_row.Goals as goal
+
+pub overflow_mul-row : goal.overflow_mul-row
+overflow_mul-row c = omega (arith, row_few _ _ c.requires.n_bound c.requires.i_lt_n)
+
+pub loop-j-init : goal.loop-j-init
+loop-j-init c = (omega arith, changed_none _ _ _ _ c.requires.marks_value)
+
+pub bounds-marks-j : goal.bounds-marks-j
+bounds-marks-j c = let b = c in omega (arith, b.loop-j.invariant.1.count, c.loop-j-test.true)
+
+pub overflow_add-row : goal.overflow_add-row
+overflow_add-row c = let b = c in omega (arith, row_few _ _ b.requires.n_bound b.requires.i_lt_n, c.loop-j-test.true)
+
+pub bounds-weights-row : goal.bounds-weights-row
+bounds-weights-row c =
+    let b = c in
+    omega (arith, row_end _ _ b.requires.i_lt_n, b.requires.weights_len, c.loop-j-test.true)
+
+pub bounds-marks-j-in-loop-j : goal.bounds-marks-j-in-loop-j
+bounds-marks-j-in-loop-j c = let b = c in omega (arith, b.loop-j.invariant.1.count, c.loop-j-test.true)
+
+pub overflow_add-j : goal.overflow_add-j
+overflow_add-j c = omega arith
+
+pub loop-j-smaller : goal.loop-j-smaller
+loop-j-smaller c = omega arith
+
+pub loop-j-preserved : goal.loop-j-preserved
+unfolding pair_at
+loop-j-preserved c =
+    let b = c in
+    let a = b.args in
+    let h = c.loop-j-test.true in
+    let inv = b.loop-j.invariant.1 in (
+      omega arith,
+      changed_next _ _ _ b.loop-j.j b.loop-j.marks c.if-weights-row-gt0.mark inv h
+          (⊎_elim (λ u. mark_set a.n a.weights.now a.i b.loop-j.j c.if-weights-row-gt0.mark u.1 u.0.taken)
+          (λ u. mark_stays a.n a.weights.now a.i b.loop-j.j c.if-weights-row-gt0.mark (u.1 ∙ inv.left b.loop-j.j (omega arith) h) u.0.left)
+          c.if-weights-row-gt0.branch),
+    )
+
+pub shape_of-marks : goal.shape_of-marks
+shape_of-marks c = let b = c in b.loop-j.invariant.1.count ∙ sym (ap length b.requires.marks_value ∙ table_length _ _)
+
+pub returns : goal.returns
+returns c = let b = c in changed_all _ _ _ _ _ b.loop-j.invariant.1 (omega arith)

@@ -1,0 +1,66 @@
+-- `float_of` meets its contract: the float of the sizes, with p's sign. Assumes nothing.
+use mathlib.Core.Path.{◌≡◌, sym, ap, ◌∙◌}
+use mathlib.Core.Bool.{false}
+use Prim.Native.Nat.{ℕ, ◌<◌}
+use native.Mathlib.Omega.{arith}
+use borrow.Author.Rules.{rules}
+use lib.Ieee.{round, binary64}
+use lib.IntN.{nat_abs}
+use mir.Syntax.{w64}
+use mir.ValLaws.{to_z-of_z}
+use Rattle.whole.specs.Integer.{below_zero}
+use Rattle.whole.proofs.Size.{one_some}
+use Rattle.nearest.proofs.Accepted.{accepted, under}
+use Rattle.nearest.proofs.Signed.{at_zero, at_minus, at_plus}
+use Rattle.nearest.proofs.float_of.Goals as goal
+use Rattle.nearest.proofs.float_of.Goals.{After-is_below_zero, After-ratio-x, After-size, After-size-a, Start}
+
+-- ---- what the calls answered
+p_size : (c : After-size-a) → c.size-a.result ≡ nat_abs c.args.p
+p_size c = let a = c in c.size-a.ensures ∙ ap nat_abs (to_z-of_z w64 a.args.p a.ranges.p)
+
+q_size : (c : After-size) → c.size.result ≡ nat_abs c.args.q
+q_size c = let a = c in c.size.ensures ∙ ap nat_abs (to_z-of_z w64 a.args.q a.ranges.q)
+
+ratio_is :
+    (c : After-ratio-x) →
+    let a = c.args in
+    c.ratio-x.result ≡ round binary64 false (nat_abs a.p) (nat_abs a.q)
+ratio_is c =
+    c.ratio-x.ensures
+    ∙ ap (λ (z : ℕ). round binary64 false z c.size.result) (p_size ((goal.at.After-ratio-x c).After-size-a))
+    ∙ ap (λ (z : ℕ). round binary64 false (nat_abs c.args.p) z) (q_size ((goal.at.After-ratio-x c).After-size))
+
+sign_is : (c : After-is_below_zero) → c.is_below_zero.result ≡ below_zero c.args.p
+sign_is c =
+    let a = c in
+    c.is_below_zero.ensures ∙ ap below_zero (to_z-of_z w64 a.args.p a.ranges.p)
+
+pub returns-then-a-eq0 : goal.returns-then-a-eq0
+returns-then-a-eq0 c =
+    let a = c in
+    let g = accepted a.args.p a.args.q a.requires in
+    at_zero a.args.p a.args.q (one_some a.args.q g.one) (sym (p_size ((goal.at.returns-then-a-eq0 c).After-size-a)) ∙ c.if-a-eq0.true)
+
+pub ratio-x-requires : goal.ratio-x-requires
+ratio-x-requires c =
+    let a = c in
+    let g = accepted a.args.p a.args.q a.requires in
+    let e = p_size ((goal.at.ratio-x-requires c).After-size-a) in
+    let f = q_size c in
+    let some = above c.size-a.result c.if-a-eq0.false in let all = (some, (rw e (under _ g.p_near), (rw f (one_some a.args.q g.one), rw f (under _ g.q_near))))
+  where
+    above : (((goal.at.ratio-x-requires c).Start) : ℕ) → (((goal.at.ratio-x-requires c).Start) ≡ 0 → ⊥) → 0 < ((goal.at.ratio-x-requires c).Start)
+    above ((goal.at.ratio-x-requires c).Start) h = omega arith in record { a_nonzero = all.0; a_bound = all.1.0; q_nonzero = all.1.1.0; q_bound = all.1.1.1 }
+
+pub returns-then-is_below_zero : goal.returns-then-is_below_zero
+returns-then-is_below_zero c =
+    let r = c in
+    let a = r.args in
+    at_minus a.p a.q r.ratio-x.result (sym (sign_is ((goal.at.returns-then-is_below_zero c).After-is_below_zero)) ∙ c.if-is_below_zero.true) (ratio_is ((goal.at.returns-then-is_below_zero c).After-ratio-x))
+
+pub returns-else-is_below_zero : goal.returns-else-is_below_zero
+returns-else-is_below_zero c =
+    let r = c in
+    let a = r.args in
+    at_plus a.p a.q r.ratio-x.result (sym (sign_is ((goal.at.returns-else-is_below_zero c).After-is_below_zero)) ∙ c.if-is_below_zero.false) (ratio_is ((goal.at.returns-else-is_below_zero c).After-ratio-x))

@@ -1,0 +1,25 @@
+-- `store_bytes` meets its contract: the lent front comes back as the first bytes from the place on. Assumes nothing.
+use mathlib.Core.Path.{sym}
+use native.Mathlib.Omega.{arith}
+use borrow.Author.Rules.{rules}
+use lib.Seq.{length-take-le}
+use Rattle.reader.proofs.Over.{bytes_over}
+use Rattle.reader.proofs.storing.store_bytes.Goals as goal
+
+pub overflow_add-end : goal.overflow_add-end
+overflow_add-end c = omega arith
+
+pub slice_bounds-bytes_in-count : goal.slice_bounds-bytes_in-count
+slice_bounds-bytes_in-count c = omega arith
+
+pub slice_bounds-bytes_in-end-3 : goal.slice_bounds-bytes_in-end-3
+slice_bounds-bytes_in-end-3 c = sym (length-take-le _ _ c.requires.k_in_bounds_2)
+
+pub bytes_in-requires : goal.bytes_in-requires
+bytes_in-requires c = tt
+
+pub returns : goal.returns
+returns c =
+    let a = c in
+    bytes_over a.args.image.now a.args.at a.args.k _ a.args.buffer.now a.requires.k_in_bounds a.requires.k_in_bounds_2
+    c.bytes_in.ensures

@@ -1,0 +1,22 @@
+-- `store_signed` meets its contract: the lent front comes back as the first signed words from the place on. Assumes nothing.
+use mathlib.Core.Path.{sym}
+use Prim.Native.Nat.{◌*◌}
+use borrow.Author.Rules.{rules}
+use lib.Seq.{length-take-le}
+use mir.Syntax.{w32}
+use mir.Val.{to_z}
+use Rattle.words.specs.Words.{word_at}
+use Rattle.reader.proofs.Over.{read_over}
+use Rattle.reader.proofs.storing.store_signed.Goals as goal
+
+pub slice_bounds-signed_words_in-end-3 : goal.slice_bounds-signed_words_in-end-3
+slice_bounds-signed_words_in-end-3 c = sym (length-take-le _ _ c.requires.k_in_bounds)
+
+pub signed_words_in-requires : goal.signed_words_in-requires
+signed_words_in-requires c = tt
+
+pub returns : goal.returns
+returns c =
+    let a = c in
+    read_over (λ l i. to_z w32 (word_at l (4 * i))) a.args.image.now a.args.at a.args.k _ a.args.buffer.now a.requires.k_in_bounds
+    c.signed_words_in.ensures

@@ -1,0 +1,20 @@
+-- `store_words` meets its contract: the lent front comes back as the first words from the place on. Assumes nothing.
+use mathlib.Core.Path.{sym}
+use Prim.Native.Nat.{◌*◌}
+use borrow.Author.Rules.{rules}
+use lib.Seq.{length-take-le}
+use Rattle.words.specs.Words.{word_at}
+use Rattle.reader.proofs.Over.{read_over}
+use Rattle.reader.proofs.storing.store_words.Goals as goal
+
+pub slice_bounds-words_in-end-3 : goal.slice_bounds-words_in-end-3
+slice_bounds-words_in-end-3 c = sym (length-take-le _ _ c.requires.k_in_bounds)
+
+pub words_in-requires : goal.words_in-requires
+words_in-requires c = tt
+
+pub returns : goal.returns
+returns c =
+    let a = c in
+    read_over (λ l i. word_at l (4 * i)) a.args.image.now a.args.at a.args.k _ a.args.buffer.now a.requires.k_in_bounds
+    c.words_in.ensures

@@ -1,0 +1,76 @@
+-- `put_ratios` meets its contract: three lines, one behind the other, of products that fit. Assumes nothing.
+use Prim.Native.Nat.{ℕ}
+use native.Mathlib.Omega.{arith}
+use borrow.Author.Rules.{rules}
+use lib.IntN.{pos}
+use mir.Syntax.{w64}
+use Rattle.whole.proofs.Machine.{fit, fits_le}
+use Rattle.account.specs.declared.Sums.{Sums}
+use Rattle.coefficients.proofs.Ratios.{ordered_le}
+use Rattle.report.proofs.Puts.{put_length, put_as, put_then}
+use Rattle.report.proofs.LineLaws.{Read, read, ratio_text, moran_divisor_is, geary_numerator_is, twice_is, geary_divisor_is}
+use Rattle.report.proofs.lines.put_ratios.Goals as goal
+use Rattle.report.proofs.lines.put_ratios.Goals.{After-put_figure_line-arg-1, After-put_figure_line-arg-2-1, After-put_figure_line-arg-3-1, After-struct_told-2-1, After-struct_told-5-1, Start}
+
+-- the place where the sums are known to fit
+abbrev told : After-struct_told-5-1 → After-struct_told-2-1
+told c = ((goal.at.After-struct_told-5-1 c).After-struct_told-2-1)
+
+-- its arguments, and that the sums are read back as they are
+module _ (c : After-struct_told-2-1) where
+  abbrev start : Start
+  start = ((goal.at.After-struct_told-2-1 c).Start)
+
+  abbrev sums : Sums
+  sums = start.args.sums
+
+  abbrev n : ℕ
+  n = sums.kept
+
+  reads : Read sums
+  reads =
+      let f = c.struct_told-2-1.given in
+      read sums f.0.1 f.1.0.1 f.1.1.0.1 f.1.1.1.0.1 f.1.1.1.1.0.1
+
+pub overflow_mul-of_geary-2 : goal.overflow_mul-of_geary-2
+overflow_mul-of_geary-2 c = fit w64 (moran_divisor_is (sums c) (reads c) (start c).requires.within) tt
+
+pub overflow_mul-of_geary-4 : goal.overflow_mul-of_geary-4
+overflow_mul-of_geary-4 c = omega (arith, ordered_le (n c) (start c).requires.within.zones)
+
+-- LEFT (no such goal now): cast_t17 : Need-overflow-cast-t17
+-- cast_t17 c = fits_le w64 (pos _) 4032 (ordered_le (n c) (start c).requires.0.zones) tt
+
+-- LEFT (no such goal now): mul_t20 : Need-overflow-mul-t20
+-- mul_t20 c = let t = c.before.before in fit w64 (geary_numerator_is (sums t) (reads t) (start t).requires.0) tt
+
+-- LEFT (no such goal now): mul_t21 : Need-overflow-mul-t21
+-- mul_t21 c = let t = c.before.before.before.before in fit w64 (twice_is (sums t) (reads t) (start t).requires.0) tt
+
+-- LEFT (no such goal now): mul_t22 : Need-overflow-mul-t22
+-- mul_t22 c = let t = told c in fit w64 (geary_divisor_is (sums t) (reads t) (start t).pre.0) tt
+
+pub put_figure_line-place-requires : goal.put_figure_line-place-requires
+put_figure_line-place-requires c = let s = start (told ((goal.at.put_figure_line-place-requires c).After-put_figure_line-arg-1)) in record { short = record { letters = omega arith; items = omega arith }; readable = s.requires.readable_pair.of_moran-1; room = omega (arith, s.requires.room) }
+
+pub put_figure_line-end-requires : goal.put_figure_line-end-requires
+put_figure_line-end-requires c =
+    let a = c in
+    let s = start (told ((goal.at.put_figure_line-end-requires c).After-put_figure_line-arg-2-1)) in
+    let first = a.put_figure_line-place.ensures in record { short = record { letters = omega arith; items = omega arith }; readable = s.requires.readable_pair.of_geary-1; room = omega (arith, s.requires.room, first.few, put_length first) }
+
+pub put_line-requires : goal.put_line-requires
+put_line-requires c =
+    let b = c in
+    let a = c in
+    let s = start (told ((goal.at.put_line-requires c).After-put_figure_line-arg-3-1)) in
+    let both = put_then a.put_figure_line-place.ensures b.put_figure_line-end.ensures in record { short = record { letters = omega arith; items = omega arith }; room = omega (arith, s.requires.room, both.few, put_length both) }
+
+pub returns : goal.returns
+returns c =
+    let d = c in
+    let b = c in
+    let a = c in
+    let t = told ((goal.at.returns c).After-put_figure_line-arg-3-1) in
+    put_as (put_then a.put_figure_line-place.ensures (put_then b.put_figure_line-end.ensures d.put_line.ensures))
+    (ratio_text (sums t) (reads t) (start t).requires.within (start t).args.pair)

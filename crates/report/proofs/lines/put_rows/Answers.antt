@@ -1,0 +1,111 @@
+-- `put_rows` meets its contract. The loop's invariant: the lines of the classes passed are put. Assumes nothing.
+use mathlib.Core.Path.{refl}
+use Prim.Native.Nat.{suc, ◌+◌, ◌*◌, ◌-◌, ◌≤◌, ◌<◌}
+use native.Mathlib.Omega.{arith}
+use borrow.Author.Rules.{sfits_of}
+use lib.ListN.{length, get_or, take}
+use lib.IntN.{pos}
+use mir.Syntax.{w64}
+use mir.ValLaws.{to_z-of_z}
+use Rattle.whole.specs.Table.{each}
+use Rattle.whole.proofs.Machine.{nat, fits_le}
+use Rattle.coefficients.specs.FloatReport.{no_pair}
+use Rattle.report.specs.Steps.{Put, row_line}
+use Rattle.report.specs.Text.{numbered}
+use Rattle.report.proofs.Puts.{put_length, put_as, put_each_none, put_numbered_next, put_numbered_all}
+use Rattle.report.proofs.LineLaws.{there, row_text}
+use Rattle.report.proofs.lines.put_rows.Goals as goal
+use Rattle.report.proofs.lines.put_rows.Goals.{After-pair-1, In-loop-k}
+
+-- the pair of a turn is there
+known : (c : In-loop-k) → c.loop-k.k < length c.args.t4
+known c = omega (arith, c.well-formed.1.1.1.0.1.0.1)
+
+pub loop-k-init : goal.loop-k-init
+loop-k-init c = (omega arith, put_each_none (row_line _ _))
+
+pub offset_bounds-pairs-k : goal.offset_bounds-pairs-k
+offset_bounds-pairs-k c = omega arith
+
+pub bounds-pairs-k : goal.bounds-pairs-k
+bounds-pairs-k c = omega arith
+
+-- LEFT (no such goal now): cast_t17 : Need-overflow-cast-t17
+-- cast_t17 c = fits_le w64 (pos _) 8 (omega arith) tt
+
+-- LEFT (no such goal now): mul_t13 : Need-overflow-mul-t13
+-- mul_t13 c = omega arith
+
+-- LEFT (no such goal now): mul_t18 : Need-overflow-mul-t18
+-- mul_t18 c = omega arith
+
+-- LEFT (no such goal now): shared_slice_copy_out_t20 : Need-shared-slice-copy-out-t20
+-- shared_slice_copy_out_t20 c = omega arith
+
+-- LEFT (no such goal now): mul_t21 : Need-overflow-mul-t21
+-- mul_t21 c = omega arith
+
+-- LEFT (no such goal now): add_t22 : Need-overflow-add-t22
+-- add_t22 c = omega arith
+
+-- LEFT (no such goal now): mul_t23 : Need-overflow-mul-t23
+-- mul_t23 c = omega arith
+
+-- LEFT (no such goal now): shared_slice_copy_out_t25 : Need-shared-slice-copy-out-t25
+-- shared_slice_copy_out_t25 c = omega arith
+
+-- LEFT (no such goal now): mul_t26 : Need-overflow-mul-t26
+-- mul_t26 c = omega arith
+
+-- LEFT (no such goal now): add_t27 : Need-overflow-add-t27
+-- add_t27 c = omega arith
+
+-- LEFT (no such goal now): mul_t28 : Need-overflow-mul-t28
+-- mul_t28 c = omega arith
+
+-- LEFT (no such goal now): shared_slice_copy_out_t30 : Need-shared-slice-copy-out-t30
+-- shared_slice_copy_out_t30 c = omega arith
+
+pub slice_bounds-put_pair_line-end-in-loop-k : goal.slice_bounds-put_pair_line-end-in-loop-k
+slice_bounds-put_pair_line-end-in-loop-k c = refl
+
+-- LEFT (no such goal now): slice_aggregate_put_pair_line_2 : Need-slice-aggregate-put-pair-line-2
+-- slice_aggregate_put_pair_line_2 c = refl
+
+pub put_pair_line-place-requires : goal.put_pair_line-place-requires
+put_pair_line-place-requires c =
+    let t = c in
+    let l = c in
+    let s = c in
+    let k = l.loop-k.k in record { short = record { letters = omega arith; items = omega arith }; readable_pair = rw (there s.args.t4 k _ no_pair (known ((goal.at.put_pair_line-place-requires c).After-pair-1))) (s.requires.readable_pairs k (known ((goal.at.put_pair_line-place-requires c).After-pair-1))); room = omega (arith, put_length l.loop-k.invariant.1) }
+
+pub overflow_add-k : goal.overflow_add-k
+overflow_add-k c = omega arith
+
+pub loop-k-smaller : goal.loop-k-smaller
+loop-k-smaller c = omega arith
+
+pub loop-k-preserved : goal.loop-k-preserved
+loop-k-preserved c =
+    let b = c in
+    let t = c in
+    let l = c in
+    let s = c in
+    let rows = s.args.rows.now in
+    let k = l.loop-k.k in
+    let class = (nat w64 k 8 (omega arith) tt).same in
+    let weight = to_z-of_z w64 (get_or rows (k * 3) (pos 0)) (sfits_of t.t20.given) in
+    let cross = to_z-of_z w64 (get_or rows (k * 3 + 1) (pos 0)) (sfits_of t.t25.given) in
+    let squares = to_z-of_z w64 (get_or rows (k * 3 + 2) (pos 0)) (sfits_of t.t30.given) in
+    let pair = there s.args.t4 k _ _ (known ((goal.at.loop-k-preserved c).After-pair-1)) in
+    let put = put_as b.put_pair_line-place.ensures (row_text rows s.args.t4 k class weight cross squares pair) in
+    (omega arith, put_numbered_next (row_line _ _) {size = 128} (suc s.args.last) k (omega arith) l.loop-k.invariant.1 put)
+
+pub shape_of-page : goal.shape_of-page
+shape_of-page c = put_length c.loop-k.invariant.1
+
+pub returns : goal.returns
+returns c =
+    let l = c.loop-k in
+    let s = c in
+    put_numbered_all (row_line _ _) 128 (suc s.args.last) l.k (omega arith) l.invariant.1

@@ -1,0 +1,40 @@
+-- `put_table` meets its contract. The loop's invariant: the lines of the rows passed are put. Assumes nothing.
+use Prim.Native.Nat.{◌*◌, ◌-◌, ◌≤◌}
+use native.Mathlib.Omega.{arith}
+use lib.ListN.{take}
+use Rattle.whole.specs.Table.{each}
+use Rattle.report.specs.Steps.{Put, table_line}
+use Rattle.report.specs.Text.{numbered}
+use Rattle.report.proofs.Puts.{put_length, put_each_none, put_numbered_next, put_numbered_all}
+use Rattle.report.proofs.lines.put_table.Goals as goal
+
+pub loop-r-init : goal.loop-r-init
+loop-r-init c = (omega arith, put_each_none (λ row. each (table_line _ row) (numbered 8)))
+
+pub put_table_row-place-requires : goal.put_table_row-place-requires
+put_table_row-place-requires c = let l = c in record { table_len = l.requires.table_len; r_bound = omega arith; room = omega (arith, put_length l.loop-r.invariant.1) }
+
+pub overflow_add-r : goal.overflow_add-r
+overflow_add-r c = omega arith
+
+pub loop-r-smaller : goal.loop-r-smaller
+loop-r-smaller c = omega arith
+
+pub loop-r-preserved : goal.loop-r-preserved
+loop-r-preserved c =
+    let b = c in
+    let l = c in
+    let table = l.args.table.now in (
+      omega arith,
+      put_numbered_next (λ row. each (table_line table row) (numbered 8)) {size = 768} 8 l.loop-r.r (omega arith) l.loop-r.invariant.1
+          b.put_table_row-place.ensures,
+    )
+
+pub shape_of-page : goal.shape_of-page
+shape_of-page c = put_length c.loop-r.invariant.1
+
+pub returns : goal.returns
+returns c =
+    let l = c.loop-r in
+    let table = c.args.table.now in
+    put_numbered_all (λ row. each (table_line table row) (numbered 8)) 768 8 l.r (omega arith) l.invariant.1

@@ -1,0 +1,17 @@
+-- `put_figure_line` meets its contract: the figure and the line feed stand behind the start. Assumes nothing.
+use mathlib.Core.List.{[], ◌∷◌}
+use native.Mathlib.Omega.{arith}
+use borrow.Author.Rules.{rules}
+use Rattle.pages.specs.Lines.{numbers}
+use Rattle.report.specs.Lines.{coefficient}
+use Rattle.report.proofs.Puts.{put_most, put_as, put_then, line_parts}
+use Rattle.report.proofs.putting.put_figure_line.Goals as goal
+
+pub returns : goal.returns
+returns c =
+    let b = c in
+    let f = c in
+    let s = c in
+    let a = s.args in
+    let put = put_then (put_then s.put_start-place.ensures f.put_coefficient-end.ensures) b.put_end.ensures in
+    put_as (put_most put (omega arith)) (line_parts a.word.now (numbers a.list.now) (coefficient a.figure) (10 ∷ []))

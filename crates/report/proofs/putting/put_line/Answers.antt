@@ -1,0 +1,14 @@
+-- `put_line` meets its contract: there is room for all that is put. Assumes nothing.
+use borrow.Author.Rules.{rules}
+use Rattle.report.proofs.Puts.{put_of, line_width}
+use Rattle.report.proofs.putting.put_line.Goals as goal
+
+pub put_line-requires : goal.put_line-requires
+put_line-requires c = tt
+
+pub returns : goal.returns
+returns c =
+    let b = c in
+    let said = b.put_line.ensures in
+    let s = c in
+    put_of 96 said.text (line_width s.args.word.now s.args.list.now s.requires.short said.width) s.requires.room

@@ -1,0 +1,20 @@
+-- `put_pair_line` meets its contract: both coefficients and the line feed stand behind the start. Assumes nothing.
+use mathlib.Core.List.{[], ◌∷◌, ◌++◌}
+use native.Mathlib.Omega.{arith}
+use borrow.Author.Rules.{rules}
+use Rattle.pages.specs.Lines.{numbers}
+use Rattle.report.specs.Lines.{coefficient}
+use Rattle.report.proofs.Puts.{put_most, put_as, put_then, line_parts}
+use Rattle.report.proofs.putting.put_pair_line.Goals as goal
+
+pub returns : goal.returns
+returns c =
+    let b = c in
+    let g = c in
+    let m = c in
+    let s = c in
+    let a = s.args in
+    let pair = put_then m.put_coefficient-middle.ensures g.put_coefficient-end.ensures in
+    let put = put_then (put_then s.put_start-place.ensures pair) b.put_end.ensures in
+    put_as (put_most put (omega arith))
+    (line_parts a.word.now (numbers a.list.now) (coefficient a.pair.moran ++ coefficient a.pair.geary) (10 ∷ []))

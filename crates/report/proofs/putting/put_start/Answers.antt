@@ -1,0 +1,14 @@
+-- `put_start` meets its contract: there is room for all that is put. Assumes nothing.
+use borrow.Author.Rules.{rules}
+use Rattle.report.proofs.Puts.{put_of, start_width}
+use Rattle.report.proofs.putting.put_start.Goals as goal
+
+pub put_start-requires : goal.put_start-requires
+put_start-requires c = tt
+
+pub returns : goal.returns
+returns c =
+    let b = c in
+    let said = b.put_start.ensures in
+    let s = c in
+    put_of 92 said.text (start_width s.args.word.now s.args.list.now s.requires.short said.width) s.requires.room

@@ -1,0 +1,119 @@
+-- `put_hot_list` meets its contract: the zones come back in order, and a line is put for each that is kept. Assumes nothing.
+use mathlib.Core.Path.{◌≡◌, refl, sym, ap, ◌∙◌}
+use mathlib.Core.List.{List, ◌++◌}
+use Prim.Native.Nat.{ℕ, ◌+◌, ◌*◌, ◌≤◌, ◌<◌}
+use native.Mathlib.Omega.{arith}
+use lib.IntN.{ℤ}
+use lib.ListN.{length, get_or, take, length-append}
+use lib.Seq.{length-take-le, take-append-le, get_or-take}
+use mir.Syntax.{w64}
+use mir.ValLaws.{to_z-of_z}
+use Rattle.whole.specs.Table.{each}
+use Rattle.whole.proofs.Rules.{worked_when_taken}
+use Rattle.hot_list.specs.HotList.{in_order, order_left}
+use Rattle.hot_list.proofs.Ordered.{order_taken, in_order_length, in_order_below}
+use Rattle.report.specs.Steps.{Listed, zone_line}
+use Rattle.report.proofs.Puts.{put_as, put_most}
+use borrow.Author.Rules.{rules}
+use Rattle.report.proofs.working.put_hot_list.Goals as goal
+use Rattle.report.proofs.working.put_hot_list.Goals.{After-order, Start}
+
+-- the first zones of the order, so many, where the order stands at the front of an array
+module _ (n : ℕ) (weights : List ℕ) (locals : List ℤ) (many : ℕ) (few : many ≤ n) where
+  abbrev shown : List ℕ
+  shown = take many (in_order n weights locals)
+
+  shown_length : length shown ≡ many
+  shown_length = length-take-le many (in_order n weights locals) (omega (arith, few, in_order_length n weights locals))
+
+  below : (k : ℕ) → k < many → get_or shown k 0 < n
+  below k h = rw (get_or-take many (in_order n weights locals) k 0 h) (in_order_below n weights locals k (omega (arith, h, few)))
+
+  module _ (zones rest : List ℕ) (e : zones ≡ in_order n weights locals) where
+    in_front : many ≤ length (zones ++ rest)
+    in_front = omega (arith, few, length-append zones rest, ap length e, in_order_length n weights locals)
+
+    front_is : take many (zones ++ rest) ≡ shown
+    front_is =
+        take-append-le many zones rest (omega (arith, few, ap length e, in_order_length n weights locals)) ∙ ap (take many) e
+
+    front_length : length (take many (zones ++ rest)) ≡ many
+    front_length = ap length front_is ∙ shown_length
+
+    listed : {figures : List ℕ} → length locals ≡ n → length figures ≡ n → Listed (take many (zones ++ rest)) locals figures
+    listed l f = record {
+      there = λ k h. rw front_is (omega (arith, below k (omega (arith, h, front_length)), l));
+      as_many = omega (arith, l, f);
+    }
+
+    -- 128 bytes for each of at most 64 zones
+    narrow : n ≤ 64 → 128 * length (take many (zones ++ rest)) ≤ 8192
+    narrow h = omega (arith, h, few, front_length)
+
+    room : (at page : ℕ) → n ≤ 64 → at + 8192 ≤ page → at + 128 * length (take many (zones ++ rest)) ≤ page
+    room at page h r = omega (arith, narrow h, r)
+
+    -- the lines of those zones, by the spread as it is read
+    lines :
+        (figures : List ℕ) (spread read : ℤ) → read ≡ spread →
+        each (zone_line locals figures read) (take many (zones ++ rest)) ≡ each (zone_line locals figures spread) shown
+    lines figures spread read f = rw (f, front_is) refl
+
+pub slice_bounds-space-end : goal.slice_bounds-space-end
+slice_bounds-space-end c = c.requires.zoned.most
+
+pub slice_bounds-order-end : goal.slice_bounds-order-end
+slice_bounds-order-end c = let s = c in sym (length-take-le _ _ s.requires.zoned.most)
+
+pub order-requires : goal.order-requires
+order-requires c = tt
+
+-- what the order's call has left
+module _ (c : After-order) where
+  abbrev s : Start
+  s = ((goal.at.After-order c).Start)
+
+  abbrev n : ℕ
+  n = s.args.n
+
+  abbrev weights : List ℕ
+  weights = s.args.weights.now
+
+  abbrev locals : List ℤ
+  locals = s.args.locals.now
+
+  abbrev zones : List ℕ
+  zones = c.order.new.zones
+
+  zones_left : zones ≡ in_order n weights locals
+  unfolding order_left
+  zones_left =
+      let z = s.requires.zoned in
+      c.order.ensures.lent
+      ∙ worked_when_taken _ _ _
+      (order_taken n _ _ _ z.least z.most z.weights_fit z.locals_fit (length-take-le _ _ z.most))
+
+pub slice_bounds-space-end-2 : goal.slice_bounds-space-end-2
+slice_bounds-space-end-2 c =
+    let b = c in
+    in_front (n ((goal.at.slice_bounds-space-end-2 c).After-order)) (weights ((goal.at.slice_bounds-space-end-2 c).After-order)) (locals ((goal.at.slice_bounds-space-end-2 c).After-order)) _ (s ((goal.at.slice_bounds-space-end-2 c).After-order)).requires.zoned.few (zones ((goal.at.slice_bounds-space-end-2 c).After-order)) _ (zones_left ((goal.at.slice_bounds-space-end-2 c).After-order))
+
+pub slice_bounds-put_zones-end : goal.slice_bounds-put_zones-end
+slice_bounds-put_zones-end c =
+    let b = c in
+    sym (front_length (n ((goal.at.slice_bounds-put_zones-end c).After-order)) (weights ((goal.at.slice_bounds-put_zones-end c).After-order)) (locals ((goal.at.slice_bounds-put_zones-end c).After-order)) _ (s ((goal.at.slice_bounds-put_zones-end c).After-order)).requires.zoned.few (zones ((goal.at.slice_bounds-put_zones-end c).After-order)) _ (zones_left ((goal.at.slice_bounds-put_zones-end c).After-order)))
+
+pub put_zones-requires : goal.put_zones-requires
+put_zones-requires c =
+    let b = c in
+    let z = (s ((goal.at.put_zones-requires c).After-order)).requires.zoned in record { listed = listed (n ((goal.at.put_zones-requires c).After-order)) (weights ((goal.at.put_zones-requires c).After-order)) (locals ((goal.at.put_zones-requires c).After-order)) _ z.few (zones ((goal.at.put_zones-requires c).After-order)) _ (zones_left ((goal.at.put_zones-requires c).After-order)) z.locals_fit z.figures_fit; room = room (n ((goal.at.put_zones-requires c).After-order)) (weights ((goal.at.put_zones-requires c).After-order)) (locals ((goal.at.put_zones-requires c).After-order)) _ z.few (zones ((goal.at.put_zones-requires c).After-order)) _ (zones_left ((goal.at.put_zones-requires c).After-order)) _ _ z.most (omega (arith, (s ((goal.at.put_zones-requires c).After-order)).requires.room)) }
+
+pub returns : goal.returns
+returns c =
+    let p = c in
+    let b = c in
+    let z = (s ((goal.at.returns c).After-order)).requires.zoned in
+    let a = (s ((goal.at.returns c).After-order)).args in
+    put_as
+    (put_most p.put_zones.ensures (narrow (n ((goal.at.returns c).After-order)) (weights ((goal.at.returns c).After-order)) (locals ((goal.at.returns c).After-order)) _ z.few (zones ((goal.at.returns c).After-order)) _ (zones_left ((goal.at.returns c).After-order)) z.most))
+    (lines (n ((goal.at.returns c).After-order)) (weights ((goal.at.returns c).After-order)) (locals ((goal.at.returns c).After-order)) _ z.few (zones ((goal.at.returns c).After-order)) _ (zones_left ((goal.at.returns c).After-order)) _ _ _ (to_z-of_z w64 a.spread (s ((goal.at.returns c).After-order)).ranges.spread))

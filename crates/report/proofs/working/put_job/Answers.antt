@@ -1,0 +1,205 @@
+-- `put_job` meets its contract: no call refuses the job, and the lines of each are put one after the other. Assumes nothing.
+use mathlib.Core.Path.{◌≡◌, refl, sym, ap, ◌∙◌}
+use mathlib.Core.Bool.{cond}
+use mathlib.Core.List.{List, [], ◌++◌}
+use Prim.Native.Nat.{ℕ, ◌*◌, ◌≤◌}
+use native.Mathlib.Omega.{arith}
+use lib.Dec.{eqb}
+use lib.IntN.{ℤ}
+use lib.ListN.{length}
+use lib.Seq.{length-take-le}
+use Rattle.whole.proofs.Lists.{few}
+use Rattle.account.specs.Answers.{listed, job_figures}
+use Rattle.account.proofs.Theorems.{job_locals_length, kept_most}
+use Rattle.account.proofs.ClassTheorems.{class_sums_length}
+use Rattle.coefficients.specs.Coefficients.{job_pair}
+use Rattle.coefficients.proofs.Job.{spread_in, kept_in}
+use Rattle.coefficients.proofs.Readable.{job_readable, classes_readable}
+use Rattle.report.specs.Steps.{Sound, Classed}
+use Rattle.report.proofs.Puts.{put_as, put_length, put_then}
+use Rattle.report.proofs.Listed.{class_lines_are as class-rows-are}
+use Rattle.report.proofs.JobText.{figures_length, zones_are, sums_within, job_lines_are}
+use Rattle.report.proofs.JobText.{Reports, reports, never_refused, pair_is, sums_are, class_lines_are, job_text_is}
+use borrow.Author.Rules.{rules}
+use Rattle.report.proofs.working.put_job.Goals as goal
+use Rattle.report.proofs.working.put_job.Goals.{After-class_pairs, After-class_pairs-arg-1, After-class_room-class_space, After-of_classes-1, After-plain_report-report, After-put_account-at_pairs, After-put_classes-at_rank, After-put_pairs-at_classes, In-Reported-2, Start}
+
+-- texts that are the same by their parts
+both_same : {a b a' b' : List ℕ} → a ≡ a' → b ≡ b' → a ++ b ≡ a' ++ b'
+both_same e f = rw (e, f) refl
+
+counted_same : (count : ℕ) {a b : List ℕ} → a ≡ b → cond (eqb count 0) [] a ≡ cond (eqb count 0) [] b
+counted_same count e = ap (cond (eqb count 0) []) e
+
+-- the array has room for the classes of n × n pairs
+module _ (c : After-class_room-class_space) where
+  abbrev begun : Start
+  begun = ((goal.at.After-class_room-class_space c).Start)
+
+  abbrev zones : ℕ
+  zones = begun.args.n
+
+  class_places : zones * zones ≤ length c.class_room-class_space.result
+  class_places = omega (arith, few zones begun.requires.sound_lists.job.zones, c.class_room-class_space.ensures)
+
+pub slice_bounds-class_space-end : goal.slice_bounds-class_space-end
+slice_bounds-class_space-end c = class_places c
+
+pub slice_bounds-classes-end : goal.slice_bounds-classes-end
+slice_bounds-classes-end c = sym (length-take-le _ _ (class_places ((goal.at.slice_bounds-classes-end c).After-class_room-class_space)))
+
+pub class_pairs-requires : goal.class_pairs-requires
+class_pairs-requires c =
+    let r = c in
+    record { room_fits = length-take-le _ _ (class_places ((goal.at.class_pairs-requires c).After-class_room-class_space)); banded = (begun ((goal.at.class_pairs-requires c).After-class_room-class_space)).requires.sound_lists.banded }
+
+pub slice_bounds-locals-end : goal.slice_bounds-locals-end
+slice_bounds-locals-end c =
+    let r = c in
+    sym (length-take-le _ _ (begun ((goal.at.slice_bounds-locals-end c).After-class_room-class_space)).requires.sound_lists.job.zones)
+
+pub slice_bounds-figures-end : goal.slice_bounds-figures-end
+slice_bounds-figures-end c =
+    let r = c in
+    sym (length-take-le _ _ (begun ((goal.at.slice_bounds-figures-end c).After-class_room-class_space)).requires.sound_lists.job.zones)
+
+pub slice_bounds-plain_report-end : goal.slice_bounds-plain_report-end
+slice_bounds-plain_report-end c = refl
+
+-- what the plain report has answered and left
+module _ (c : After-plain_report-report) where
+  abbrev pairs_classed : After-class_pairs
+  pairs_classed = ((goal.at.After-plain_report-report c).After-class_pairs-arg-1)
+
+  abbrev rooms : After-class_room-class_space
+  rooms = ((goal.at.After-class_pairs pairs_classed).After-class_room-class_space)
+
+  abbrev start : Start
+  start = begun rooms
+
+  abbrev n : ℕ
+  n = start.args.n
+
+  abbrev values : List ℤ
+  values = start.args.values.now
+
+  abbrev weights : List ℕ
+  weights = start.args.weights.now
+
+  abbrev classes : List ℕ
+  classes = pairs_classed.class_pairs.new.classes
+
+  sound : Sound n values weights
+  sound = start.requires.sound_lists.job
+
+  classed : Classed n start.args.places.now start.args.bands.now classes
+  classed = pairs_classed.class_pairs.ensures
+
+  said :
+      Reports n values weights classes c.plain_report-report.result c.plain_report-report.new.rows
+      c.plain_report-report.new.locals c.plain_report-report.new.figures
+  said =
+      let told = c.plain_report-report.ensures in
+      reports sound classed.within _ _ _ refl (length-take-le _ _ sound.zones) (length-take-le _ _ sound.zones) told.sums told.whole told.pairs told.rows
+      told.locals told.figures
+
+-- back from each call to the plain report
+abbrev from_answer : In-Reported-2 → After-plain_report-report
+from_answer c = ((goal.at.In-Reported-2 c).After-plain_report-report)
+
+abbrev from_account : After-put_account-at_pairs → In-Reported-2
+from_account c = ((goal.at.After-put_account-at_pairs c).After-of_classes-1)
+
+abbrev from_pairs : After-put_pairs-at_classes → After-put_account-at_pairs
+from_pairs c = ((goal.at.After-put_pairs-at_classes c).After-put_account-at_pairs)
+
+abbrev from_classes : After-put_classes-at_rank → After-put_pairs-at_classes
+from_classes c = ((goal.at.After-put_classes-at_rank c).After-put_pairs-at_classes)
+
+-- the sums and the pair that were answered are the job's
+module _ (w : In-Reported-2) where
+  sums_known : listed w.answer.given.0.0.sums ≡ job_figures (n (from_answer w)) (values (from_answer w)) (weights (from_answer w))
+  sums_known = sums_are (said (from_answer w)).sums w.answer.given.1
+
+  pair_known : w.answer.given.0.0.pair ≡ job_pair (n (from_answer w)) (values (from_answer w)) (weights (from_answer w))
+  pair_known = pair_is (said (from_answer w)).of_job w.answer.given.1
+
+pub put_account-at_pairs-requires : goal.put_account-at_pairs-requires
+put_account-at_pairs-requires c =
+    let w = c in
+    let b = from_answer ((goal.at.put_account-at_pairs-requires c).After-of_classes-1) in
+    let zones = job_locals_length (n b) (values b) (weights b) in record {
+      within = sums_within (n b) (values b) (weights b) (sound b) _ (sums_known ((goal.at.put_account-at_pairs-requires c).After-of_classes-1));
+      readable_pair = job_readable (n b) (values b) (weights b) _ (pair_known ((goal.at.put_account-at_pairs-requires c).After-of_classes-1));
+      zoned = record {
+        least = (sound b).two;
+        most = (sound b).zones;
+        weights_fit = (sound b).weights_fit;
+        few = omega (arith, kept_in (n b) (values b) (weights b) _ (sums_known ((goal.at.put_account-at_pairs-requires c).After-of_classes-1)), kept_most (n b) (values b) (weights b));
+        locals_fit = ap length (said b).in_locals ∙ zones;
+        figures_fit = ap length (said b).of_zones ∙ figures_length (n b) (values b) (weights b) ∙ zones;
+      };
+      room = omega (arith, (start b).requires.room);
+    }
+
+pub put_pairs-at_classes-requires : goal.put_pairs-at_classes-requires
+put_pairs-at_classes-requires c =
+    let account = c in
+    let s = start (from_answer (from_account ((goal.at.put_pairs-at_classes-requires c).After-put_account-at_pairs))) in
+    let first = account.put_account-at_pairs.ensures in record { joinable = s.requires.sound_lists.joined; room = omega (arith, put_length first, first.few, s.requires.room) }
+
+pub slice_bounds-put_classes-end : goal.slice_bounds-put_classes-end
+slice_bounds-put_classes-end c =
+    let pairs = c in
+    let b = from_answer (from_account (from_pairs ((goal.at.slice_bounds-put_classes-end c).After-put_pairs-at_classes))) in
+    sym (ap length (said b).in_rows ∙ class_sums_length (n b) (values b) (weights b) (classes b))
+
+pub put_classes-at_rank-requires : goal.put_classes-at_rank-requires
+put_classes-at_rank-requires c =
+    let pairs = c in
+    let account = from_pairs ((goal.at.put_classes-at_rank-requires c).After-put_pairs-at_classes) in
+    let b = from_answer (from_account account) in
+    let p = ((start b).requires.sound_lists, (start b).requires.room) in
+    let first = account.put_account-at_pairs.ensures in
+    let second = pairs.put_pairs-at_classes.ensures in record { rows_len = ap length (said b).in_rows ∙ class_sums_length (n b) (values b) (weights b) (classes b); readable_pairs = classes_readable (n b) (values b) (weights b) (classes b) _ (said b).of_classes-1; bands_bound = p.0.few_bands; room = omega (arith, put_length first, first.few, put_length second, second.few, p.1) }
+
+pub put_rank-requires : goal.put_rank-requires
+put_rank-requires c =
+    let classes = c in
+    let pairs = from_classes ((goal.at.put_rank-requires c).After-put_classes-at_rank) in
+    let account = from_pairs pairs in
+    let p = ((start (from_answer (from_account account))).requires.sound_lists, (start (from_answer (from_account account))).requires.room) in
+    let first = account.put_account-at_pairs.ensures in
+    let second = pairs.put_pairs-at_classes.ensures in
+    let third = classes.put_classes-at_rank.ensures in record { shuffles_value = p.0.ranked; room = omega (arith, put_length first, first.few, put_length second, second.few, put_length third, third.few, p.1) }
+
+pub returns-in-Refused : goal.returns-in-Refused
+returns-in-Refused c =
+    let b = c in
+    absurd (never_refused (said ((goal.at.returns-in-Refused c).After-plain_report-report)).of_job c.enum_told-1.given.1)
+
+pub returns-in-Reported : goal.returns-in-Reported
+returns-in-Reported c =
+    let rank = c in
+    let classes-put = c in
+    let pairs = from_classes ((goal.at.returns-in-Reported c).After-put_classes-at_rank) in
+    let account = from_pairs pairs in
+    let w = from_account account in
+    let b = from_answer w in
+    let a = (start b).args in
+    let bands = length a.bands.now in
+    let sums = w.answer.given.0.0.sums in
+    let zones =
+    zones_are (n b) (values b) (weights b) (said b).in_locals (said b).of_zones
+    (spread_in (n b) (values b) (weights b) sums (sums_known w))
+    (kept_in (n b) (values b) (weights b) sums (sums_known w)) in
+    let lines = job_lines_are (n b) (values b) (weights b) (sound b) sums (sums_known w) _ (pair_known w) in
+    let first = put_as account.put_account-at_pairs.ensures (both_same lines zones) in
+    let rows =
+    counted_same bands
+    (class-rows-are (n b) (values b) (weights b) (classes b) _ (said b).of_classes-1 _ bands (said b).in_rows (start b).requires.sound_lists.few_bands) in
+    let third =
+    put_as classes-put.put_classes-at_rank.ensures
+    (rows ∙ class_lines_are (n b) (values b) (weights b) a.places.now a.bands.now _ (classed b)) in
+    put_as (put_then (put_then (put_then first pairs.put_pairs-at_classes.ensures) third) rank.put_rank.ensures)
+    (job_text_is (n b) (values b) a.categories.now (weights b) a.places.now a.bands.now a.shuffles.now)

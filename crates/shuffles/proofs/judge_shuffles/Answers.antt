@@ -1,0 +1,86 @@
+-- `judge_shuffles` meets its contract: n, then the rows that the code counts, then what the search finds. Assumes nothing.
+use mathlib.Core.Path.{◌≡◌, sym, ap, ◌∙◌}
+use Prim.Native.Nat.{ℕ, ◌*◌, ◌/◌, ◌<◌}
+use native.Mathlib.Nat as N
+use native.Mathlib.Omega.{arith}
+use borrow.Author.Tests.{lt-ltb, le-ltb, eq-eqb, ne_eqb}
+use lib.ListN.{length}
+use Rattle.whole.specs.Search.{some}
+use Rattle.shuffles.specs.Shuffles.{shuffle_count, any_lacking, shuffle_refusal}
+use Rattle.shuffles.proofs.ShuffleList.{all_rows, too_many}
+use Rattle.shuffles.proofs.judge_shuffles.Goals as goal
+use Rattle.shuffles.proofs.judge_shuffles.Goals.{After-any_lacking, Else-n-gt64, Else-rows-gt499, Else-shuffles-rows, Start}
+
+-- n is good
+module _ (c : Else-n-gt64) where
+  abbrev a : Start
+  a = ((goal.at.Else-n-gt64 c).Start)
+
+  abbrev n : ℕ
+  n = a.args.n
+
+  abbrev long : ℕ
+  long = length a.args.shuffles.now
+
+  some_zones : 0 < n
+  some_zones = omega (arith, c.if-n-lt2.false)
+
+-- the rows that the code counts are the shuffles
+counted : (c : Else-rows-gt499) → let b = c in shuffle_count (n ((goal.at.Else-rows-gt499 c).Else-n-gt64)) (long ((goal.at.Else-rows-gt499 c).Else-n-gt64)) ≡ long ((goal.at.Else-rows-gt499 c).Else-n-gt64) / n ((goal.at.Else-rows-gt499 c).Else-n-gt64)
+counted c = let b = c in all_rows (n ((goal.at.Else-rows-gt499 c).Else-n-gt64)) (long ((goal.at.Else-rows-gt499 c).Else-n-gt64)) c.if-rows-gt499.false
+
+-- and the list has nothing beside them
+whole : (c : Else-shuffles-rows) → let b = c in long ((goal.at.Else-shuffles-rows c).Else-n-gt64) ≡ shuffle_count (n ((goal.at.Else-shuffles-rows c).Else-n-gt64)) (long ((goal.at.Else-shuffles-rows c).Else-n-gt64)) * n ((goal.at.Else-shuffles-rows c).Else-n-gt64)
+whole c = let b = c in c.if-shuffles-rows.false ∙ ap (λ r. r * n ((goal.at.Else-shuffles-rows c).Else-n-gt64)) (sym (counted ((goal.at.Else-shuffles-rows c).Else-rows-gt499)))
+
+-- what the search finds is what the last rule asks
+searched :
+    (c : After-any_lacking) →
+    let s = (a ((goal.at.After-any_lacking c).Else-n-gt64)).args in any_lacking s.n s.shuffles.now ≡ c.any_lacking.result
+unfolding any_lacking
+searched c = ap (some _) (counted ((goal.at.After-any_lacking c).Else-rows-gt499)) ∙ sym c.any_lacking.ensures
+
+pub returns-then-n-lt2 : goal.returns-then-n-lt2
+unfolding shuffle_refusal
+returns-then-n-lt2 c = simp (lt-ltb _ _ c.if-n-lt2.true)
+
+pub returns-then-n-gt64 : goal.returns-then-n-gt64
+unfolding shuffle_refusal
+returns-then-n-gt64 c = simp (le-ltb _ _ c.if-n-lt2.false, lt-ltb _ _ c.if-n-gt64.true)
+
+-- LEFT (no such goal now): div_rows : Need-nonzero-div-rows
+-- div_rows c = some_zones c
+
+pub returns-then-rows-gt499 : goal.returns-then-rows-gt499
+unfolding shuffle_refusal
+returns-then-rows-gt499 c =
+    let b = c in
+    let e = too_many (n ((goal.at.returns-then-rows-gt499 c).Else-n-gt64)) (long ((goal.at.returns-then-rows-gt499 c).Else-n-gt64)) (some_zones ((goal.at.returns-then-rows-gt499 c).Else-n-gt64)) c.if-rows-gt499.true in
+    simp (le-ltb _ _ b.if-n-lt2.false, le-ltb _ _ b.if-n-gt64.false, ne_eqb _ _ e)
+
+pub overflow_mul-rows : goal.overflow_mul-rows
+overflow_mul-rows c = let b = c in omega (arith, N.div-mul-le_self (long ((goal.at.overflow_mul-rows c).Else-n-gt64)) (n ((goal.at.overflow_mul-rows c).Else-n-gt64)))
+
+pub returns-then-shuffles-rows : goal.returns-then-shuffles-rows
+unfolding shuffle_refusal
+returns-then-shuffles-rows c =
+    let b = c in
+    let e : long ((goal.at.returns-then-shuffles-rows c).Else-n-gt64) ≡ shuffle_count (n ((goal.at.returns-then-shuffles-rows c).Else-n-gt64)) (long ((goal.at.returns-then-shuffles-rows c).Else-n-gt64)) * n ((goal.at.returns-then-shuffles-rows c).Else-n-gt64) → ⊥ = λ q. c.if-shuffles-rows.true (q ∙ ap (λ r. r * n ((goal.at.returns-then-shuffles-rows c).Else-n-gt64)) (counted ((goal.at.returns-then-shuffles-rows c).Else-rows-gt499))) in
+    simp (le-ltb _ _ b.if-n-lt2.false, le-ltb _ _ b.if-n-gt64.false, ne_eqb _ _ e)
+
+pub any_lacking-requires : goal.any_lacking-requires
+any_lacking-requires c = record { n_bound = c.if-n-gt64.false; rows_bound = c.if-rows-gt499.false; shuffles_len = c.if-shuffles-rows.false }
+
+pub returns-then-any_lacking : goal.returns-then-any_lacking
+unfolding shuffle_refusal
+returns-then-any_lacking c =
+    let e = c in
+    let b = c in
+    simp (le-ltb _ _ b.if-n-lt2.false, le-ltb _ _ b.if-n-gt64.false, eq-eqb _ _ (whole ((goal.at.returns-then-any_lacking c).Else-shuffles-rows)), searched ((goal.at.returns-then-any_lacking c).After-any_lacking) ∙ c.if-any_lacking.true)
+
+pub returns : goal.returns
+unfolding shuffle_refusal
+returns c =
+    let e = c in
+    let b = c in
+    simp (le-ltb _ _ b.if-n-lt2.false, le-ltb _ _ b.if-n-gt64.false, eq-eqb _ _ (whole ((goal.at.returns c).Else-shuffles-rows)), searched ((goal.at.returns c).After-any_lacking) ∙ c.if-any_lacking.false)

@@ -1,0 +1,41 @@
+-- `any_unmarked` meets its contract. The loop's invariant: `found` says whether some number passed is not marked. Assumes nothing.
+use mathlib.Core.Path.{◌≡◌, sym, ap, ◌∙◌}
+use mathlib.Core.Logic.{⊎_elim}
+use mathlib.Core.Bool.{Bool}
+use mathlib.Core.List.{List}
+use Prim.Native.Nat.{ℕ, ◌+◌, ◌-◌, ◌≤◌}
+use native.Mathlib.Omega.{arith}
+use borrow.Author.Tests.{eq-eqb, ne_eqb}
+use lib.Dec.{eqb}
+use lib.ListN.{length, get_or}
+use Rattle.whole.specs.Search.{some}
+use Rattle.whole.proofs.Search.{some_zero, some_found, some_same}
+use Rattle.shuffles.proofs.lacking.any_unmarked.Invariants.{test}
+use Rattle.shuffles.proofs.lacking.any_unmarked.Goals as goal
+
+pub loop-k-init : goal.loop-k-init
+loop-k-init c = (omega arith, sym (some_zero _))
+
+pub bounds-named-k : goal.bounds-named-k
+bounds-named-k c = omega arith
+
+pub overflow_add-k : goal.overflow_add-k
+overflow_add-k c = omega arith
+
+pub loop-k-smaller : goal.loop-k-smaller
+loop-k-smaller c = omega arith
+
+pub loop-k-preserved : goal.loop-k-preserved
+loop-k-preserved c =
+    let b = c in
+    let t = test b.args.named.now in
+    let k = b.loop-k.k in (
+      omega arith,
+      ⊎_elim (λ u. u.1 ∙ some_found t (k + 1) k (omega arith) (eq-eqb _ _ u.0.taken))
+          (λ u. u.1 ∙ b.loop-k.invariant.1 ∙ some_same t k (ne_eqb _ _ u.0.left)) c.if-named-k-eq0.branch,
+    )
+
+pub returns : goal.returns
+returns c =
+    let b = c in
+    b.loop-k.invariant.1 ∙ ap (some (test b.args.named.now)) (omega arith)

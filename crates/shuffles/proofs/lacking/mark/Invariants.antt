@@ -1,0 +1,20 @@
+use mathlib.Core.Path.{◌≡◌, sym, ap, ◌∙◌}
+use mathlib.Core.Bool.{Bool}
+use Prim.Native.Nat.{ℕ, ◌+◌, ◌*◌, ◌-◌, ◌≤◌, ◌<◌}
+use native.Mathlib.Omega.{arith}
+use lib.Dec.{eqb}
+use lib.ListN.{length, get_or, length-set}
+use Rattle.whole.specs.Search.{some}
+use Rattle.whole.specs.Table.{pair_at}
+use Rattle.whole.proofs.Search.{some_zero}
+use Rattle.whole.proofs.Table.{is_table, table_length, table_held}
+use Rattle.shuffles.specs.Steps.{mark_of}
+use Rattle.shuffles.proofs.ShuffleList.{row_end, marked}
+use Rattle.shuffles.proofs.lacking.mark.Given as goal
+
+abbrev pub invariant-loop-i : goal.invariant-loop-i
+invariant-loop-i l =
+    (l.i ≤ l.n) × ((length l.named ≡ 256) × ((k : ℕ) → k < 256 → get_or l.named k 0 ≡ mark_of (some (λ i'. eqb (pair_at l.shuffles l.n l.r i') k) l.i)))
+
+abbrev pub decreases-loop-i : goal.decreases-loop-i
+decreases-loop-i l = l.n - l.i
