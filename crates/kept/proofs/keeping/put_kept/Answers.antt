@@ -18,6 +18,7 @@ use Rattle.kept.specs.Steps.{column_mark}
 use Rattle.kept.proofs.Passing.{list_found, list_passed, passing_length}
 use borrow.Author.Rules.{rules}
 use Rattle.kept.proofs.keeping.put_kept.Goals as goal
+use Rattle.kept.proofs.keeping.put_kept.Goals.{then-touches, else-touches}
 use Rattle.kept.proofs.keeping.put_kept.Goals.{At-loop-i, Start}
 
 -- the marks, as the array's front holds them
@@ -97,16 +98,16 @@ loop-i-preserved c =
     let many-are : b.loop-i.many ≡ 0 + length (passing (test ((goal.at.loop-i-preserved c).At-loop-i)) b.loop-i.i) =
     omega (arith, inv.0, passing_length (test ((goal.at.loop-i-preserved c).At-loop-i)) b.loop-i.i) in (
       omega arith,
-      ⊎_elim
-          (λ u. (
-            u.2 ∙ count_yes (test ((goal.at.loop-i-preserved c).At-loop-i)) b.loop-i.i b.loop-i.many inv.0 (told ∙ u.0.taken),
-            stored_next (b.loop-i.i ∷ []) inv.1 u.1 many-are (sym (list_found (test ((goal.at.loop-i-preserved c).At-loop-i)) b.loop-i.i _ (told ∙ u.0.taken) refl)),
-          ))
-          (λ u. (
-            u.2 ∙ count_no (test ((goal.at.loop-i-preserved c).At-loop-i)) b.loop-i.i b.loop-i.many inv.0 (told ∙ u.0.left),
-            record { same = u.1 ∙ inv.1.same ∙ ap (sets (start ((goal.at.loop-i-preserved c).At-loop-i)).args.zones.now 0) (list_passed (test ((goal.at.loop-i-preserved c).At-loop-i)) b.loop-i.i _ (told ∙ u.0.left) refl) },
-          ))
-          c.if-touches.branch,
+      elim c.if-touches.branch [
+        | then-touches w ↦ (
+          w.many-is ∙ count_yes (test ((goal.at.loop-i-preserved c).At-loop-i)) b.loop-i.i b.loop-i.many inv.0 (told ∙ w.if-touches.true),
+          stored_next (b.loop-i.i ∷ []) inv.1 w.zones-is many-are (sym (list_found (test ((goal.at.loop-i-preserved c).At-loop-i)) b.loop-i.i _ (told ∙ w.if-touches.true) refl)),
+        )
+        | else-touches w ↦ (
+          w.many-is ∙ count_no (test ((goal.at.loop-i-preserved c).At-loop-i)) b.loop-i.i b.loop-i.many inv.0 (told ∙ w.if-touches.false),
+          record { same = w.zones-is ∙ inv.1.same ∙ ap (sets (start ((goal.at.loop-i-preserved c).At-loop-i)).args.zones.now 0) (list_passed (test ((goal.at.loop-i-preserved c).At-loop-i)) b.loop-i.i _ (told ∙ w.if-touches.false) refl) },
+        )
+      ],
     )
 
 pub shape_of-zones : goal.shape_of-zones

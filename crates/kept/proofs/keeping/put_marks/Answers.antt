@@ -13,6 +13,7 @@ use Rattle.whole.proofs.Table.{table_length, table_front, is_table, stored}
 use Rattle.kept.specs.Kept.{keeps}
 use Rattle.kept.specs.Steps.{column_mark}
 use Rattle.kept.proofs.keeping.put_marks.Goals as goal
+use Rattle.kept.proofs.keeping.put_marks.Goals.{then-touches, else-touches}
 use Rattle.kept.proofs.keeping.put_marks.Goals.{At-loop-i, Start}
 
 -- the marks of the columns, as the array's front holds them
@@ -75,7 +76,7 @@ loop-i-preserved c =
     let inv = b.loop-i.invariant.1 in
     let told = sym c.touches.ensures in
     let marked : c.if-touches.mark ≡ cond (test ((goal.at.loop-i-preserved c).At-loop-i) b.loop-i.i) 1 0 =
-    ⊎_elim (λ u. u.1 ∙ rw (told ∙ u.0.taken) refl) (λ u. u.1 ∙ rw (told ∙ u.0.left) refl) c.if-touches.branch in (
+    elim c.if-touches.branch [ then-touches w ↦ w.mark-is ∙ rw (told ∙ w.if-touches.true) refl | else-touches w ↦ w.mark-is ∙ rw (told ∙ w.if-touches.false) refl ] in (
       omega arith,
       (
         simp length-set inv.0,

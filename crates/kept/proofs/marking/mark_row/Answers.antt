@@ -9,6 +9,7 @@ use Rattle.whole.proofs.Table.{table_length}
 use Rattle.kept.specs.Steps.{column_mark}
 use Rattle.kept.proofs.Marks.{Changed, changed_none, changed_next, changed_all, mark_set, mark_stays, row_end, row_few}
 use Rattle.kept.proofs.marking.mark_row.Goals as goal
+use Rattle.kept.proofs.marking.mark_row.Goals.{then-weights-row-gt0, else-weights-row-gt0}
 
 pub overflow_mul-row : goal.overflow_mul-row
 overflow_mul-row c = omega (arith, row_few _ _ c.requires.n_bound c.requires.i_lt_n)
@@ -45,9 +46,7 @@ loop-j-preserved c =
     let inv = b.loop-j.invariant.1 in (
       omega arith,
       changed_next _ _ _ b.loop-j.j b.loop-j.marks c.if-weights-row-gt0.mark inv h
-          (⊎_elim (λ u. mark_set a.n a.weights.now a.i b.loop-j.j c.if-weights-row-gt0.mark u.1 u.0.taken)
-          (λ u. mark_stays a.n a.weights.now a.i b.loop-j.j c.if-weights-row-gt0.mark (u.1 ∙ inv.left b.loop-j.j (omega arith) h) u.0.left)
-          c.if-weights-row-gt0.branch),
+          (elim c.if-weights-row-gt0.branch [ then-weights-row-gt0 w ↦ mark_set a.n a.weights.now a.i b.loop-j.j c.if-weights-row-gt0.mark w.mark-is w.if-weights-row-gt0.true | else-weights-row-gt0 w ↦ mark_stays a.n a.weights.now a.i b.loop-j.j c.if-weights-row-gt0.mark (w.mark-is ∙ inv.left b.loop-j.j (omega arith) h) w.if-weights-row-gt0.false ]),
     )
 
 pub shape_of-marks : goal.shape_of-marks

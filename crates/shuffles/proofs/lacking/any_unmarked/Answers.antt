@@ -12,6 +12,7 @@ use Rattle.whole.specs.Search.{some}
 use Rattle.whole.proofs.Search.{some_zero, some_found, some_same}
 use Rattle.shuffles.proofs.lacking.any_unmarked.Invariants.{test}
 use Rattle.shuffles.proofs.lacking.any_unmarked.Goals as goal
+use Rattle.shuffles.proofs.lacking.any_unmarked.Goals.{then-named-k-eq0, else-named-k-eq0}
 
 pub loop-k-init : goal.loop-k-init
 loop-k-init c = (omega arith, sym (some_zero _))
@@ -31,8 +32,7 @@ loop-k-preserved c =
     let t = test b.args.named.now in
     let k = b.loop-k.k in (
       omega arith,
-      ⊎_elim (λ u. u.1 ∙ some_found t (k + 1) k (omega arith) (eq-eqb _ _ u.0.taken))
-          (λ u. u.1 ∙ b.loop-k.invariant.1 ∙ some_same t k (ne_eqb _ _ u.0.left)) c.if-named-k-eq0.branch,
+      elim c.if-named-k-eq0.branch [ then-named-k-eq0 w ↦ w.found-is ∙ some_found t (k + 1) k (omega arith) (eq-eqb _ _ w.if-named-k-eq0.true) | else-named-k-eq0 w ↦ w.found-is ∙ b.loop-k.invariant.1 ∙ some_same t k (ne_eqb _ _ w.if-named-k-eq0.false) ],
     )
 
 pub returns : goal.returns
