@@ -55,7 +55,7 @@ pub slice_bounds-job_sums-end : goal.slice_bounds-job_sums-end
 slice_bounds-job_sums-end c = sym (length-take-le _ _ (zones ((goal.at.slice_bounds-job_sums-end c).Else-refusal-ne0)).room)
 
 pub job_sums-requires : goal.job_sums-requires
-job_sums-requires c = let e = c in record { job = (good ((goal.at.job_sums-requires c).Else-refusal-ne0)).well-formed.job; zones_value = (zones ((goal.at.job_sums-requires c).Else-refusal-ne0)).zones; locals_len = (good ((goal.at.job_sums-requires c).Else-refusal-ne0)).room }
+job_sums-requires c = let e = c in record { job = (good ((goal.at.job_sums-requires c).Else-refusal-ne0)).good.job; zones_value = (zones ((goal.at.job_sums-requires c).Else-refusal-ne0)).zones; locals_len = (good ((goal.at.job_sums-requires c).Else-refusal-ne0)).room }
 
 pub returns : goal.returns
 unfolding figures_of

@@ -49,8 +49,8 @@ pub returns-then-broken-ne0 : goal.returns-then-broken-ne0
 unfolding number_of counts_of rank_counts
 returns-then-broken-ne0 c = let e = c.judge_rank-found.ensures.number in record { number = e; counts = sym (kept_when_refused _ _ _ (λ z. c.if-broken-ne0.true (e ∙ z))) }
 
--- LEFT (no such goal now): div_rows : Need-nonzero-div-rows
--- div_rows c = omega (arith, (good c).two)
+pub nonzero_div-rows : goal.nonzero_div-rows
+nonzero_div-rows c = omega (arith, (good c).two)
 
 pub slice_bounds-zones-end : goal.slice_bounds-zones-end
 slice_bounds-zones-end c = (zones c).room
@@ -59,7 +59,7 @@ pub slice_bounds-work_rank-end : goal.slice_bounds-work_rank-end
 slice_bounds-work_rank-end c = sym (length-take-le _ _ (zones ((goal.at.slice_bounds-work_rank-end c).Else-broken-ne0)).room)
 
 pub work_rank-requires : goal.work_rank-requires
-work_rank-requires c = let e = c in record { job = (good ((goal.at.work_rank-requires c).Else-broken-ne0)).well-formed.job; zones_value = (zones ((goal.at.work_rank-requires c).Else-broken-ne0)).zones; shuffles = subst (Shuffles (a ((goal.at.work_rank-requires c).Else-broken-ne0)).args.shuffles.now (a ((goal.at.work_rank-requires c).Else-broken-ne0)).args.n) (counted ((goal.at.work_rank-requires c).Else-broken-ne0)) (good ((goal.at.work_rank-requires c).Else-broken-ne0)).rows }
+work_rank-requires c = let e = c in record { job = (good ((goal.at.work_rank-requires c).Else-broken-ne0)).good.job; zones_value = (zones ((goal.at.work_rank-requires c).Else-broken-ne0)).zones; shuffles = subst (Shuffles (a ((goal.at.work_rank-requires c).Else-broken-ne0)).args.shuffles.now (a ((goal.at.work_rank-requires c).Else-broken-ne0)).args.n) (counted ((goal.at.work_rank-requires c).Else-broken-ne0)) (good ((goal.at.work_rank-requires c).Else-broken-ne0)).rows }
 
 -- the counts of so many rows are those of the job, where they are its shuffles
 as_job :

@@ -48,9 +48,6 @@ pub returns-then-n-gt64 : goal.returns-then-n-gt64
 unfolding shuffle_refusal
 returns-then-n-gt64 c = simp (le-ltb _ _ c.if-n-lt2.false, lt-ltb _ _ c.if-n-gt64.true)
 
--- LEFT (no such goal now): div_rows : Need-nonzero-div-rows
--- div_rows c = some_zones c
-
 pub returns-then-rows-gt499 : goal.returns-then-rows-gt499
 unfolding shuffle_refusal
 returns-then-rows-gt499 c =

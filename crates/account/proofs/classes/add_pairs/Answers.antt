@@ -55,7 +55,7 @@ module _ (t : In-loop-j) where
   j = t.loop-j.j
 
   passing : j < n start
-  passing = t.loop-j-test.taken
+  passing = t.loop-j-test.true
 
   pair_in : i start * n start + j < n start * n start
   pair_in = within (n start) (i start) j (inside start) passing
@@ -170,7 +170,7 @@ add_row-requires c =
     let t = turn ((goal.at.add_row-requires c).After-squared_difference-square) in
     let s = start t in
     let b = t.loop-j in
-    let sized = pairs_sized (n s) (values s) (weights s) (classes s) s.requires.class_job (i s) (j t) _ (inside s) b.inv.0 b.inv.1 in
+    let sized = pairs_sized (n s) (values s) (weights s) (classes s) s.requires.class_job (i s) (j t) _ (inside s) b.invariant.0 b.invariant.1 in
     let weight = added_small (weight_is t) (omega arith) in
     let cross = added_small (rd w64 (cross_is t) tt) (omega arith) in
     let squares = added_small (rd w64 (squares_is ((goal.at.add_row-requires c).After-squared_difference-square)) tt) (omega arith) in record { sized = sized; k_bound = omega (arith, low t); weight_bound = weight; cross_bound = cross; squares_bound = squares }
@@ -189,7 +189,7 @@ loop-j-preserved c =
     let s = start t in
     let b = t.loop-j in (
       omega (arith, passing t),
-      one_pair (n s) (values s) (weights s) (classes s) (i s) (j t) (added ((goal.at.loop-j-preserved c).After-squared_difference-square)) b.parts _ b.inv.1
+      one_pair (n s) (values s) (weights s) (classes s) (i s) (j t) (added ((goal.at.loop-j-preserved c).After-squared_difference-square)) b.parts _ b.invariant.1
           c.add_row.ensures (each ((goal.at.loop-j-preserved c).After-squared_difference-square)),
     )
 

@@ -70,7 +70,7 @@ module _ (t : In-loop-k) where
   k = t.loop-k.k
 
   low : k < 9
-  low = t.loop-k-test.taken
+  low = t.loop-k-test.true
 
   -- the place of zone i among the local numerators
   local_in : k * n start + i start < 9 * n start
@@ -107,9 +107,9 @@ module _ (t : In-loop-k) where
 
   -- one more of them
   own_more :
-      Is (to_z w64 t.loop-k.own +ℤ added.cross)
+      Is (to_z w64 t.loop-k.own-bits +ℤ added.cross)
       (sum (λ q. zones_class_local (n start) (values start) (weights start) (classes start) q (i start)) (k + 1)) 849346560000000000
-  own_more = acc_more (runs start) k t.loop-k.own (omega (arith, low)) t.loop-k.invariant.1.1 (rd w64 local_is tt)
+  own_more = acc_more (runs start) k (to_z w64 t.loop-k.own-bits) (omega (arith, low)) t.loop-k.invariant.1.1 (rd w64 local_is tt)
 
   each : (place : ℕ) → sum_at added place ≡ zone_sum (n start) (values start) (weights start) (classes start) k place (i start)
   each zero = (part_is (k * 3) 0 (omega arith) (omega arith)).same
@@ -140,7 +140,7 @@ loop-k-init c =
     let s = c in
     let none : (k : ℕ) → k < 9 → i ((goal.at.loop-k-init c).Start) ≡ zones_in (i ((goal.at.loop-k-init c).Start)) 0 k = λ k p. rw (le-ltb k 0 (omega arith)) refl in (
       omega arith,
-      (same_zones (n ((goal.at.loop-k-init c).Start)) (values ((goal.at.loop-k-init c).Start)) (weights ((goal.at.loop-k-init c).Start)) (classes ((goal.at.loop-k-init c).Start)) (λ k. i ((goal.at.loop-k-init c).Start)) (zones_in (i ((goal.at.loop-k-init c).Start)) 0) _ _ none s.requires.zoned, acc_none w64 _),
+      (same_zones (n ((goal.at.loop-k-init c).Start)) (values ((goal.at.loop-k-init c).Start)) (weights ((goal.at.loop-k-init c).Start)) (classes ((goal.at.loop-k-init c).Start)) (λ k. i ((goal.at.loop-k-init c).Start)) (zones_in (i ((goal.at.loop-k-init c).Start)) 0) _ _ none s.requires.zoned, acc_none _),
     )
 
 pub overflow_mul-place : goal.overflow_mul-place
@@ -213,8 +213,8 @@ loop-k-preserved c =
       omega (arith, low t),
       (
         one_class (n s) (values s) (weights s) (classes s) (i s) (k t) (added t) b.rows _ b.class_locals (inside s) (low t)
-            b.inv.1.0 c.add_row.ensures (each t),
-        ap (of_z w64) (own_more t).same,
+            b.invariant.1.0 c.add_row.ensures (each t),
+        (rd w64 (own_more t) tt).same,
       ),
     )
 
@@ -233,9 +233,9 @@ module _ (c : After-loop-k) where
   owned = s.requires.owned
 
   -- what is stored is L(i)
-  own_is : to_z w64 b.loop-k.own ≡ local_of (pair_at (weights s) (n s)) (deviation_of (at (values s)) (n s)) (n s) (i s)
+  own_is : to_z w64 b.loop-k.own-bits ≡ local_of (pair_at (weights s) (n s)) (deviation_of (at (values s)) (n s)) (n s) (i s)
   own_is =
-      acc_done (runs s) b.loop-k.k b.loop-k.own nine b.loop-k.invariant.1.1
+      acc_done _ _ b.loop-k.k (to_z w64 b.loop-k.own-bits) nine b.loop-k.invariant.1.1
       ∙ locals_together (n s) (values s) (weights s) (classes s) s.requires.class_job.low (i s) (inside s)
 
 pub offset_bounds-locals-i : goal.offset_bounds-locals-i

@@ -28,7 +28,7 @@ abbrev pub invariant-loop-k : goal.invariant-loop-k
 invariant-loop-k l =
     (l.k ≤ 9)
     × (Zoned l.n l.values l.weights l.classes (zones_in l.i l.k) l.rows l.class_locals
-    × (l.own ≡ of_z w64 (sum (λ q. zones_class_local l.n l.values l.weights l.classes q l.i) l.k)))
+    × (l.own ≡ sum (λ q. zones_class_local l.n l.values l.weights l.classes q l.i) l.k))
 
 abbrev pub decreases-loop-k : goal.decreases-loop-k
 decreases-loop-k l = 9 - l.k

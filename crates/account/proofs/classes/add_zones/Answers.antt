@@ -71,10 +71,10 @@ slice_bounds-add_zone-end c =
 pub add_zone-requires : goal.add_zone-requires
 add_zone-requires c =
     let t = c in
-    let d = front {A = ℤ} _ _ (expected ((goal.at.add_zone-requires c).In-loop-i)) _ (worked ((goal.at.add_zone-requires c).In-loop-i)).deviations.ensures (as_long ((goal.at.add_zone-requires c).In-loop-i)) in let all = ((start ((goal.at.add_zone-requires c).In-loop-i)).requires.class_job, (d, (t.loop-i-test.true, t.loop-i.invariant.1))) in record { class_job = all.0; d_value = all.1.0; i_lt_n = all.1.1.0; zoned = all.1.1.1.0; owned = all.1.1.1.1 }
+    let d = front {A = ℤ} _ _ (expected ((goal.at.add_zone-requires c).In-loop-i)) _ (worked ((goal.at.add_zone-requires c).In-loop-i)).deviations.ensures (as_long ((goal.at.add_zone-requires c).In-loop-i)) in record { class_job = (start ((goal.at.add_zone-requires c).In-loop-i)).requires.class_job; d_value = d; i_lt_n = t.loop-i-test.true; zoned = t.loop-i.invariant.1.0; owned = t.loop-i.invariant.1.1 }
 
 pub overflow_add-i : goal.overflow_add-i
-overflow_add-i c = let t = turn c in omega (arith, t.loop-i-test.taken, (start t).requires.class_job.job.valued.zones)
+overflow_add-i c = let t = turn c in omega (arith, t.loop-i-test.true, (start t).requires.class_job.job.valued.zones)
 
 pub loop-i-smaller : goal.loop-i-smaller
 loop-i-smaller c = omega (arith, (turn c).loop-i-test.true)
@@ -101,5 +101,5 @@ returns c =
     let g = (lent c).args in
     let b = c.loop-i in
     let all : b.i ≡ g.n = omega (arith, b.invariant.0, c.loop-i-test.false) in
-    let classes = all_zones g.n g.values.now g.weights.now g.classes.now b.i b.rows b.class_locals-1 all b.invariant.1.0 in
+    let classes = all_zones g.n g.values.now g.weights.now g.classes.now b.i b.rows b.class_locals all b.invariant.1.0 in
     let f = local_of (pair_at g.weights.now g.n) (deviation_of (at g.values.now) g.n) g.n in record { rows_after = classes.0; class_locals_after = classes.1; locals_after = is_table f g.n (pos 0) b.locals b.invariant.1.1.count (λ k p. b.invariant.1.1.numerators k (omega (arith, all))) }

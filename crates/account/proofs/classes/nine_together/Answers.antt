@@ -36,17 +36,17 @@ inside c = omega (arith, c.loop-k-test.true, c.requires.place_bound)
 turn :
     (c : After-acc-1) →
     let b = c in
-    Is (to_z w64 b.loop-k.acc +ℤ r64 (at b.args.rows.now (b.loop-k.k * 3 + b.args.place)))
+    Is (to_z w64 b.loop-k.acc-bits +ℤ r64 (at b.args.rows.now (b.loop-k.k * 3 + b.args.place)))
     (sum (λ k. at b.args.rows.now (k * 3 + b.args.place)) (b.loop-k.k + 1)) 849346560000000000
 turn c =
     let b = c in
     let s = c in
     let low = c.loop-k-test.true in
-    acc_more (runs ((goal.at.After-acc-1 c).Start)) b.loop-k.k b.loop-k.acc (omega (arith, low)) b.loop-k.invariant.1
+    acc_more (runs ((goal.at.After-acc-1 c).Start)) b.loop-k.k (to_z w64 b.loop-k.acc-bits) (omega (arith, low)) b.loop-k.invariant.1
     (rd w64 (val (at s.args.rows.now (b.loop-k.k * 3 + s.args.place)) 94371840000000000 (s.requires.by_index b.loop-k.k low)) tt)
 
 pub loop-k-init : goal.loop-k-init
-loop-k-init c = (omega arith, acc_none w64 _)
+loop-k-init c = (omega arith, acc_none _)
 
 pub overflow_mul-acc : goal.overflow_mul-acc
 overflow_mul-acc c = omega (arith, inside c)
@@ -70,9 +70,9 @@ pub loop-k-smaller : goal.loop-k-smaller
 loop-k-smaller c = omega (arith, c.loop-k-test.true)
 
 pub loop-k-preserved : goal.loop-k-preserved
-loop-k-preserved c = (omega (arith, c.loop-k-test.true), ap (of_z w64) (turn c).same)
+loop-k-preserved c = (omega (arith, c.loop-k-test.true), (rd w64 (turn c) tt).same)
 
 pub returns : goal.returns
 returns c =
     let b = c in
-    acc_done (runs ((goal.at.returns c).Start)) b.loop-k.k b.loop-k.acc (omega (arith, b.loop-k.invariant.0, c.loop-k-test.false)) b.loop-k.invariant.1
+    acc_done _ _ b.loop-k.k (to_z w64 b.loop-k.acc-bits) (omega (arith, b.loop-k.invariant.0, c.loop-k-test.false)) b.loop-k.invariant.1

@@ -12,7 +12,7 @@ use Rattle.whole.proofs.SumSize.{sum_size}
 use Rattle.account.proofs.classes.nine_together.Given as goal
 
 abbrev pub invariant-loop-k : goal.invariant-loop-k
-invariant-loop-k l = (l.k ≤ 9) × (l.acc ≡ of_z w64 (sum (λ q. at l.rows (q * 3 + l.place)) l.k))
+invariant-loop-k l = (l.k ≤ 9) × (l.acc ≡ sum (λ q. at l.rows (q * 3 + l.place)) l.k)
 
 abbrev pub decreases-loop-k : goal.decreases-loop-k
 decreases-loop-k l = 9 - l.k

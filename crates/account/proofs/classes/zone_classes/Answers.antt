@@ -19,7 +19,7 @@ use Rattle.account.proofs.NineClasses.{weights_together, squares_together}
 use Rattle.account.proofs.ZoneByZone.{class_weight_size, class_squares_size}
 use borrow.Author.Rules.{rules}
 use Rattle.account.proofs.classes.zone_classes.Goals as goal
-use Rattle.account.proofs.classes.zone_classes.Goals.{After-add_zones, After-add_zones-arg-1, After-add_zones-arg-2-1, After-add_zones-arg-3-1, After-spread-spread, After-total-total, Start}
+use Rattle.account.proofs.classes.zone_classes.Goals.{After-add_zones, After-spread-spread, After-total-total, Start}
 
 -- the rows that the zones gave, and their W and G together
 module _ (n : ℕ) (values : List ℤ) (weights classes : List ℕ) (g : ClassJob values weights classes n)
@@ -69,29 +69,29 @@ add_zones-requires c =
 pub nine_together-weight-requires : goal.nine_together-weight-requires
 nine_together-weight-requires c =
     let z = c in
-    let a = (start ((goal.at.nine_together-weight-requires c).After-add_zones-arg-3-1)).args in
+    let a = (start ((goal.at.nine_together-weight-requires c).After-add_zones)).args in
     let rows = z.add_zones.ensures.rows_after in
-    let g = (start ((goal.at.nine_together-weight-requires c).After-add_zones-arg-3-1)).requires.class_job in record { place_bound = omega arith; rows_len = z.add_zones.auto.1.1.1.1.1.0 ∙ (start ((goal.at.nine_together-weight-requires c).After-add_zones-arg-3-1)).requires.rows_len; by_index = weight_small a.n a.values.now a.weights.now a.classes.now g _ rows }
+    let g = (start ((goal.at.nine_together-weight-requires c).After-add_zones)).requires.class_job in record { place_bound = omega arith; rows_len = z.add_zones.auto.rows ∙ (start ((goal.at.nine_together-weight-requires c).After-add_zones)).requires.rows_len; by_index = weight_small a.n a.values.now a.weights.now a.classes.now g _ rows }
 
 pub sum_of-cross-requires : goal.sum_of-cross-requires
 sum_of-cross-requires c =
     let z = c in
-    let g = (start ((goal.at.sum_of-cross-requires c).After-add_zones-arg-2-1)).requires.class_job.job in record { n_bound = g.valued.zones; sized = locals_sized _ _ _ g _ z.add_zones.ensures.locals_after }
+    let g = (start ((goal.at.sum_of-cross-requires c).After-add_zones)).requires.class_job.job in record { n_bound = g.valued.zones; sized = locals_sized _ _ _ g _ z.add_zones.ensures.locals_after }
 
 pub nine_together-squares-requires : goal.nine_together-squares-requires
 nine_together-squares-requires c =
     let z = c in
-    let a = (start ((goal.at.nine_together-squares-requires c).After-add_zones-arg-1)).args in
+    let a = (start ((goal.at.nine_together-squares-requires c).After-add_zones)).args in
     let rows = z.add_zones.ensures.rows_after in
-    let g = (start ((goal.at.nine_together-squares-requires c).After-add_zones-arg-1)).requires.class_job in record { place_bound = omega arith; rows_len = z.add_zones.auto.1.1.1.1.1.0 ∙ (start ((goal.at.nine_together-squares-requires c).After-add_zones-arg-1)).requires.rows_len; by_index = squares_small a.n a.values.now a.weights.now a.classes.now g _ rows }
+    let g = (start ((goal.at.nine_together-squares-requires c).After-add_zones)).requires.class_job in record { place_bound = omega arith; rows_len = z.add_zones.auto.rows ∙ (start ((goal.at.nine_together-squares-requires c).After-add_zones)).requires.rows_len; by_index = squares_small a.n a.values.now a.weights.now a.classes.now g _ rows }
 
 pub returns : goal.returns
 returns c =
     let p = c in
     let w = c in
     let z = c in
-    let m = summing ((goal.at.returns c).After-add_zones-arg-1) in
-    let s = start ((goal.at.returns c).After-add_zones-arg-1) in
+    let m = summing ((goal.at.returns c).After-add_zones) in
+    let s = start ((goal.at.returns c).After-add_zones) in
     let a = s.args in
     let g = s.requires.class_job in
     let r = g.job in
@@ -99,7 +99,7 @@ returns c =
     let weight = w.nine_together-weight.ensures ∙ weight_together a.n a.values.now a.weights.now a.classes.now g _ held.rows_after in
     let squares = c.nine_together-squares.ensures ∙ square_together a.n a.values.now a.weights.now a.classes.now g _ held.rows_after in record {
       result_value = same_figures a.n a.values.now a.weights.now _ _ _ _ _
-          (summed m.before)
+          (summed ((goal.at.After-spread-spread m).After-total-total))
           (rd w64 (spread_told _ _ r.valued m.spread-spread.ensures) tt).same
           (rd w64 (weight_told _ _ r.weighted weight) tt).same
           (rd w64 (cross_told _ _ _ r (p.sum_of-cross.ensures ∙ locals_cross _ _ _ r _ held.locals_after)) tt).same

@@ -43,10 +43,10 @@ module _ (c : After-deviation-1) where
       (rd w64 (val (deviation b.loop-j.j) 12800000 (a.requires.sized.size b.loop-j.j (omega arith))) tt)
 
   turn :
-      Is (to_z w64 b.loop-j.acc +ℤ r64 (cast *ℤ r64 (deviation b.loop-j.j)))
+      Is (to_z w64 b.loop-j.acc-bits +ℤ r64 (cast *ℤ r64 (deviation b.loop-j.j)))
       (sum (λ j. pos (weight j) *ℤ deviation j) (b.loop-j.j + 1)) 7372800000
   turn =
-      acc_more (neighbours_run _ _ a.requires.weighted _ a.args.i a.requires.sized a.requires.i_lt_n) b.loop-j.j b.loop-j.acc (omega arith)
+      acc_more (neighbours_run _ _ a.requires.weighted _ a.args.i a.requires.sized a.requires.i_lt_n) b.loop-j.j (to_z w64 b.loop-j.acc-bits) (omega arith)
       b.loop-j.invariant.1
       (rd w64 term tt)
 
@@ -54,7 +54,7 @@ pub overflow_mul-row : goal.overflow_mul-row
 overflow_mul-row c = omega (arith, within c.args.n c.args.i c.args.i c.requires.i_lt_n c.requires.i_lt_n, few c.args.n c.requires.weighted.zones)
 
 pub loop-j-init : goal.loop-j-init
-loop-j-init c = (omega arith, acc_none w64 _)
+loop-j-init c = (omega arith, acc_none _)
 
 pub overflow_add-weight : goal.overflow_add-weight
 overflow_add-weight c =
@@ -92,12 +92,11 @@ pub loop-j-smaller : goal.loop-j-smaller
 loop-j-smaller c = omega arith
 
 pub loop-j-preserved : goal.loop-j-preserved
-loop-j-preserved c = (omega arith, ap (of_z w64) (turn c).same)
+loop-j-preserved c = (omega arith, (rd w64 (turn c) tt).same)
 
 pub returns : goal.returns
 unfolding row_of
 returns c =
     let b = c in
     let a = c in
-    acc_done (neighbours_run _ _ a.requires.weighted _ a.args.i a.requires.sized a.requires.i_lt_n)
-    b.loop-j.j b.loop-j.acc (omega arith) b.loop-j.invariant.1
+    acc_done _ _ b.loop-j.j (to_z w64 b.loop-j.acc-bits) (omega arith) b.loop-j.invariant.1

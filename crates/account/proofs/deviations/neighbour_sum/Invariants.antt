@@ -16,7 +16,7 @@ use Rattle.account.proofs.Running.{neighbours_run}
 use Rattle.account.proofs.deviations.neighbour_sum.Given as goal
 
 abbrev pub invariant-loop-j : goal.invariant-loop-j
-invariant-loop-j l = (l.j ≤ l.n) × (l.acc ≡ of_z w64 (sum (λ j'. pos (pair_at l.weights l.n l.i j') *ℤ at l.d j') l.j))
+invariant-loop-j l = (l.j ≤ l.n) × (l.acc ≡ sum (λ j'. pos (pair_at l.weights l.n l.i j') *ℤ at l.d j') l.j)
 
 abbrev pub decreases-loop-j : goal.decreases-loop-j
 decreases-loop-j l = l.n - l.j

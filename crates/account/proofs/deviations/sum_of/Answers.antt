@@ -18,15 +18,15 @@ turn :
     (c : After-acc-1) →
     let b = c in
     let l = at b.args.locals.now in
-    Is (to_z w64 b.loop-i.acc +ℤ r64 (l b.loop-i.i)) (sum l (b.loop-i.i + 1)) 6039797760000000000
+    Is (to_z w64 b.loop-i.acc-bits +ℤ r64 (l b.loop-i.i)) (sum l (b.loop-i.i + 1)) 6039797760000000000
 turn c =
     let b = c in
     let a = c in
-    acc_more (locals_run _ _ a.requires.n_bound a.requires.sized) b.loop-i.i b.loop-i.acc (omega arith) b.loop-i.invariant.1
+    acc_more (locals_run _ _ a.requires.n_bound a.requires.sized) b.loop-i.i (to_z w64 b.loop-i.acc-bits) (omega arith) b.loop-i.invariant.1
     (rd w64 (val (at a.args.locals.now b.loop-i.i) 94371840000000000 (a.requires.sized.size b.loop-i.i (omega arith))) tt)
 
 pub loop-i-init : goal.loop-i-init
-loop-i-init c = (omega arith, acc_none w64 _)
+loop-i-init c = (omega arith, acc_none _)
 
 pub offset_bounds-locals-i : goal.offset_bounds-locals-i
 offset_bounds-locals-i c = omega arith
@@ -44,10 +44,10 @@ pub loop-i-smaller : goal.loop-i-smaller
 loop-i-smaller c = omega arith
 
 pub loop-i-preserved : goal.loop-i-preserved
-loop-i-preserved c = (omega arith, ap (of_z w64) (turn c).same)
+loop-i-preserved c = (omega arith, (rd w64 (turn c) tt).same)
 
 pub returns : goal.returns
 returns c =
     let b = c in
     let a = c in
-    acc_done (locals_run _ _ a.requires.n_bound a.requires.sized) b.loop-i.i b.loop-i.acc (omega arith) b.loop-i.invariant.1
+    acc_done _ _ b.loop-i.i (to_z w64 b.loop-i.acc-bits) (omega arith) b.loop-i.invariant.1

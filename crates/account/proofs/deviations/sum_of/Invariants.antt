@@ -12,7 +12,7 @@ use Rattle.account.proofs.Running.{locals_run}
 use Rattle.account.proofs.deviations.sum_of.Given as goal
 
 abbrev pub invariant-loop-i : goal.invariant-loop-i
-invariant-loop-i l = (l.i ≤ l.n) × (l.acc ≡ of_z w64 (sum (at l.locals) l.i))
+invariant-loop-i l = (l.i ≤ l.n) × (l.acc ≡ sum (at l.locals) l.i)
 
 abbrev pub decreases-loop-i : goal.decreases-loop-i
 decreases-loop-i l = l.n - l.i

@@ -20,15 +20,15 @@ turn :
     (c : After-acc-1) →
     let b = c in
     let x = at b.args.values.now in
-    Is (to_z w64 b.loop-i.acc +ℤ r64 (r32 (x b.loop-i.i))) (sum x (b.loop-i.i + 1)) 6400000
+    Is (to_z w64 b.loop-i.acc-bits +ℤ r64 (r32 (x b.loop-i.i))) (sum x (b.loop-i.i + 1)) 6400000
 turn c =
     let b = c in
     let a = c in
-    acc_more (total_runs _ _ a.requires) b.loop-i.i b.loop-i.acc (omega arith) b.loop-i.invariant.1
+    acc_more (total_runs _ _ a.requires) b.loop-i.i (to_z w64 b.loop-i.acc-bits) (omega arith) b.loop-i.invariant.1
     (rd w64 (value_is _ _ a.requires b.loop-i.i (omega arith)) tt)
 
 pub loop-i-init : goal.loop-i-init
-loop-i-init c = (omega arith, acc_none w64 _)
+loop-i-init c = (omega arith, acc_none _)
 
 pub offset_bounds-values-i : goal.offset_bounds-values-i
 offset_bounds-values-i c = omega arith
@@ -49,8 +49,8 @@ pub loop-i-smaller : goal.loop-i-smaller
 loop-i-smaller c = omega arith
 
 pub loop-i-preserved : goal.loop-i-preserved
-loop-i-preserved c = (omega arith, ap (of_z w64) (turn c).same)
+loop-i-preserved c = (omega arith, (rd w64 (turn c) tt).same)
 
 pub returns : goal.returns
 unfolding total_of
-returns c = let b = c in acc_done (total_runs _ _ b.requires) b.loop-i.i b.loop-i.acc (omega arith) b.loop-i.invariant.1
+returns c = let b = c in acc_done _ _ b.loop-i.i (to_z w64 b.loop-i.acc-bits) (omega arith) b.loop-i.invariant.1

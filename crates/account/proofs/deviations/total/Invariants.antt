@@ -14,7 +14,7 @@ use Rattle.account.proofs.Running.{total_runs}
 use Rattle.account.proofs.deviations.total.Given as goal
 
 abbrev pub invariant-loop-i : goal.invariant-loop-i
-invariant-loop-i l = (l.i ≤ l.n) × (l.acc ≡ of_z w64 (sum (at l.values) l.i))
+invariant-loop-i l = (l.i ≤ l.n) × (l.acc ≡ sum (at l.values) l.i)
 
 abbrev pub decreases-loop-i : goal.decreases-loop-i
 decreases-loop-i l = l.n - l.i

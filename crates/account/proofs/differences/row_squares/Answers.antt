@@ -47,10 +47,10 @@ module _ (c : After-squared_difference) where
       (rd w64 difference tt)
 
   turn :
-      Is (to_z w64 b.loop-j.acc +ℤ r64 (cast *ℤ r64 c.squared_difference.result))
+      Is (to_z w64 b.loop-j.acc-bits +ℤ r64 (cast *ℤ r64 c.squared_difference.result))
       (sum (λ j. pos (weight j) *ℤ apart j) (b.loop-j.j + 1)) 23040000000000
   turn =
-      acc_more (row_squares_run _ _ _ a.requires.job a.args.i a.requires.i_lt_n) b.loop-j.j b.loop-j.acc (omega arith) b.loop-j.invariant.1
+      acc_more (row_squares_run _ _ _ a.requires.job a.args.i a.requires.i_lt_n) b.loop-j.j (to_z w64 b.loop-j.acc-bits) (omega arith) b.loop-j.invariant.1
       (rd w64 term tt)
 
 pub offset_bounds-values-i : goal.offset_bounds-values-i
@@ -65,7 +65,7 @@ overflow_mul-row c =
     omega (arith, within a.args.n a.args.i a.args.i a.requires.i_lt_n a.requires.i_lt_n, few a.args.n a.requires.job.valued.zones)
 
 pub loop-j-init : goal.loop-j-init
-loop-j-init c = (omega arith, acc_none w64 _)
+loop-j-init c = (omega arith, acc_none _)
 
 pub overflow_add-weight : goal.overflow_add-weight
 overflow_add-weight c =
@@ -113,11 +113,11 @@ pub loop-j-smaller : goal.loop-j-smaller
 loop-j-smaller c = omega arith
 
 pub loop-j-preserved : goal.loop-j-preserved
-loop-j-preserved c = (omega arith, ap (of_z w64) (turn c).same)
+loop-j-preserved c = (omega arith, (rd w64 (turn c) tt).same)
 
 pub returns : goal.returns
 unfolding row_of
 returns c =
     let b = c in
     let a = c in
-    acc_done (row_squares_run _ _ _ a.requires.job a.args.i a.requires.i_lt_n) b.loop-j.j b.loop-j.acc (omega arith) b.loop-j.invariant.1
+    acc_done _ _ b.loop-j.j (to_z w64 b.loop-j.acc-bits) (omega arith) b.loop-j.invariant.1

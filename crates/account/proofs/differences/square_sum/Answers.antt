@@ -30,13 +30,13 @@ module _ (c : After-x-1) where
 
   turn :
       let x = at b.args.values.now in
-      Is (to_z w64 b.loop-i.acc +ℤ r64 (r64 (r32 (x b.loop-i.i)) *ℤ r64 (r32 (x b.loop-i.i))))
+      Is (to_z w64 b.loop-i.acc-bits +ℤ r64 (r64 (r32 (x b.loop-i.i)) *ℤ r64 (r32 (x b.loop-i.i))))
       (sum (λ i. square (x i)) (b.loop-i.i + 1)) 640000000000
   turn =
-      acc_more (square_runs _ _ b.requires) b.loop-i.i b.loop-i.acc (omega arith) b.loop-i.invariant.1 (rd w64 product tt)
+      acc_more (square_runs _ _ b.requires) b.loop-i.i (to_z w64 b.loop-i.acc-bits) (omega arith) b.loop-i.invariant.1 (rd w64 product tt)
 
 pub loop-i-init : goal.loop-i-init
-loop-i-init c = (omega arith, acc_none w64 _)
+loop-i-init c = (omega arith, acc_none _)
 
 pub offset_bounds-values-i : goal.offset_bounds-values-i
 offset_bounds-values-i c = omega arith
@@ -60,7 +60,7 @@ pub loop-i-smaller : goal.loop-i-smaller
 loop-i-smaller c = omega arith
 
 pub loop-i-preserved : goal.loop-i-preserved
-loop-i-preserved c = (omega arith, ap (of_z w64) (turn c).same)
+loop-i-preserved c = (omega arith, (rd w64 (turn c) tt).same)
 
 pub returns : goal.returns
-returns c = let b = c in acc_done (square_runs _ _ b.requires) b.loop-i.i b.loop-i.acc (omega arith) b.loop-i.invariant.1
+returns c = let b = c in acc_done _ _ b.loop-i.i (to_z w64 b.loop-i.acc-bits) (omega arith) b.loop-i.invariant.1

@@ -22,18 +22,18 @@ turn :
     let b = c in
     let a = b.args in
     let x = at a.values.now in
-    Is (to_z w64 b.loop-i.acc +ℤ r64 c.row_squares-acc.result)
+    Is (to_z w64 b.loop-i.acc-bits +ℤ r64 c.row_squares-acc.result)
     (sum (λ i. row_of (pair_at a.weights.now a.n) (λ i j. square (x i -ℤ x j)) i a.n) (b.loop-i.i + 1)) 1474560000000000
 unfolding row_of
 turn c =
     let b = c in
     let a = c in
     let run = row_squares_run _ _ _ a.requires b.loop-i.i (omega arith) in
-    acc_more (squares_run _ _ _ a.requires) b.loop-i.i b.loop-i.acc (omega arith) b.loop-i.invariant.1
+    acc_more (squares_run _ _ _ a.requires) b.loop-i.i (to_z w64 b.loop-i.acc-bits) (omega arith) b.loop-i.invariant.1
     (rd w64 (told _ 23040000000000 c.row_squares-acc.ensures (run.bound a.args.n (N.le_refl a.args.n))) tt)
 
 pub loop-i-init : goal.loop-i-init
-loop-i-init c = (omega arith, acc_none w64 _)
+loop-i-init c = (omega arith, acc_none _)
 
 pub row_squares-acc-requires : goal.row_squares-acc-requires
 row_squares-acc-requires c = record { job = c.requires; i_lt_n = omega arith }
@@ -48,10 +48,10 @@ pub loop-i-smaller : goal.loop-i-smaller
 loop-i-smaller c = omega arith
 
 pub loop-i-preserved : goal.loop-i-preserved
-loop-i-preserved c = (omega arith, ap (of_z w64) (turn c).same)
+loop-i-preserved c = (omega arith, (rd w64 (turn c) tt).same)
 
 pub returns : goal.returns
 unfolding squares_of pairs_of
 returns c =
     let b = c in
-    acc_done (squares_run _ _ _ b.requires) b.loop-i.i b.loop-i.acc (omega arith) b.loop-i.invariant.1
+    acc_done _ _ b.loop-i.i (to_z w64 b.loop-i.acc-bits) (omega arith) b.loop-i.invariant.1

@@ -41,7 +41,7 @@ sized c = ((goal.at.After-judge_job-job c).Else-sizes-ne0)
 
 job_good :
     (c : Else-number-ne0) →
-    let g = (a (sized ((goal.at.Else-number-ne0 c).After-judge_job-job)).before).args in
+    let g = (a ((goal.at.Else-sizes-ne0 (sized ((goal.at.Else-number-ne0 c).After-judge_job-job))).After-judge_class_sizes-sizes)).args in
     first_broken (job_rules g.n g.values.now g.weights.now) ≡ 0
 job_good c = sym c.judge_job-job.ensures.number ∙ c.if-number-ne0.false
 
@@ -63,7 +63,7 @@ pub returns-then-number-ne0 : goal.returns-then-number-ne0
 unfolding class_rules
 returns-then-number-ne0 c =
     let j = c in
-    let b = (sized ((goal.at.returns-then-number-ne0 c).After-judge_job-job)).before in
+    let b = ((goal.at.Else-sizes-ne0 (sized ((goal.at.returns-then-number-ne0 c).After-judge_job-job))).After-judge_class_sizes-sizes) in
     by_number _ _ _ _
     (by_job _ _ _ (lent b) (last b) _ (sizes_good (sized ((goal.at.returns-then-number-ne0 c).After-judge_job-job))) j.judge_job-job.ensures.number c.if-number-ne0.true)
     c.if-number-ne0.true
@@ -76,7 +76,7 @@ unfolding class_rules
 returns-then-any_above c =
     let k = c in
     let j = c in
-    let b = (sized ((goal.at.returns-then-any_above c).After-judge_job-job)).before in
+    let b = ((goal.at.Else-sizes-ne0 (sized ((goal.at.returns-then-any_above c).After-judge_job-job))).After-judge_class_sizes-sizes) in
     by_number _ _ _ _
     (by_rest _ _ _ (lent b) (last b) _ (sizes_good (sized ((goal.at.returns-then-any_above c).After-judge_job-job))) (job_good ((goal.at.returns-then-any_above c).Else-number-ne0))
     (rw (sym c.any_above.ensures ∙ c.if-any_above.true) refl))
@@ -87,7 +87,7 @@ unfolding class_rules
 returns c =
     let k = c in
     let j = c in
-    let b = (sized ((goal.at.returns c).After-judge_job-job)).before in
+    let b = ((goal.at.Else-sizes-ne0 (sized ((goal.at.returns c).After-judge_job-job))).After-judge_class_sizes-sizes) in
     with_zones _ _ _ _ _ j.judge_job-job.ensures (job_good ((goal.at.returns c).Else-number-ne0)) refl
     (by_rest _ _ _ (lent b) (last b) _ (sizes_good (sized ((goal.at.returns c).After-judge_job-job))) (job_good ((goal.at.returns c).Else-number-ne0))
     (rw (sym c.any_above.ensures ∙ c.if-any_above.false) k.if-number-ne0.false))

@@ -12,7 +12,7 @@ use Rattle.account.proofs.Accepted.{Lawful, lawful}
 use Rattle.account.proofs.Found.{by_number, Left, never_refused, zones_left, by_lists, sums_asked, by_sums}
 use borrow.Author.Rules.{rules}
 use Rattle.account.proofs.judging.judge_job.Goals as goal
-use Rattle.account.proofs.judging.judge_job.Goals.{After-keep, In-Kept, In-Kept-2, Start}
+use Rattle.account.proofs.judging.judge_job.Goals.{After-keep, In-Kept, Start}
 
 -- the lists are good, and `keep` has answered
 module _ (c : After-keep) where
@@ -35,26 +35,24 @@ module _ (c : After-keep) where
   none = sym c.judge_lists-lists.ensures ∙ c.if-lists-ne0.false
 
   good : Lawful n values weights
-  good = let p = (a.requires.n_bound, (a.requires.values_len, (a.requires.weights_len, a.requires.zones_len))) in lawful n values weights p.0 p.1.0 p.1.1.0 none
+  good = lawful n values weights a.requires.n_bound a.requires.values_len a.requires.weights_len none
 
   never : (number : ℕ) → c.keep.result ≡ Refused number → ⊥
   never number =
-      let p = (a.requires.n_bound, (a.requires.values_len, (a.requires.weights_len, a.requires.zones_len))) in
-      never_refused n weights a.args.zones.now a.requires.le_n p.0 p.1.1.0 p.1.1.1 _ c.keep.ensures.many
+      never_refused n weights a.args.zones.now a.requires.le_n a.requires.n_bound a.requires.weights_len a.requires.zones_len _ c.keep.ensures.many
       number
 
   kept : (many : ℕ) → c.keep.result ≡ Kept many → Left n weights left many
   kept many q =
-      let p = (a.requires.n_bound, (a.requires.values_len, (a.requires.weights_len, a.requires.zones_len))) in
-      zones_left n weights a.args.zones.now a.requires.le_n p.0 p.1.1.0 p.1.1.1 _ c.keep.ensures.many
+      zones_left n weights a.args.zones.now a.requires.le_n a.requires.n_bound a.requires.weights_len a.requires.zones_len _ c.keep.ensures.many
       left many c.keep.ensures.lent q
 
 -- the zones that the sums are judged of
 abbrev asked : In-Kept → After-keep
 asked c = ((goal.at.In-Kept c).After-keep)
 
-lying : (c : In-Kept) → Left (n (asked c)) (weights (asked c)) (left (asked c)) c.many-1.given.0.0
-lying c = kept (asked c) _ c.many-1.given.1
+lying : (c : In-Kept) → Left (n (asked c)) (weights (asked c)) (left (asked c)) c.in-Kept.many
+lying c = kept (asked c) _ c.in-Kept.is
 
 pub returns-then-lists-ne0 : goal.returns-then-lists-ne0
 returns-then-lists-ne0 c =
@@ -67,19 +65,19 @@ pub slice_bounds-judge_sums-end : goal.slice_bounds-judge_sums-end
 slice_bounds-judge_sums-end c = (lying c).room
 
 pub slice_bounds-judge_sums-end-in-Kept : goal.slice_bounds-judge_sums-end-in-Kept
-slice_bounds-judge_sums-end-in-Kept c = sym (length-take-le _ _ (lying ((goal.at.slice_bounds-judge_sums-end-in-Kept c).In-Kept-2)).room)
+slice_bounds-judge_sums-end-in-Kept c = sym (length-take-le _ _ (lying c).room)
 
 pub judge_sums-sums-requires : goal.judge_sums-sums-requires
-judge_sums-sums-requires c = let k = asked ((goal.at.judge_sums-sums-requires c).In-Kept-2) in let all = sums_asked (n k) (values k) (weights k) (good k) _ (lying ((goal.at.judge_sums-sums-requires c).In-Kept-2)).zones (a k).requires.values_len in record { valued = all.0; zones = all.1 }
+judge_sums-sums-requires c = let k = asked c in let all = sums_asked (n k) (values k) (weights k) (good k) _ (lying c).zones (a k).requires.values_len in record { valued = all.0; zones = all.1 }
 
 pub returns-in-Refused : goal.returns-in-Refused
-returns-in-Refused c = absurd (never ((goal.at.returns-in-Refused c).After-keep) _ c.number-1.given.1)
+returns-in-Refused c = absurd (never ((goal.at.returns-in-Refused c).After-keep) _ c.in-Refused.is)
 
 pub returns-in-Kept : goal.returns-in-Kept
 returns-in-Kept c =
     let b = c in
-    let k = asked ((goal.at.returns-in-Kept c).In-Kept-2) in
-    let l = lying ((goal.at.returns-in-Kept c).In-Kept-2) in record {
+    let k = asked ((goal.at.returns-in-Kept c).In-Kept) in
+    let l = lying ((goal.at.returns-in-Kept c).In-Kept) in record {
       number = by_sums (n k) (values k) (weights k) (good k) _ l.zones (none k) _ c.judge_sums-sums.ensures;
       many = λ z. l.as_many;
       front = λ z. l.zones;

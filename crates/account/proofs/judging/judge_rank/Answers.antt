@@ -102,7 +102,7 @@ unfolding rank_refusal rank_rules
 returns-then-number-ne0 c =
     let j = c in
     let d = c in
-    let b = (e ((goal.at.returns-then-number-ne0 c).Else-listed-eq2)).before in
+    let b = ((goal.at.Else-sizes-ne0 (e ((goal.at.returns-then-number-ne0 c).Else-listed-eq2))).After-judge_sizes-sizes) in
     by_number _ _ _ _
     (by_job _ _ _ (lent b) (last b) _ (sizes_good ((goal.at.returns-then-number-ne0 c).Else-listed-eq2)) j.judge_job-job.ensures.number c.if-number-ne0.true)
     c.if-number-ne0.true
@@ -112,7 +112,7 @@ unfolding rank_refusal rank_rules
 returns c =
     let j = c in
     let d = c in
-    let b = (e ((goal.at.returns c).Else-listed-eq2)).before in
+    let b = ((goal.at.Else-sizes-ne0 (e ((goal.at.returns c).Else-listed-eq2))).After-judge_sizes-sizes) in
     let none = sym j.judge_job-job.ensures.number ∙ c.if-number-ne0.false in
     with_zones _ _ _ _ _ j.judge_job-job.ensures none refl
     (by_rest _ _ _ (lent b) (last b) _ (sizes_good ((goal.at.returns c).Else-listed-eq2)) none (listed ((goal.at.returns c).Else-listed-eq2)))

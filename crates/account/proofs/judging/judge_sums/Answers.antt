@@ -19,7 +19,7 @@ use Rattle.account.specs.Steps.{Valued, Zones, gathered}
 use Rattle.account.proofs.KeptLists.{gathered_all}
 use Rattle.account.proofs.Reading.{table_sized}
 use Rattle.account.proofs.judging.judge_sums.Goals as goal
-use Rattle.account.proofs.judging.judge_sums.Goals.{After-gather_values, After-gather_values-arg-1, Else-many-values, Start}
+use Rattle.account.proofs.judging.judge_sums.Goals.{After-gather_values, Else-many-values, Start}
 
 module _ (values : List ℤ) (zones : List ℕ) (out : List ℤ) (e : out ≡ gathered values zones) where
   -- as many values as zones
@@ -84,10 +84,10 @@ pub gather_values-requires : goal.gather_values-requires
 gather_values-requires c = let e = c in record { zones = e.requires.zones; out_len = length-take-le _ _ (room ((goal.at.gather_values-requires c).Else-many-values)) }
 
 pub judge_spread-requires-2 : goal.judge_spread-requires-2
-judge_spread-requires-2 c = valued ((goal.at.judge_spread-requires-2 c).After-gather_values-arg-1)
+judge_spread-requires-2 c = valued ((goal.at.judge_spread-requires-2 c).After-gather_values)
 
 pub returns : goal.returns
 returns c =
     let g = c in
     let e = c in
-    by_spread (s ((goal.at.returns c).After-gather_values-arg-1)).args.values.now (s ((goal.at.returns c).After-gather_values-arg-1)).args.zones.now _ g.gather_values.ensures (ne_eqb _ _ e.if-many-eq0.false) _ c.judge_spread-2.ensures
+    by_spread (s ((goal.at.returns c).After-gather_values)).args.values.now (s ((goal.at.returns c).After-gather_values)).args.zones.now _ g.gather_values.ensures (ne_eqb _ _ e.if-many-eq0.false) _ c.judge_spread-2.ensures

@@ -8,6 +8,7 @@ use lib.ListN.{length}
 use Rattle.account.specs.Steps.{Zones}
 use Rattle.account.proofs.Placing.{Placed, placed_none, placed_found, placed_lacking, placed_all}
 use Rattle.account.proofs.keeping.find_places.Goals as goal
+use Rattle.account.proofs.keeping.find_places.Goals.{then-k-many+then-zones-k, then-k-many+else-zones-k, else-k-many}
 use Rattle.account.proofs.keeping.find_places.Goals.{In-loop-i, Joined-k-many, Start}
 
 -- the zone at hand
@@ -24,10 +25,7 @@ module _ (c : In-loop-i) where
 -- its place is found below the list's length, or is that length
 place_few : (c : Joined-k-many) → c.if-k-many.place ≤ length (zones ((goal.at.Joined-k-many c).In-loop-i))
 place_few c =
-    ⊎_elim
-    (λ u. omega (arith, u.0.taken, u.4))
-    (⊎_elim (λ u. omega (arith, u.4)) (λ u. omega (arith, u.2)))
-    c.if-k-many.branch
+    elim c.if-k-many.branch [ then-k-many+then-zones-k w ↦ omega arith | then-k-many+else-zones-k w ↦ omega arith | else-k-many w ↦ omega arith ]
 
 pub loop-i-init : goal.loop-i-init
 loop-i-init c = placed_none c.args.zones.now c.args.n c.args.places.now c.requires.places_len
@@ -65,12 +63,11 @@ loop-i-preserved c =
     let v = c.if-k-many.place in
     let found = placed_found (zones ((goal.at.loop-i-preserved c).In-loop-i)) n (rises ((goal.at.loop-i-preserved c).In-loop-i)) l.i l.k l.places l.invariant h j v in
     let lacking = placed_lacking (zones ((goal.at.loop-i-preserved c).In-loop-i)) n (rises ((goal.at.loop-i-preserved c).In-loop-i)) l.i l.k l.places l.invariant h j v in
-    ⊎_elim
-    (λ u. found u.0.taken u.2.taken u.3 u.4)
-    (⊎_elim
-    (λ u. lacking (λ p. omega (arith, u.2.left, l.invariant.next p)) u.3 u.4)
-    (λ u. lacking (λ p. let z : ⊥ = omega (arith, u.0.left) in absurd z) u.1 u.2))
-    c.if-k-many.branch
+    elim c.if-k-many.branch [
+      | then-k-many+then-zones-k w ↦ found w.if-k-many.true w.if-zones-k.true w.k-is w.place-is
+      | then-k-many+else-zones-k w ↦ lacking (λ p. omega (arith, w.if-zones-k.false, l.invariant.next p)) w.k-is w.place-is
+      | else-k-many w ↦ lacking (λ p. let z : ⊥ = omega (arith, w.if-k-many.false) in absurd z) w.k-is w.place-is
+    ]
 
 pub shape_of-places : goal.shape_of-places
 shape_of-places c = omega (arith, c.loop-i.invariant.long, c.requires.places_len)

@@ -49,16 +49,10 @@ overflow_add-end c = omega (arith, ends ((goal.at.overflow_add-end c).In-loop-k)
 pub slice_bounds-gather_row-count : goal.slice_bounds-gather_row-count
 slice_bounds-gather_row-count c = omega arith
 
--- LEFT (no such goal now): part_gather_row_start : Need-slice-bounds-gather-row-start
--- part_gather_row_start c = omega arith
-
--- LEFT (no such goal now): part_gather_row_end : Need-slice-bounds-gather-row-end
--- part_gather_row_end c = room c.before
-
 pub gather_row-requires : goal.gather_row-requires
 gather_row-requires c =
     let b = c in
-    let p = ((s ((goal.at.gather_row-requires c).In-loop-k)).requires.zones, ((s ((goal.at.gather_row-requires c).In-loop-k)).requires.pairs_len, (s ((goal.at.gather_row-requires c).In-loop-k)).requires.out_len)) in record { zones = p.0; pairs_len = p.1.0; zone_lt_n = below ((goal.at.gather_row-requires c).In-loop-k); out_len = mid_len (k ((goal.at.gather_row-requires c).In-loop-k) * many ((goal.at.gather_row-requires c).In-loop-k)) (k ((goal.at.gather_row-requires c).In-loop-k) * many ((goal.at.gather_row-requires c).In-loop-k) + many ((goal.at.gather_row-requires c).In-loop-k)) b.loop-k.out (room ((goal.at.gather_row-requires c).In-loop-k)) ∙ omega arith }
+    let p = (s ((goal.at.gather_row-requires c).In-loop-k)).requires in record { zones = p.zones; pairs_len = p.pairs_len; zone_lt_n = below ((goal.at.gather_row-requires c).In-loop-k); out_len = mid_len (k ((goal.at.gather_row-requires c).In-loop-k) * many ((goal.at.gather_row-requires c).In-loop-k)) (k ((goal.at.gather_row-requires c).In-loop-k) * many ((goal.at.gather_row-requires c).In-loop-k) + many ((goal.at.gather_row-requires c).In-loop-k)) b.loop-k.out (room ((goal.at.gather_row-requires c).In-loop-k)) ∙ omega arith }
 
 pub overflow_add-k : goal.overflow_add-k
 overflow_add-k c =

@@ -15,6 +15,7 @@ use Rattle.whole.proofs.Permutation.{full}
 use Rattle.shuffles.proofs.ShuffleList.{row_end}
 use Rattle.account.proofs.Placing.{Taken, taken_none, taken_few, taken_room, taken_yes, taken_no, taken_all}
 use Rattle.account.proofs.keeping.keep_row.Goals as goal
+use Rattle.account.proofs.keeping.keep_row.Goals.{then-place-out, else-place-out}
 use Rattle.account.proofs.keeping.keep_row.Goals.{At-loop-p, In-loop-p, Start}
 
 -- the row, and what is known of it
@@ -42,7 +43,7 @@ module _ (b : At-loop-p) where
 
   -- no more are written than are numbers
   few : b.loop-p.k ≤ n
-  few = let l = b.loop-p in omega (arith, l.inv.passed, taken_few places many n row l.p l.k l.out l.inv)
+  few = let l = b.loop-p in omega (arith, l.invariant.passed, taken_few places many n row l.p l.k l.out l.invariant)
 
 -- the number at hand
 module _ (c : In-loop-p) where
@@ -63,9 +64,9 @@ module _ (c : In-loop-p) where
   room h =
       let l = here.loop-p in
       let below =
-      taken_room (places here) (many here) (n here) (row here) (all here) (fits here) l.p l.k l.out l.inv
-      c.loop-p-test.true (omega (arith, h, l.inv.long)) in
-      omega (arith, below, l.inv.long)
+      taken_room (places here) (many here) (n here) (row here) (all here) (fits here) l.p l.k l.out l.invariant
+      c.loop-p-test.true (omega (arith, h, l.invariant.long)) in
+      omega (arith, below, l.invariant.long)
 
 pub overflow_mul-row : goal.overflow_mul-row
 overflow_mul-row c = omega (arith, row_end c.requires.shuffle.row)
@@ -110,10 +111,7 @@ loop-p-preserved c =
     let new = c.if-place-out.out in
     let with-place = taken_yes (places ((goal.at.loop-p-preserved c).At-loop-p)) (many ((goal.at.loop-p-preserved c).At-loop-p)) (n ((goal.at.loop-p-preserved c).At-loop-p)) (row ((goal.at.loop-p-preserved c).At-loop-p)) (all ((goal.at.loop-p-preserved c).At-loop-p)) (fits ((goal.at.loop-p-preserved c).At-loop-p)) l.p l.k l.out l.invariant h j new in
     let without = taken_no (places ((goal.at.loop-p-preserved c).At-loop-p)) (many ((goal.at.loop-p-preserved c).At-loop-p)) (n ((goal.at.loop-p-preserved c).At-loop-p)) (row ((goal.at.loop-p-preserved c).At-loop-p)) (all ((goal.at.loop-p-preserved c).At-loop-p)) (fits ((goal.at.loop-p-preserved c).At-loop-p)) l.p l.k l.out l.invariant h j new in
-    ⊎_elim
-    (λ u. with-place (omega (arith, u.0.taken, l.invariant.long)) u.1 u.2)
-    (λ u. without (omega (arith, u.0.left, l.invariant.long)) u.1 u.2)
-    c.if-place-out.branch
+    elim c.if-place-out.branch [ then-place-out w ↦ with-place (omega (arith, w.if-place-out.true, l.invariant.long)) w.out-is w.k-is | else-place-out w ↦ without (omega (arith, w.if-place-out.false, l.invariant.long)) w.out-is w.k-is ]
 
 pub shape_of-out : goal.shape_of-out
 shape_of-out c = c.loop-p.invariant.long

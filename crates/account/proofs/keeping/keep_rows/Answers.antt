@@ -71,12 +71,6 @@ overflow_add-end c = omega (arith, row_end (row c))
 pub slice_bounds-keep_row-count : goal.slice_bounds-keep_row-count
 slice_bounds-keep_row-count c = omega arith
 
--- LEFT (no such goal now): part_keep_row_start : Need-slice-bounds-keep-row-start
--- part_keep_row_start c = omega arith
-
--- LEFT (no such goal now): part_keep_row_end : Need-slice-bounds-keep-row-end
--- part_keep_row_end c = (row c).there
-
 pub keep_row-requires : goal.keep_row-requires
 keep_row-requires c =
     let b = c in

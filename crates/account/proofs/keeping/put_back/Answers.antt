@@ -14,6 +14,7 @@ use Rattle.whole.specs.Table.{at}
 use Rattle.whole.proofs.Table.{is_table, stored}
 use Rattle.account.specs.Steps.{at_place}
 use Rattle.account.proofs.keeping.put_back.Goals as goal
+use Rattle.account.proofs.keeping.put_back.Goals.{then-place-numbers, else-place-numbers}
 use Rattle.account.proofs.keeping.put_back.Goals.{Joined-place-numbers}
 
 pub loop-i-init : goal.loop-i-init
@@ -36,23 +37,20 @@ value :
     (c : Joined-place-numbers) →
     let b = c in
     let a = b.args in
-    to_z w64 c.if-place-numbers.number ≡ at_place a.places.now (length a.numbers.now) (at a.numbers.now) b.loop-i.i
+    to_z w64 c.if-place-numbers.number-bits ≡ at_place a.places.now (length a.numbers.now) (at a.numbers.now) b.loop-i.i
 value c =
     let b = c in
     let numbers = b.args.numbers.now in
     let place = get_or b.args.places.now b.loop-i.i 0 in
-    ⊎_elim
-    (λ u.
-    ap (to_z w64) u.2
-    ∙ to_z-of_z w64 (at numbers place) (record { sfits = u.1.given })
-    ∙ sym (ap (λ t. cond t (at numbers place) (pos 0)) (lt-ltb place (length numbers) u.0.taken)))
-    (λ u. ap (to_z w64) u.1 ∙ sym (ap (λ t. cond t (at numbers place) (pos 0)) (le-ltb place (length numbers) u.0.left)))
-    c.if-place-numbers.branch
+    elim c.if-place-numbers.branch [
+      | then-place-numbers w ↦ w.number-is ∙ to_z-of_z w64 (at numbers place) (record { sfits = w.number-1.given }) ∙ sym (ap (λ t. cond t (at numbers place) (pos 0)) (lt-ltb place (length numbers) w.if-place-numbers.true))
+      | else-place-numbers w ↦ w.number-is ∙ sym (ap (λ t. cond t (at numbers place) (pos 0)) (le-ltb place (length numbers) w.if-place-numbers.false))
+    ]
 
 pub offset_bounds-out-i : goal.offset_bounds-out-i
 offset_bounds-out-i c =
     let b = c in
-    omega (arith, b.well-formed.1.1.0.1, b.requires, c.loop-i-test.true)
+    omega (arith, b.well_formed.1.1.0.1, b.requires, c.loop-i-test.true)
 
 pub bounds-out-i : goal.bounds-out-i
 bounds-out-i c = let b = c in omega (arith, b.loop-i.invariant.1.0, b.loop-i-test.true)
@@ -60,7 +58,7 @@ bounds-out-i c = let b = c in omega (arith, b.loop-i.invariant.1.0, b.loop-i-tes
 pub overflow_add-i : goal.overflow_add-i
 overflow_add-i c =
     let b = c in
-    omega (arith, b.well-formed.0.0, c.loop-i-test.true)
+    omega (arith, b.well_formed.0.0, c.loop-i-test.true)
 
 pub loop-i-smaller : goal.loop-i-smaller
 loop-i-smaller c = omega (arith, c.loop-i-test.true)

@@ -97,23 +97,11 @@ offset_bounds-numbers-from c = omega (arith, from_few c)
 pub slice_bounds-put_back-count : goal.slice_bounds-put_back-count
 slice_bounds-put_back-count c = omega arith
 
--- LEFT (no such goal now): part_put_back_start : Need-slice-bounds-put-back-start
--- part_put_back_start c = omega arith
-
--- LEFT (no such goal now): part_put_back_end : Need-slice-bounds-put-back-end
--- part_put_back_end c = from_ends c
-
 pub offset_bounds-out-first : goal.offset_bounds-out-first
 offset_bounds-out-first c = omega (arith, ends ((goal.at.offset_bounds-out-first c).In-loop-k))
 
 pub slice_bounds-put_back-count-in-loop-k : goal.slice_bounds-put_back-count-in-loop-k
 slice_bounds-put_back-count-in-loop-k c = omega arith
-
--- LEFT (no such goal now): part_put_back_start_2 : Need-slice-bounds-put-back-start-2
--- part_put_back_start_2 c = omega arith
-
--- LEFT (no such goal now): part_put_back_end_2 : Need-slice-bounds-put-back-end-2
--- part_put_back_end_2 c = room c.before
 
 pub put_back-requires : goal.put_back-requires
 put_back-requires c =

@@ -13,7 +13,7 @@ use Rattle.account.proofs.KeptClasses.{Gathers, gathers, gathered_job, figures_k
 use Rattle.account.proofs.KeptWork.{zones_rise, places_long}
 use borrow.Author.Rules.{rules}
 use Rattle.account.proofs.kept_zones.classes_of_kept.Goals as goal
-use Rattle.account.proofs.kept_zones.classes_of_kept.Goals.{After-find_places, After-gather_pairs, After-gather_pairs-2, After-gather_values, After-pair_room-class_space, After-pair_room-weight_space, After-place_space-1, After-put_back, After-put_back_rows, After-slice_known-3-1, After-zone_classes-sums, Start}
+use Rattle.account.proofs.kept_zones.classes_of_kept.Goals.{After-find_places, After-gather_pairs, After-gather_pairs-2, After-gather_values, After-pair_room-class_space, After-pair_room-weight_space, After-put_back, After-put_back_rows, After-zone_classes-sums, Start}
 
 -- the job, and the list of its zones kept
 module _ (s : Start) where
@@ -67,16 +67,16 @@ abbrev from_classes : After-gather_pairs-2 → After-pair_room-class_space
 from_classes c = ((goal.at.After-gather_pairs-2 c).After-pair_room-class_space)
 
 abbrev from_work : After-zone_classes-sums → After-gather_pairs-2
-from_work c = ((goal.at.After-zone_classes-sums c).After-pair_room-class_space)
+from_work c = ((goal.at.After-zone_classes-sums c).After-gather_pairs-2)
 
 abbrev from_places : After-find_places → After-zone_classes-sums
 from_places c = ((goal.at.After-find_places c).After-zone_classes-sums)
 
 abbrev from_rows : After-put_back_rows → After-find_places
-from_rows c = ((goal.at.After-put_back_rows c).After-place_space-1)
+from_rows c = ((goal.at.After-put_back_rows c).After-find_places)
 
 abbrev from_locals : After-put_back → After-put_back_rows
-from_locals c = ((goal.at.After-put_back c).After-slice_known-3-1)
+from_locals c = ((goal.at.After-put_back c).After-put_back_rows)
 
 -- both rooms have places for the pairs
 module _ (c : After-pair_room-weight_space) where
@@ -180,7 +180,7 @@ slice_bounds-kept_locals-end c = sym (length-take-le _ _ (most (start ((goal.at.
 pub zone_classes-sums-requires : goal.zone_classes-sums-requires
 zone_classes-sums-requires c =
     let g = c in
-    let s = start ((goal.at.zone_classes-sums-requires c).After-pair_room-class_space) in record { class_job = gathered_job (n s) (values s) (weights s) (classes s) (kept ((goal.at.zone_classes-sums-requires c).After-pair_room-class_space)) (good s); rows_len = s.requires.rows_len; class_locals_len = length-take-le _ _ (nine_most s); locals_len = length-take-le _ _ (most s) }
+    let s = start ((goal.at.zone_classes-sums-requires c).After-gather_pairs-2) in record { class_job = gathered_job (n s) (values s) (weights s) (classes s) (kept ((goal.at.zone_classes-sums-requires c).After-gather_pairs-2)) (good s); rows_len = s.requires.rows_len; class_locals_len = length-take-le _ _ (nine_most s); locals_len = length-take-le _ _ (most s) }
 
 pub slice_bounds-place_space-end : goal.slice_bounds-place_space-end
 slice_bounds-place_space-end c =
@@ -198,11 +198,11 @@ find_places-requires c = let s = start (from_work ((goal.at.find_places-requires
 pub put_back_rows-requires : goal.put_back_rows-requires
 put_back_rows-requires c =
     let p = c in
-    let s = entry ((goal.at.put_back_rows-requires c).After-place_space-1) in record { places_len_bound = omega (arith, placed ((goal.at.put_back_rows-requires c).After-place_space-1), (good s).job.valued.zones); many_bound = most s; numbers_len = (work ((goal.at.put_back_rows-requires c).After-place_space-1)).zone_classes-sums.auto.1.1.1.1.1.0 ∙ length-take-le _ _ (nine_most s); out_len = s.requires.class_locals_len ∙ ap (λ t. 9 * t) (sym (placed ((goal.at.put_back_rows-requires c).After-place_space-1))) }
+    let s = entry ((goal.at.put_back_rows-requires c).After-find_places) in record { places_len_bound = omega (arith, placed ((goal.at.put_back_rows-requires c).After-find_places), (good s).job.valued.zones); many_bound = most s; numbers_len = (work ((goal.at.put_back_rows-requires c).After-find_places)).zone_classes-sums.auto.class_locals ∙ length-take-le _ _ (nine_most s); out_len = s.requires.class_locals_len ∙ ap (λ t. 9 * t) (sym (placed ((goal.at.put_back_rows-requires c).After-find_places))) }
 
 pub put_back-requires : goal.put_back-requires
 put_back-requires c =
-    let p = from_rows ((goal.at.put_back-requires c).After-slice_known-3-1) in
+    let p = from_rows ((goal.at.put_back-requires c).After-put_back_rows) in
     (entry p).requires.locals_len ∙ sym (placed p)
 
 pub returns : goal.returns
@@ -212,12 +212,12 @@ returns c =
     let p = from_rows r in
     let s = entry p in
     let g = kept (lists p) in
-    let told = ((work p).zone_classes-sums.ensures.result_value, ((work p).zone_classes-sums.ensures.rows_after, ((work p).zone_classes-sums.ensures.class_locals_after, (work p).zone_classes-sums.ensures.locals_after))) in
+    let told = (work p).zone_classes-sums.ensures in
     let z = s.requires.zones_value in
     let e = p.find_places.ensures in record {
-      result_value = figures_kept (n s) (values s) (weights s) (classes s) g told.0;
-      rows_after = sums_kept (n s) (values s) (weights s) (classes s) g told.1.0;
-      class_locals_after = class_locals_back (n s) (values s) (weights s) (classes s) g (zones s) z (places p) e told.1.1.0
+      result_value = figures_kept (n s) (values s) (weights s) (classes s) g told.result_value;
+      rows_after = sums_kept (n s) (values s) (weights s) (classes s) g told.rows_after;
+      class_locals_after = class_locals_back (n s) (values s) (weights s) (classes s) g (zones s) z (places p) e told.class_locals_after
           r.put_back_rows.ensures;
-      locals_after = locals_back (n s) (values s) (weights s) (classes s) g (zones s) z (places p) e told.1.1.1 b.put_back.ensures;
+      locals_after = locals_back (n s) (values s) (weights s) (classes s) g (zones s) z (places p) e told.locals_after b.put_back.ensures;
     }

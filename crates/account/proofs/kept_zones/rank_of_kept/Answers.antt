@@ -13,7 +13,7 @@ use Rattle.account.proofs.KeptWork.{zones_rise, zones_few, pairs_few, zones_rise
 use Rattle.account.proofs.KeptWork.{rows_few, places_count, gathered_shuffles, rank_kept}
 use borrow.Author.Rules.{rules}
 use Rattle.account.proofs.kept_zones.rank_of_kept.Goals as goal
-use Rattle.account.proofs.kept_zones.rank_of_kept.Goals.{After-find_places, After-gather_pairs, After-keep_rows, After-pair_room-weight_space, After-shuffle_room-shuffle_space, After-slice_known-2-1, Start}
+use Rattle.account.proofs.kept_zones.rank_of_kept.Goals.{After-find_places, After-gather_pairs, After-keep_rows, After-pair_room-weight_space, After-shuffle_room-shuffle_space, Start}
 
 -- the job, the list of its zones kept, and the shuffles
 module _ (s : Start) where
@@ -139,14 +139,14 @@ slice_bounds-kept_shuffles-end c = sym (length-take-le _ _ (numbers_there ((goal
 pub keep_rows-requires : goal.keep_rows-requires
 keep_rows-requires c =
     let r = c in
-    let s = first ((goal.at.keep_rows-requires c).After-slice_known-2-1) in
+    let s = first ((goal.at.keep_rows-requires c).After-shuffle_room-shuffle_space) in
     let e = s.requires.zones_value in
-    let told = (found ((goal.at.keep_rows-requires c).After-slice_known-2-1)).find_places.ensures in record { shuffles = all s; places_len = places_long (n s) (weights s) (zones s) e _ told; n_value = places_count (n s) (weights s) (zones s) e s.args.rows (shuffles s) (all s) _ told; out_len = length-take-le _ _ (numbers_there ((goal.at.keep_rows-requires c).After-slice_known-2-1)) }
+    let told = (found ((goal.at.keep_rows-requires c).After-shuffle_room-shuffle_space)).find_places.ensures in record { shuffles = all s; places_len = places_long (n s) (weights s) (zones s) e _ told; n_value = places_count (n s) (weights s) (zones s) e s.args.rows (shuffles s) (all s) _ told; out_len = length-take-le _ _ (numbers_there ((goal.at.keep_rows-requires c).After-shuffle_room-shuffle_space)) }
 
 -- the shuffles of the kept zones
 module _ (c : After-keep_rows) where
   abbrev places_found : After-find_places
-  places_found = found ((goal.at.After-keep_rows c).After-slice_known-2-1)
+  places_found = found ((goal.at.After-keep_rows c).After-shuffle_room-shuffle_space)
 
   abbrev lists : After-gather_pairs
   lists = from_places places_found
@@ -163,14 +163,14 @@ module _ (c : After-keep_rows) where
       places_found.find_places.ensures out c.keep_rows.ensures
 
 pub zone_rank-requires : goal.zone_rank-requires
-zone_rank-requires c = let k = c in record { job = kept (lists ((goal.at.zone_rank-requires c).After-shuffle_room-shuffle_space)); shuffles = kept_all ((goal.at.zone_rank-requires c).After-shuffle_room-shuffle_space) }
+zone_rank-requires c = let k = c in record { job = kept (lists ((goal.at.zone_rank-requires c).After-keep_rows)); shuffles = kept_all ((goal.at.zone_rank-requires c).After-keep_rows) }
 
 pub returns : goal.returns
 returns c =
     let z = c in
     let k = c in
-    let b = s ((goal.at.returns c).After-shuffle_room-shuffle_space) in
-    let g = lists ((goal.at.returns c).After-shuffle_room-shuffle_space) in
+    let b = s ((goal.at.returns c).After-keep_rows) in
+    let g = lists ((goal.at.returns c).After-keep_rows) in
     rank_kept (n b) (weights b) (zones b) b.requires.zones_value b.args.rows (shuffles b) (all b) _
-    (places_found ((goal.at.returns c).After-shuffle_room-shuffle_space)).find_places.ensures (out ((goal.at.returns c).After-shuffle_room-shuffle_space)) k.keep_rows.ensures (values b) (x g) (w g)
+    (places_found ((goal.at.returns c).After-keep_rows)).find_places.ensures (out ((goal.at.returns c).After-keep_rows)) k.keep_rows.ensures (values b) (x g) (w g)
     (room g).gather_values.ensures g.gather_pairs.ensures _ z.zone_rank.ensures

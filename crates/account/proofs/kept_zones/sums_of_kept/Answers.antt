@@ -12,7 +12,7 @@ use Rattle.account.proofs.KeptWork.{zones_rise, zones_few, pairs_few, zones_rise
 use Rattle.account.proofs.KeptWork.{gathered_job, figures_kept, locals_back}
 use borrow.Author.Rules.{rules}
 use Rattle.account.proofs.kept_zones.sums_of_kept.Goals as goal
-use Rattle.account.proofs.kept_zones.sums_of_kept.Goals.{After-find_places, After-gather_pairs, After-pair_room-weight_space, After-place_space-1, After-weight_space-1, After-zone_sums-sums, Start}
+use Rattle.account.proofs.kept_zones.sums_of_kept.Goals.{After-find_places, After-gather_pairs, After-pair_room-weight_space, After-zone_sums-sums, Start}
 
 -- the job, and the list of its zones kept
 module _ (s : Start) where
@@ -100,11 +100,11 @@ pub slice_bounds-kept_locals-end : goal.slice_bounds-kept_locals-end
 slice_bounds-kept_locals-end c = sym (length-take-le _ _ (few (begun ((goal.at.slice_bounds-kept_locals-end c).After-gather_pairs))))
 
 pub zone_sums-sums-requires : goal.zone_sums-sums-requires
-zone_sums-sums-requires c = let g = c in record { job = kept ((goal.at.zone_sums-sums-requires c).After-weight_space-1); locals_len = length-take-le _ _ (few (begun ((goal.at.zone_sums-sums-requires c).After-weight_space-1))) }
+zone_sums-sums-requires c = let g = c in record { job = kept ((goal.at.zone_sums-sums-requires c).After-gather_pairs); locals_len = length-take-le _ _ (few (begun ((goal.at.zone_sums-sums-requires c).After-gather_pairs))) }
 
 -- back from the sums to what is gathered
 abbrev from_sums : After-zone_sums-sums → After-gather_pairs
-from_sums c = ((goal.at.After-zone_sums-sums c).After-weight_space-1)
+from_sums c = ((goal.at.After-zone_sums-sums c).After-gather_pairs)
 
 pub slice_bounds-place_space-end : goal.slice_bounds-place_space-end
 slice_bounds-place_space-end c = most (begun (from_sums ((goal.at.slice_bounds-place_space-end c).After-zone_sums-sums)))
@@ -122,14 +122,14 @@ from_places c = ((goal.at.After-find_places c).After-zone_sums-sums)
 pub put_back-requires : goal.put_back-requires
 put_back-requires c =
     let f = c in
-    let s = begun (from_sums (from_places ((goal.at.put_back-requires c).After-place_space-1))) in
+    let s = begun (from_sums (from_places ((goal.at.put_back-requires c).After-find_places))) in
     s.requires.locals_len ∙ sym (places_long (n s) (weights s) (zones s) s.requires.zones_value _ f.find_places.ensures)
 
 pub returns : goal.returns
 returns c =
     let b = c in
     let f = c in
-    let z = from_places ((goal.at.returns c).After-place_space-1) in
+    let z = from_places ((goal.at.returns c).After-find_places) in
     let g = from_sums z in
     let s = begun g in
     let e = s.requires.zones_value in

@@ -50,7 +50,7 @@ abbrev start : Then-zones-n → Start
 start c = ((goal.at.Then-zones-n c).Start)
 
 pub zone_classes-requires : goal.zone_classes-requires
-zone_classes-requires c = let p = ((start ((goal.at.zone_classes-requires c).Then-zones-n)).requires.class_job, ((start ((goal.at.zone_classes-requires c).Then-zones-n)).requires.zones_value, ((start ((goal.at.zone_classes-requires c).Then-zones-n)).requires.rows_len, ((start ((goal.at.zone_classes-requires c).Then-zones-n)).requires.class_locals_len, (start ((goal.at.zone_classes-requires c).Then-zones-n)).requires.locals_len)))) in let all = (p.0, p.1.1) in record { class_job = all.0; rows_len = all.1.0; class_locals_len = all.1.1.0; locals_len = all.1.1.1 }
+zone_classes-requires c = let p = (start ((goal.at.zone_classes-requires c).Then-zones-n)).requires in record { class_job = p.class_job; rows_len = p.rows_len; class_locals_len = p.class_locals_len; locals_len = p.locals_len }
 
 pub returns-then-zones-n : goal.returns-then-zones-n
 returns-then-zones-n c =

@@ -30,13 +30,13 @@ module _ (c : After-deviation-1) where
   local = local_is _ _ a.requires.weighted _ b.loop-i.i a.requires.sized (omega arith) c.neighbour_sum-neighbours.ensures
 
   turn :
-      Is (to_z w64 b.loop-i.acc +ℤ r64 (r64 (at a.args.d.now b.loop-i.i) *ℤ r64 c.neighbour_sum-neighbours.result))
+      Is (to_z w64 b.loop-i.acc-bits +ℤ r64 (r64 (at a.args.d.now b.loop-i.i) *ℤ r64 c.neighbour_sum-neighbours.result))
       (sum (local_of (pair_at a.args.weights.now a.args.n) (at a.args.d.now) a.args.n) (b.loop-i.i + 1))
       6039797760000000000
-  turn = acc_more (cross_runs _ _ a.requires.weighted _ a.requires.sized) b.loop-i.i b.loop-i.acc (omega arith) b.loop-i.invariant.1 (rd w64 local tt)
+  turn = acc_more (cross_runs _ _ a.requires.weighted _ a.requires.sized) b.loop-i.i (to_z w64 b.loop-i.acc-bits) (omega arith) b.loop-i.invariant.1 (rd w64 local tt)
 
 pub loop-i-init : goal.loop-i-init
-loop-i-init c = (omega arith, acc_none w64 _)
+loop-i-init c = (omega arith, acc_none _)
 
 pub neighbour_sum-neighbours-requires : goal.neighbour_sum-neighbours-requires
 neighbour_sum-neighbours-requires c = let a = c in record { weighted = a.requires.weighted; sized = a.requires.sized; i_lt_n = omega arith }
@@ -60,10 +60,10 @@ pub loop-i-smaller : goal.loop-i-smaller
 loop-i-smaller c = omega arith
 
 pub loop-i-preserved : goal.loop-i-preserved
-loop-i-preserved c = (omega arith, ap (of_z w64) (turn c).same)
+loop-i-preserved c = (omega arith, (rd w64 (turn c) tt).same)
 
 pub returns : goal.returns
 returns c =
     let b = c in
     let p = b.requires in
-    acc_done (cross_runs _ _ p.weighted _ p.sized) b.loop-i.i b.loop-i.acc (omega arith) b.loop-i.invariant.1 ∙ locals_sum _ _ _
+    acc_done _ _ b.loop-i.i (to_z w64 b.loop-i.acc-bits) (omega arith) b.loop-i.invariant.1 ∙ locals_sum _ _ _

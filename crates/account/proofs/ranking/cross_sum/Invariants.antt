@@ -14,7 +14,7 @@ use Rattle.account.proofs.Running.{local_is, cross_runs}
 use Rattle.account.proofs.ranking.cross_sum.Given as goal
 
 abbrev pub invariant-loop-i : goal.invariant-loop-i
-invariant-loop-i l = (l.i ≤ l.n) × (l.acc ≡ of_z w64 (sum (local_of (pair_at l.weights l.n) (at l.d) l.n) l.i))
+invariant-loop-i l = (l.i ≤ l.n) × (l.acc ≡ sum (local_of (pair_at l.weights l.n) (at l.d) l.n) l.i)
 
 abbrev pub decreases-loop-i : goal.decreases-loop-i
 decreases-loop-i l = l.n - l.i

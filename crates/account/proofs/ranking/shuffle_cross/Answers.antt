@@ -67,5 +67,5 @@ pub returns : goal.returns
 returns c =
     let b = c in
     let e = same ((goal.at.returns c).After-shuffle_deviations) _ (front {A = ℤ} _ _ (table (moved ((goal.at.returns c).After-shuffle_deviations)) (n ((goal.at.returns c).After-shuffle_deviations))) _ b.shuffle_deviations.ensures (as_long ((goal.at.returns c).After-shuffle_deviations))) in
-    let w = ((a ((goal.at.returns c).After-shuffle_deviations)).requires.weighted, ((a ((goal.at.returns c).After-shuffle_deviations)).requires.sized, (a ((goal.at.returns c).After-shuffle_deviations)).requires.shuffle)) in
-    (rd w64 (deviations_cross_told _ _ w.0 (moved ((goal.at.returns c).After-shuffle_deviations)) (shuffled_size _ _ _ _ _ w.1.0 w.1.1) (c.cross_sum.ensures ∙ e)) tt).same
+    let w = (a ((goal.at.returns c).After-shuffle_deviations)).requires in
+    (rd w64 (deviations_cross_told _ _ w.weighted (moved ((goal.at.returns c).After-shuffle_deviations)) (shuffled_size _ _ _ _ _ w.sized w.shuffle) (c.cross_sum.ensures ∙ e)) tt).same

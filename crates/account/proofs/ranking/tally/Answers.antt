@@ -16,6 +16,7 @@ use Rattle.account.proofs.Locals.{deviations_cross_told}
 use Rattle.account.proofs.Shuffled.{shuffled_size}
 use Rattle.account.proofs.Tallied.{Tallied, none_yet, one_less, one_greater, one_equal, no_more, tallied}
 use Rattle.account.proofs.ranking.tally.Goals as goal
+use Rattle.account.proofs.ranking.tally.Goals.{then-cross-own, else-cross-own+then-own-cross, else-cross-own+else-own-cross}
 use Rattle.account.proofs.ranking.tally.Goals.{After-shuffle_cross-cross, At-loop-r, Start}
 
 -- the P of the shuffle at hand and the job's own, as the machine compares them
@@ -83,9 +84,11 @@ loop-r-preserved c =
     let k = c in
     let t = (b ((goal.at.loop-r-preserved c).After-shuffle_cross-cross)).loop-r.invariant.1 in (
       omega arith,
-      ⊎_elim (λ u. rw (u.1, u.2, u.3) (one_less (numbers ((goal.at.loop-r-preserved c).After-shuffle_cross-cross)) (own ((goal.at.loop-r-preserved c).After-shuffle_cross-cross)) t (less ((goal.at.loop-r-preserved c).After-shuffle_cross-cross) _ u.0.taken)))
-          (⊎_elim (λ u. rw (u.2, u.3, u.4) (one_greater (numbers ((goal.at.loop-r-preserved c).After-shuffle_cross-cross)) (own ((goal.at.loop-r-preserved c).After-shuffle_cross-cross)) t (more ((goal.at.loop-r-preserved c).After-shuffle_cross-cross) _ u.1.taken)))
-          (λ u. rw (u.2, u.3, u.4) (one_equal (numbers ((goal.at.loop-r-preserved c).After-shuffle_cross-cross)) (own ((goal.at.loop-r-preserved c).After-shuffle_cross-cross)) t (less ((goal.at.loop-r-preserved c).After-shuffle_cross-cross) _ u.0.left) (more ((goal.at.loop-r-preserved c).After-shuffle_cross-cross) _ u.1.left)))) c.if-cross-own.branch,
+      elim c.if-cross-own.branch [
+        | then-cross-own w ↦ rw (w.less-is, w.equal-is, w.greater-is) (one_less (numbers ((goal.at.loop-r-preserved c).After-shuffle_cross-cross)) (own ((goal.at.loop-r-preserved c).After-shuffle_cross-cross)) t (less ((goal.at.loop-r-preserved c).After-shuffle_cross-cross) _ w.if-cross-own.true))
+        | else-cross-own+then-own-cross w ↦ rw (w.less-is, w.equal-is, w.greater-is) (one_greater (numbers ((goal.at.loop-r-preserved c).After-shuffle_cross-cross)) (own ((goal.at.loop-r-preserved c).After-shuffle_cross-cross)) t (more ((goal.at.loop-r-preserved c).After-shuffle_cross-cross) _ w.if-own-cross.true))
+        | else-cross-own+else-own-cross w ↦ rw (w.less-is, w.equal-is, w.greater-is) (one_equal (numbers ((goal.at.loop-r-preserved c).After-shuffle_cross-cross)) (own ((goal.at.loop-r-preserved c).After-shuffle_cross-cross)) t (less ((goal.at.loop-r-preserved c).After-shuffle_cross-cross) _ w.if-cross-own.false) (more ((goal.at.loop-r-preserved c).After-shuffle_cross-cross) _ w.if-own-cross.false))
+      ],
     )
 
 pub returns : goal.returns

@@ -66,8 +66,8 @@ slice_bounds-tally-end c = let b = c in front_length {A = ℤ} _ _ (expected ((g
 pub tally-requires : goal.tally-requires
 tally-requires c =
     let b = c in
-    let w = ((a ((goal.at.tally-requires c).After-deviations)).requires.job, (a ((goal.at.tally-requires c).After-deviations)).requires.shuffles) in
-    let d = front {A = ℤ} _ _ (expected ((goal.at.tally-requires c).After-deviations)) _ b.deviations.ensures (as_long ((goal.at.tally-requires c).After-deviations)) in record { weighted = w.0.weighted; sized = deviations_sized _ _ _ w.0.valued d; shuffles = w.1 }
+    let w = (a ((goal.at.tally-requires c).After-deviations)).requires in
+    let d = front {A = ℤ} _ _ (expected ((goal.at.tally-requires c).After-deviations)) _ b.deviations.ensures (as_long ((goal.at.tally-requires c).After-deviations)) in record { weighted = w.job.weighted; sized = deviations_sized _ _ _ w.job.valued d; shuffles = w.shuffles }
 
 pub returns : goal.returns
 unfolding zones_rank

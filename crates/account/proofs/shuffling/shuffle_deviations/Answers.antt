@@ -25,7 +25,7 @@ zone_below c =
     let b = c in
     let a = c in
     let row = pair_at a.args.shuffles.now a.args.n a.args.r in
-    (full row a.args.n a.requires.1.1.full).into b.loop-i.i c.loop-i-test.true
+    (full row a.args.n a.requires.shuffle.full).into b.loop-i.i c.loop-i-test.true
 
 pub overflow_mul-row : goal.overflow_mul-row
 overflow_mul-row c = omega (arith, row_end c.requires.shuffle.row)

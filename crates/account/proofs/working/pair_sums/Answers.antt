@@ -12,7 +12,7 @@ use Rattle.account.specs.Steps.{zones_locals}
 use Rattle.account.proofs.Locals.{deviations_sized, locals_are, locals_sized, locals_cross, weight_told, cross_told, squares_told}
 use borrow.Author.Rules.{rules}
 use Rattle.account.proofs.working.pair_sums.Goals as goal
-use Rattle.account.proofs.working.pair_sums.Goals.{After-local_numerators, After-local_numerators-arg-1}
+use Rattle.account.proofs.working.pair_sums.Goals.{After-local_numerators}
 
 same :
     (f : ℕ → ℕ → ℕ) (x : ℕ → ℤ) (n : ℕ) (w p g : ℤ) → w ≡ weight_of f n → p ≡ cross_of f (deviation_of x n) n → g ≡ squares_of f x n →
@@ -25,7 +25,7 @@ held :
     (c : After-local_numerators) →
     let a = c.args in
     c.local_numerators.new.locals ≡ zones_locals a.n a.values.now a.weights.now
-held c = let a = c in locals_are _ _ _ a.requires.0 _ _ a.requires.1.0 c.local_numerators.ensures
+held c = let a = c in locals_are _ _ _ a.requires.job _ _ a.requires.d_value c.local_numerators.ensures
 
 pub local_numerators-requires : goal.local_numerators-requires
 local_numerators-requires c =
@@ -33,13 +33,13 @@ local_numerators-requires c =
     let r = a.requires.job in record { weighted = r.weighted; sized = deviations_sized _ _ _ r.valued a.requires.d_value; locals_len = a.requires.locals_len }
 
 pub sum_of-cross-requires : goal.sum_of-cross-requires
-sum_of-cross-requires c = let a = c in record { n_bound = a.requires.job.valued.zones; sized = locals_sized _ _ _ a.requires.job _ (held ((goal.at.sum_of-cross-requires c).After-local_numerators-arg-1)) }
+sum_of-cross-requires c = let a = c in record { n_bound = a.requires.job.valued.zones; sized = locals_sized _ _ _ a.requires.job _ (held ((goal.at.sum_of-cross-requires c).After-local_numerators)) }
 
 pub returns : goal.returns
 returns c =
     let a = c in
     let r = a.requires.job in
-    let locals = held ((goal.at.returns c).After-local_numerators-arg-1) in record {
+    let locals = held ((goal.at.returns c).After-local_numerators) in record {
       value = same (pair_at a.args.weights.now a.args.n) (at a.args.values.now) a.args.n _ _ _
           (rd w64 (weight_told _ _ r.weighted c.weight_sum-weight.ensures) tt).same
           (rd w64 (cross_told _ _ _ r (c.sum_of-cross.ensures ∙ locals_cross _ _ _ r _ locals)) tt).same

@@ -22,9 +22,6 @@ overflow_mul-row c = let s = c in omega (arith, row_few _ _ s.requires.n_bound s
 pub overflow_add-end : goal.overflow_add-end
 overflow_add-end c = let s = c in omega (arith, row_few _ _ s.requires.n_bound s.requires.i_lt_n)
 
--- LEFT (no such goal now): part_any_above_end : Need-slice-bounds-any-above-end
--- part_any_above_end c = let s = c.before.before.before.before in omega (arith, row_end _ _ s.requires.1.1.0, s.requires.1.0)
-
 -- from a place to another, so many further on
 room : (a b : ℕ) → a + b - a ≡ b
 room a b = omega arith
