@@ -66,10 +66,10 @@ module _ (c : After-class_account) where
   b = ((goal.at.Else-lent-ne0 e).After-judge_lent-lent)
 
   abbrev class_number : ℕ
-  class_number = class_refusal (n b) (values b) (weights b) (classes b) (lent b).rows (lent b).class_locals-1 (lent b).own
+  class_number = class_refusal (n b) (values b) (weights b) (classes b) (lent b).rows (lent b).class_locals (lent b).own
 
   fit : AllFit (lent_lengths (n b) (lent b))
-  fit = all b e.if-lent-ne0.left
+  fit = all b e.if-lent-ne0.false
 
   -- its number is the call's
   rest_is : class_number ≡ refusal b
@@ -82,8 +82,8 @@ module _ (c : After-class_account) where
   lists_kept :
       (class_number ≡ 0 → ⊥) →
       lists (lent b).locals c.class_account.new.rows c.class_account.new.class_locals
-      c.class_account.new.locals (lent b).figures (lent b).parts (lent b).plain_rows-1 (lent b).plain_locals-1
-      (lent b).plain_figures-1
+      c.class_account.new.locals (lent b).figures (lent b).parts (lent b).plain_rows (lent b).plain_locals
+      (lent b).plain_figures
       ≡ lent b
   unfolding class_account_rows class_account_locals class_account_own
   lists_kept some =
@@ -96,7 +96,7 @@ module _ (c : After-class_account) where
     known :
         (class_number ≡ 0) × (listed sums ≡ job_figures (n b) (values b) (weights b))
     known =
-        class_accounted (n b) (values b) (weights b) (classes b) (lent b).rows (lent b).class_locals-1 (lent b).own _
+        class_accounted (n b) (values b) (weights b) (classes b) (lent b).rows (lent b).class_locals (lent b).own _
         c.class_account.ensures.number c.class_account.ensures.figures sums answered
 
     none : refusal b ≡ 0
@@ -170,7 +170,7 @@ returns-in-Refused c =
     let a = c in
     let d = in_refused ((goal.at.returns-in-Refused c).In-Refused-2) in
     let k =
-    class_refused (n (b d)) (values (b d)) (weights (b d)) (classes (b d)) (lent (b d)).rows (lent (b d)).class_locals-1
+    class_refused (n (b d)) (values (b d)) (weights (b d)) (classes (b d)) (lent (b d)).rows (lent (b d)).class_locals
     (lent (b d)).own _ d.class_account.ensures.number d.class_account.ensures.figures _ a.number.given.1 in let all = refused (n (b d)) (values (b d)) (weights (b d)) (classes (b d)) (lent (b d)) _ _ _ (k.0 ∙ rest_is d) k.1 c.refused-in-Refused.ensures
     (lists_kept d (λ z. k.1 (k.0 ∙ z))) in record { answer = all.0; lent = all.1.0; demand3 = all.1.1 }
 

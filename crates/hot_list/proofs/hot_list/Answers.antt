@@ -7,7 +7,7 @@ use Rattle.account.proofs.Theorems.{sizes_refusal, refusal_by_sizes, sizes_fit}
 use Rattle.hot_list.proofs.Answered.{refused, by_refusal, by_sums}
 use borrow.Author.Rules.{rules}
 use Rattle.hot_list.proofs.hot_list.Goals as goal
-use Rattle.hot_list.proofs.hot_list.Goals.{After-judge_sizes-sizes, Else-sizes-ne0}
+use Rattle.hot_list.proofs.hot_list.Goals.{Else-sizes-ne0}
 
 pub returns-then-sizes-ne0 : goal.returns-then-sizes-ne0
 returns-then-sizes-ne0 c =
@@ -40,5 +40,5 @@ pub returns-in-Accounted : goal.returns-in-Accounted
 returns-in-Accounted c =
     let p = c in
     let b = c in
-    let e = c in let all = by_sums _ _ _ _ (good ((goal.at.returns-in-Accounted c).After-judge_sizes-sizes)) _ (length-take-le _ _ (fit ((goal.at.returns-in-Accounted c).After-judge_sizes-sizes))) _ b.account.ensures.number b.account.ensures.figures _ _ _ _
-    p.enum_told-1.given.1 b.account.ensures.lent p.order.ensures.number p.order.ensures.lent in record { number = all.0; lent = all.1 }
+    let e = c in let all = by_sums _ _ _ _ (good ((goal.at.returns-in-Accounted c).Else-sizes-ne0)) _ (length-take-le _ _ (fit ((goal.at.returns-in-Accounted c).Else-sizes-ne0))) _ b.account.ensures.number b.account.ensures.figures _ _ _ _
+    p.enum_told.given.1 b.account.ensures.lent p.order.ensures.number p.order.ensures.lent in record { number = all.0; lent = all.1 }

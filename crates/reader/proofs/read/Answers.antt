@@ -54,5 +54,5 @@ returns c =
     let stored = c in
     let e = before_store ((goal.at.returns c).After-store) in
     let j = e.before in
-    let b = j.before.before in let all = taken (image b) (lent b) _ (sized b) j.if-lengths-ne0.left j.judge-layout.result c.counts.result _ (storable e) c.counts.ensures
+    let b = j.before.before in let all = taken (image b) (lent b) _ (sized b) j.if-lengths-ne0.false j.judge-layout.result c.counts.result _ (storable e) c.counts.ensures
     stored.store.ensures in record { number = all.0; counts = all.1.0; lent = all.1.1 }

@@ -22,7 +22,7 @@ use Rattle.coefficients.specs.declared.Answer.TheVariants.{Reported}
 use Rattle.coefficients.proofs.Ratios.{read, row_read, formable_same, rows_same, numerators_same, numerators_first}
 use borrow.Author.Rules.{rules, sfits_of}
 use Rattle.coefficients.proofs.working.report_job.Goals as goal
-use Rattle.coefficients.proofs.working.report_job.Goals.{After-put_figures, After-put_figures-2, After-put_figures-arg-1, After-struct_told-2-1, Start}
+use Rattle.coefficients.proofs.working.report_job.Goals.{After-put_figures, After-put_figures-2, After-struct_told-2-1, Start}
 
 -- the sums as they are read
 module _ (c : After-struct_told-2-1) where
@@ -46,16 +46,16 @@ abbrev first_put : After-put_figures → After-struct_told-2-1
 first_put c = ((goal.at.After-put_figures c).After-struct_told-2-1)
 
 abbrev second_put : After-put_figures-2 → After-put_figures
-second_put c = ((goal.at.After-put_figures-2 c).After-put_figures-arg-1)
+second_put c = ((goal.at.After-put_figures-2 c).After-put_figures)
 
 pub put_figures-requires : goal.put_figures-requires
 put_figures-requires c = let b = c in record { numerators = numerators_same (spread_read ((goal.at.put_figures-requires c).After-struct_told-2-1)) refl (s ((goal.at.put_figures-requires c).After-struct_told-2-1)).requires.reportable.numerators; figures_len = (s ((goal.at.put_figures-requires c).After-struct_told-2-1)).requires.figures_len }
 
 pub slice_bounds-put_figures-end : goal.slice_bounds-put_figures-end
-slice_bounds-put_figures-end c = let b = first_put ((goal.at.slice_bounds-put_figures-end c).After-put_figures-arg-1) in sym (length-take-le _ _ (s b).requires.parts_in_bounds)
+slice_bounds-put_figures-end c = let b = first_put ((goal.at.slice_bounds-put_figures-end c).After-put_figures) in sym (length-take-le _ _ (s b).requires.parts_in_bounds)
 
 pub put_figures-requires-2 : goal.put_figures-requires-2
-put_figures-requires-2 c = let b = first_put ((goal.at.put_figures-requires-2 c).After-put_figures-arg-1) in record { numerators = numerators_same (spread_read b) refl (numerators_first _ (s b).requires.parts_in_bounds (s b).requires.reportable.class_numerators); figures_len = sym (length-take-le _ _ (s b).requires.parts_in_bounds) }
+put_figures-requires-2 c = let b = first_put ((goal.at.put_figures-requires-2 c).After-put_figures) in record { numerators = numerators_same (spread_read b) refl (numerators_first _ (s b).requires.parts_in_bounds (s b).requires.reportable.class_numerators); figures_len = sym (length-take-le _ _ (s b).requires.parts_in_bounds) }
 
 pub pair-pair-requires : goal.pair-pair-requires
 pair-pair-requires c =

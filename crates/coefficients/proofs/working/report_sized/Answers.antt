@@ -19,7 +19,7 @@ use Rattle.coefficients.proofs.Answered.{refused, reported, account_number}
 use Rattle.coefficients.proofs.Job.{reportable}
 use borrow.Author.Rules.{rules}
 use Rattle.coefficients.proofs.working.report_sized.Goals as goal
-use Rattle.coefficients.proofs.working.report_sized.Goals.{After-class_account, After-class_locals-1, After-locals-1, In-Accounted-2, In-Refused-2, Start}
+use Rattle.coefficients.proofs.working.report_sized.Goals.{After-class_account, After-locals-1, In-Accounted-2, In-Refused-2, Start}
 
 -- the same by other names
 reportable_same :
@@ -114,7 +114,7 @@ sums_known b sums e =
 pub report_job-requires : goal.report_job-requires
 report_job-requires c =
     let a = c in
-    let b = in_accounted ((goal.at.report_job-requires c).After-class_locals-1) in
+    let b = in_accounted ((goal.at.report_job-requires c).In-Accounted-2) in
     let k = sums_known b _ a.sums.given.1 in
     let z = k.0 in
     let job = reportable (n b) (values b) (weights b) (classes b) [] (taken b z) _ k.1 in record { reportable = reportable_same (rows_left b z) (numerators_left b z) (locals_left b z) job; figures_len = (s b).requires.figures_fit ∙ sym (ap length (locals_left b z) ∙ job_locals_length (n b) (values b) (weights b)); parts_in_bounds = omega (arith, ap length (numerators_left b z), class_locals_length (n b) (values b) (weights b) (classes b), (s b).requires.parts_few) }
@@ -133,7 +133,7 @@ pub returns-in-Accounted : goal.returns-in-Accounted
 returns-in-Accounted c =
     let done = c in
     let a = c in
-    let b = in_accounted ((goal.at.returns-in-Accounted c).After-class_locals-1) in
+    let b = in_accounted ((goal.at.returns-in-Accounted c).In-Accounted-2) in
     let k = sums_known b _ a.sums.given.1 in
     let z = k.0 in
     let said = done.report_job.ensures in

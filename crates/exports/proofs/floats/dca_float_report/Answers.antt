@@ -27,7 +27,7 @@ fit e = sym e.judge_sizes-sizes.ensures ∙ e.if-sizes-ne0.false
 pub returns-then-sizes-ne0 : goal.returns-then-sizes-ne0
 returns-then-sizes-ne0 c =
     let a = (start ((goal.at.returns-then-sizes-ne0 c).After-judge_sizes-sizes)).args in let all = report_by_sizes a.n a.values.now a.weights.now a.classes.now a.globals.now a.locals.now a.pairs.now
-    a.has_pair-1.now
+    a.has_pair.now
     _
     c.judge_sizes-sizes.ensures
     c.if-sizes-ne0.true in record { number = all.0; globals = all.1.0; figures = all.1.1.0; pairs = all.1.1.1.0; having = all.1.1.1.1 }
@@ -35,14 +35,14 @@ returns-then-sizes-ne0 c =
 pub returns-then-pairs-ne18 : goal.returns-then-pairs-ne18
 returns-then-pairs-ne18 c =
     let a = (start ((goal.at.returns-then-pairs-ne18 c).After-judge_sizes-sizes)).args in let all = report_by_pairs a.n a.values.now a.weights.now a.classes.now a.globals.now a.locals.now a.pairs.now
-    a.has_pair-1.now
+    a.has_pair.now
     (fit ((goal.at.returns-then-pairs-ne18 c).Else-sizes-ne0))
     c.if-pairs-ne18.true in record { number = all.0; globals = all.1.0; figures = all.1.1.0; pairs = all.1.1.1.0; having = all.1.1.1.1 }
 
 pub returns-then-has_pair-ne9 : goal.returns-then-has_pair-ne9
 returns-then-has_pair-ne9 c =
     let a = (start ((goal.at.returns-then-has_pair-ne9 c).After-judge_sizes-sizes)).args in let all = report_by_having a.n a.values.now a.weights.now a.classes.now a.globals.now a.locals.now a.pairs.now
-    a.has_pair-1.now
+    a.has_pair.now
     (fit ((goal.at.returns-then-has_pair-ne9 c).Else-sizes-ne0))
     c.if-has_pair-ne9.true in record { number = all.0; globals = all.1.0; figures = all.1.1.0; pairs = all.1.1.1.0; having = all.1.1.1.1 }
 
@@ -83,7 +83,7 @@ put_pair-requires c =
       k_bound = omega arith;
       k_in_bounds = omega (arith, own_fits a.n a.values.now a.weights.now (length a.globals.now) 2 (fit e.before.before));
       readable_pair = pair_readable a.n a.values.now a.weights.now a.classes.now a.globals.now a.locals.now a.pairs.now
-          a.has_pair-1.now (fit e.before.before) e.if-pairs-ne18.left e.if-has_pair-ne9.left _ _ refl
+          a.has_pair.now (fit e.before.before) e.if-pairs-ne18.false e.if-has_pair-ne9.false _ _ refl
           (length-take-le _ _ (zones e.before.before))
           _ _ _ said.number said.whole said.pairs said.figures _ w.answer-in-Reported-1.given.1;
     }
@@ -95,9 +95,9 @@ put_pairs-requires c =
     let e = tested b in
     let a = (start e.before.before.before).args in
     let said = b.plain_report-report.ensures in record {
-      figures_len = e.if-pairs-ne18.left;
+      figures_len = e.if-pairs-ne18.false;
       readable_pairs = pairs_readable a.n a.values.now a.weights.now a.classes.now a.globals.now a.locals.now a.pairs.now
-          a.has_pair-1.now (fit e.before.before) e.if-pairs-ne18.left e.if-has_pair-ne9.left _ _ refl
+          a.has_pair.now (fit e.before.before) e.if-pairs-ne18.false e.if-has_pair-ne9.false _ _ refl
           (length-take-le _ _ (zones e.before.before))
           _ _ _ said.number said.whole said.pairs said.figures _ w.answer-in-Reported-1.given.1;
     }
@@ -109,10 +109,10 @@ returns-in-Refused c =
     let e = tested b in
     let a = (start e.before.before.before).args in
     let said = b.plain_report-report.ensures in let all = report_by_refusal a.n a.values.now a.weights.now a.classes.now a.globals.now a.locals.now a.pairs.now
-    a.has_pair-1.now
+    a.has_pair.now
     (fit e.before.before)
-    e.if-pairs-ne18.left
-    e.if-has_pair-ne9.left
+    e.if-pairs-ne18.false
+    e.if-has_pair-ne9.false
     _
     _
     refl
@@ -137,10 +137,10 @@ returns-in-Reported c =
     let e = tested b in
     let a = (start e.before.before.before).args in
     let said = b.plain_report-report.ensures in let all = report_by_pair a.n a.values.now a.weights.now a.classes.now a.globals.now a.locals.now a.pairs.now
-    a.has_pair-1.now
+    a.has_pair.now
     (fit e.before.before)
-    e.if-pairs-ne18.left
-    e.if-has_pair-ne9.left
+    e.if-pairs-ne18.false
+    e.if-has_pair-ne9.false
     _
     _
     refl

@@ -23,7 +23,7 @@ zones e =
 
 pub returns-then-sizes-ne0 : goal.returns-then-sizes-ne0
 returns-then-sizes-ne0 c =
-    let a = (start ((goal.at.returns-then-sizes-ne0 c).After-judge_sizes-sizes)).args in let all = class_by_sizes a.n a.values.now a.weights.now a.classes.now a.rows.now a.class_locals-1.now _
+    let a = (start ((goal.at.returns-then-sizes-ne0 c).After-judge_sizes-sizes)).args in let all = class_by_sizes a.n a.values.now a.weights.now a.classes.now a.rows.now a.class_locals.now _
     c.judge_sizes-sizes.ensures c.if-sizes-ne0.true in record { number = all.0; rows = all.1.0; numerators = all.1.1 }
 
 pub slice_bounds-space-end : goal.slice_bounds-space-end
@@ -41,7 +41,7 @@ returns-in-Refused c =
     let b = c in
     let e = c in
     let a = (start ((goal.at.returns-in-Refused c).After-judge_sizes-sizes)).args in
-    let said = b.class_account.ensures in let all = class_by_refusal a.n a.values.now a.weights.now a.classes.now a.rows.now a.class_locals-1.now _
+    let said = b.class_account.ensures in let all = class_by_refusal a.n a.values.now a.weights.now a.classes.now a.rows.now a.class_locals.now _
     (length-take-le _ _ (zones ((goal.at.returns-in-Refused c).Else-sizes-ne0))) _ _ _ said.number said.figures said.rows said.numerators _ k.number.given.1 in record { number = all.0; rows = all.1.0; numerators = all.1.1 }
 
 pub returns-in-Accounted : goal.returns-in-Accounted
@@ -49,5 +49,5 @@ returns-in-Accounted c =
     let b = c in
     let e = c in
     let a = (start ((goal.at.returns-in-Accounted c).After-judge_sizes-sizes)).args in
-    let said = b.class_account.ensures in let all = class_by_sums a.n a.values.now a.weights.now a.classes.now a.rows.now a.class_locals-1.now _
+    let said = b.class_account.ensures in let all = class_by_sums a.n a.values.now a.weights.now a.classes.now a.rows.now a.class_locals.now _
     (length-take-le _ _ (zones ((goal.at.returns-in-Accounted c).Else-sizes-ne0))) _ _ _ said.number said.figures said.rows said.numerators _ c.enum_told-1.given.1 in record { number = all.0; rows = all.1.0; numerators = all.1.1 }

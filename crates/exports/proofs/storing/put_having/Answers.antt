@@ -36,7 +36,7 @@ loop-k-preserved c =
     let l = c.loop-k in
     let s = c in
     let inside = c.loop-k-test.true in
-    let pair_is = there s.args.t2 l.k _ no_pair (omega (arith, inside, s.well-formed.1.0.1)) in (
+    let pair_is = there s.args.t2 l.k _ no_pair (omega (arith, inside, s.well_formed.1.0.1)) in (
       omega (arith, inside),
       (
         simp length-set l.invariant.1.0,

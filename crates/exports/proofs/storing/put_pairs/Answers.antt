@@ -26,7 +26,7 @@ put_pair-requires c =
     let l = t.loop-k in
     let s = c in
     let inside = t.loop-k-test.true in
-    let here : l.k < length s.args.t2 = omega (arith, inside, s.well-formed.1.0.1) in record { k_bound = inside; k_in_bounds = omega (arith, inside, l.invariant.count); readable_pair = subst ReadablePair (sym (there s.args.t2 l.k _ no_pair here)) (s.requires.readable_pairs l.k here) }
+    let here : l.k < length s.args.t2 = omega (arith, inside, s.well_formed.1.0.1) in record { k_bound = inside; k_in_bounds = omega (arith, inside, l.invariant.count); readable_pair = subst ReadablePair (sym (there s.args.t2 l.k _ no_pair here)) (s.requires.readable_pairs l.k here) }
 
 pub overflow_add-k : goal.overflow_add-k
 overflow_add-k c = omega (arith, c.loop-k-test.true)
@@ -39,7 +39,7 @@ loop-k-preserved c =
     let t = c in
     let l = t.loop-k in
     let s = c in
-    let pair = there s.args.t2 l.k _ no_pair (omega (arith, t.loop-k-test.true, s.well-formed.1.0.1)) in
+    let pair = there s.args.t2 l.k _ no_pair (omega (arith, t.loop-k-test.true, s.well_formed.1.0.1)) in
     subst (λ v. PutSoFar 9 (λ i. get_or s.args.t2 i no_pair) s.args.figures.now v (l.k + 1))
     (sym
     (c.put_pair.ensures

@@ -111,7 +111,7 @@ pub loop-i-preserved : goal.loop-i-preserved
 loop-i-preserved c =
     let b = (at_loop c).loop-i in (
       omega arith,
-      put_next (n c) (join c) (start c).args.k b.i b.weights _ _ (start c).requires.joinable.sound (omega arith) b.inv.1 (place_is c)
+      put_next (n c) (join c) (start c).args.k b.i b.weights _ _ (start c).requires.joinable.sound (omega arith) b.invariant.1 (place_is c)
           (weight_read (start c).args.image.now (start c).args.at b.i),
     )
 

@@ -192,7 +192,7 @@ pass-shuffles-requires c = (met_6 c).whole
 pub overflow_add-at_joins : goal.overflow_add-at_joins
 overflow_add-at_joins c =
     let joins = c in
-    omega (arith, joins.pass-categories.ensures.inside, joins.well-formed.0)
+    omega (arith, joins.pass-categories.ensures.inside, joins.well_formed.0)
 
 pub judge_end-number-requires : goal.judge_end-number-requires
 judge_end-number-requires c =

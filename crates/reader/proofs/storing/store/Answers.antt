@@ -81,7 +81,7 @@ pub store_bytes-requires-2 : goal.store_bytes-requires-2
 store_bytes-requires-2 c = let r = has_room (from_fifth ((goal.at.store_bytes-requires-2 c).After-store_words)) in record { k_in_bounds = r.shuffles_there; k_in_bounds_2 = r.shuffles_room }
 
 pub shape_of-values : goal.shape_of-values
-shape_of-values c = (first (second (third (fourth (fifth ((goal.at.shape_of-values c).After-store_bytes-2)))))).store_signed.auto.1.1.1.0
+shape_of-values c = (first (second (third (fourth (fifth ((goal.at.shape_of-values c).After-store_bytes-2)))))).store_signed.auto.buffer
 
 pub shape_of-categories : goal.shape_of-categories
 shape_of-categories c = (second (third (fourth (fifth ((goal.at.shape_of-categories c).After-store_bytes-2))))).store_Bytes.auto.1.1.1.0

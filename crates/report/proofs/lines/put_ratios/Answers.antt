@@ -10,7 +10,7 @@ use Rattle.coefficients.proofs.Ratios.{ordered_le}
 use Rattle.report.proofs.Puts.{put_length, put_as, put_then}
 use Rattle.report.proofs.LineLaws.{Read, read, ratio_text, moran_divisor_is, geary_numerator_is, twice_is, geary_divisor_is}
 use Rattle.report.proofs.lines.put_ratios.Goals as goal
-use Rattle.report.proofs.lines.put_ratios.Goals.{After-put_figure_line-arg-1, After-put_figure_line-arg-2-1, After-put_figure_line-arg-3-1, After-struct_told-2-1, After-struct_told-5-1, Start}
+use Rattle.report.proofs.lines.put_ratios.Goals.{After-struct_told-2-1, After-struct_told-5-1, Start}
 
 -- the place where the sums are known to fit
 abbrev told : After-struct_told-5-1 → After-struct_told-2-1
@@ -51,19 +51,19 @@ overflow_mul-of_geary-4 c = omega (arith, ordered_le (n c) (start c).requires.wi
 -- mul_t22 c = let t = told c in fit w64 (geary_divisor_is (sums t) (reads t) (start t).pre.0) tt
 
 pub put_figure_line-place-requires : goal.put_figure_line-place-requires
-put_figure_line-place-requires c = let s = start (told ((goal.at.put_figure_line-place-requires c).After-put_figure_line-arg-1)) in record { short = record { letters = omega arith; items = omega arith }; readable = s.requires.readable_pair.of_moran-1; room = omega (arith, s.requires.room) }
+put_figure_line-place-requires c = let s = start (told ((goal.at.put_figure_line-place-requires c).After-struct_told-5-1)) in record { short = record { letters = omega arith; items = omega arith }; readable = s.requires.readable_pair.of_moran; room = omega (arith, s.requires.room) }
 
 pub put_figure_line-end-requires : goal.put_figure_line-end-requires
 put_figure_line-end-requires c =
     let a = c in
-    let s = start (told ((goal.at.put_figure_line-end-requires c).After-put_figure_line-arg-2-1)) in
-    let first = a.put_figure_line-place.ensures in record { short = record { letters = omega arith; items = omega arith }; readable = s.requires.readable_pair.of_geary-1; room = omega (arith, s.requires.room, first.few, put_length first) }
+    let s = start (told ((goal.at.put_figure_line-end-requires c).After-struct_told-5-1)) in
+    let first = a.put_figure_line-place.ensures in record { short = record { letters = omega arith; items = omega arith }; readable = s.requires.readable_pair.of_geary; room = omega (arith, s.requires.room, first.few, put_length first) }
 
 pub put_line-requires : goal.put_line-requires
 put_line-requires c =
     let b = c in
     let a = c in
-    let s = start (told ((goal.at.put_line-requires c).After-put_figure_line-arg-3-1)) in
+    let s = start (told ((goal.at.put_line-requires c).After-struct_told-5-1)) in
     let both = put_then a.put_figure_line-place.ensures b.put_figure_line-end.ensures in record { short = record { letters = omega arith; items = omega arith }; room = omega (arith, s.requires.room, both.few, put_length both) }
 
 pub returns : goal.returns
@@ -71,6 +71,6 @@ returns c =
     let d = c in
     let b = c in
     let a = c in
-    let t = told ((goal.at.returns c).After-put_figure_line-arg-3-1) in
+    let t = told ((goal.at.returns c).After-struct_told-5-1) in
     put_as (put_then a.put_figure_line-place.ensures (put_then b.put_figure_line-end.ensures d.put_line.ensures))
     (ratio_text (sums t) (reads t) (start t).requires.within (start t).args.pair)

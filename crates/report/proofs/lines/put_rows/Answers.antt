@@ -15,11 +15,11 @@ use Rattle.report.specs.Text.{numbered}
 use Rattle.report.proofs.Puts.{put_length, put_as, put_each_none, put_numbered_next, put_numbered_all}
 use Rattle.report.proofs.LineLaws.{there, row_text}
 use Rattle.report.proofs.lines.put_rows.Goals as goal
-use Rattle.report.proofs.lines.put_rows.Goals.{After-pair-1, In-loop-k}
+use Rattle.report.proofs.lines.put_rows.Goals.{In-loop-k}
 
 -- the pair of a turn is there
 known : (c : In-loop-k) → c.loop-k.k < length c.args.t4
-known c = omega (arith, c.well-formed.1.1.1.0.1.0.1)
+known c = omega (arith, c.well_formed.1.1.1.0.1.0.1)
 
 pub loop-k-init : goal.loop-k-init
 loop-k-init c = (omega arith, put_each_none (row_line _ _))
@@ -77,7 +77,7 @@ put_pair_line-place-requires c =
     let t = c in
     let l = c in
     let s = c in
-    let k = l.loop-k.k in record { short = record { letters = omega arith; items = omega arith }; readable_pair = rw (there s.args.t4 k _ no_pair (known ((goal.at.put_pair_line-place-requires c).After-pair-1))) (s.requires.readable_pairs k (known ((goal.at.put_pair_line-place-requires c).After-pair-1))); room = omega (arith, put_length l.loop-k.invariant.1) }
+    let k = l.loop-k.k in record { short = record { letters = omega arith; items = omega arith }; readable_pair = rw (there s.args.t4 k _ no_pair (known ((goal.at.put_pair_line-place-requires c).In-loop-k))) (s.requires.readable_pairs k (known ((goal.at.put_pair_line-place-requires c).In-loop-k))); room = omega (arith, put_length l.loop-k.invariant.1) }
 
 pub overflow_add-k : goal.overflow_add-k
 overflow_add-k c = omega arith
@@ -97,7 +97,7 @@ loop-k-preserved c =
     let weight = to_z-of_z w64 (get_or rows (k * 3) (pos 0)) (sfits_of t.t20.given) in
     let cross = to_z-of_z w64 (get_or rows (k * 3 + 1) (pos 0)) (sfits_of t.t25.given) in
     let squares = to_z-of_z w64 (get_or rows (k * 3 + 2) (pos 0)) (sfits_of t.t30.given) in
-    let pair = there s.args.t4 k _ _ (known ((goal.at.loop-k-preserved c).After-pair-1)) in
+    let pair = there s.args.t4 k _ _ (known ((goal.at.loop-k-preserved c).In-loop-k)) in
     let put = put_as b.put_pair_line-place.ensures (row_text rows s.args.t4 k class weight cross squares pair) in
     (omega arith, put_numbered_next (row_line _ _) {size = 128} (suc s.args.last) k (omega arith) l.loop-k.invariant.1 put)
 

@@ -14,7 +14,7 @@ use Rattle.report.specs.Steps.{Put, zone_line}
 use Rattle.report.proofs.Puts.{put_length, put_as, put_each_none, put_each_next, put_each_all}
 use Rattle.report.proofs.LineLaws.{zone_text}
 use Rattle.report.proofs.lines.put_zones.Goals as goal
-use Rattle.report.proofs.lines.put_zones.Goals.{After-shared_slice_known-in-loop-i-1, In-loop-i, Start}
+use Rattle.report.proofs.lines.put_zones.Goals.{In-loop-i, Start}
 
 -- the zone of a turn, and its figure, which is there
 module _ (c : In-loop-i) where
@@ -56,7 +56,7 @@ pub offset_bounds-figures-zone : goal.offset_bounds-figures-zone
 offset_bounds-figures-zone c = let l = c in omega (arith, l.shared_slice_known-in-loop-i-1.given l.loop-i.i)
 
 pub bounds-figures-zone : goal.bounds-figures-zone
-bounds-figures-zone c = known ((goal.at.bounds-figures-zone c).After-shared_slice_known-in-loop-i-1)
+bounds-figures-zone c = known ((goal.at.bounds-figures-zone c).In-loop-i)
 
 pub put_bits_line-place-requires : goal.put_bits_line-place-requires
 put_bits_line-place-requires c = let t = c in record { short = record { letters = omega arith; items = omega arith }; room = omega (arith, put_length t.loop-i.invariant.1) }
@@ -73,11 +73,11 @@ loop-i-preserved c =
     let k = c in
     let t = c in
     let l = t.loop-i in
-    let a = (start ((goal.at.loop-i-preserved c).After-shared_slice_known-in-loop-i-1)).args in
-    let number = (nat w64 (zone ((goal.at.loop-i-preserved c).After-shared_slice_known-in-loop-i-1)) 255 (omega (arith, k.shared_slice_known-in-loop-i-1.given l.i)) tt).same in
+    let a = (start ((goal.at.loop-i-preserved c).In-loop-i)).args in
+    let number = (nat w64 (zone ((goal.at.loop-i-preserved c).In-loop-i)) 255 (omega (arith, k.shared_slice_known-in-loop-i-1.given l.i)) tt).same in
     let fits = b.t18.given in
-    let numerator = to_z-of_z w64 (get_or a.locals.now (zone ((goal.at.loop-i-preserved c).After-shared_slice_known-in-loop-i-1)) (pos 0)) (sfits_of fits) in
-    let put = put_as b.put_bits_line-place.ensures (zone_text a.locals.now a.figures.now _ (zone ((goal.at.loop-i-preserved c).After-shared_slice_known-in-loop-i-1)) number numerator refl) in
+    let numerator = to_z-of_z w64 (get_or a.locals.now (zone ((goal.at.loop-i-preserved c).In-loop-i)) (pos 0)) (sfits_of fits) in
+    let put = put_as b.put_bits_line-place.ensures (zone_text a.locals.now a.figures.now _ (zone ((goal.at.loop-i-preserved c).In-loop-i)) number numerator refl) in
     let here = t.loop-i-test.true in
     (omega arith, put_each_next (zone_line _ _ _) {size = 128} a.zones.now l.i 0 here l.invariant.1 put)
 

@@ -34,4 +34,4 @@ returns-in-Weightless c =
     let b = c in
     let f = c in
     let room = f.requires.room in
-    put_as (put_of 17 b.put.ensures (omega arith) room) (ap coefficient (sym f.enum_told-1.given.1))
+    put_as (put_of 17 b.put.ensures (omega arith) room) (ap coefficient (sym f.enum_told.given.1))

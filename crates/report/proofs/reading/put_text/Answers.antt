@@ -4,7 +4,7 @@ use Rattle.image.specs.Reader.{Buffers, buffers}
 use Rattle.report.proofs.Puts.{put_as}
 use Rattle.report.proofs.ReadJob.{Told, read_held, read_text, read_prints, refused_prints}
 use Rattle.report.proofs.reading.put_text.Goals as goal
-use Rattle.report.proofs.reading.put_text.Goals.{After-places-1, After-read, In-Read-2, In-Refused-2, Start}
+use Rattle.report.proofs.reading.put_text.Goals.{After-read, In-Read-2, In-Refused-2, Start}
 
 -- where the call began, what the reader was lent, and what it told
 abbrev start : After-read → Start
@@ -33,7 +33,7 @@ in_counts c = ((goal.at.In-Read-2 c).After-read)
 pub put_read-requires : goal.put_read-requires
 put_read-requires c =
     let k = c in
-    let b = in_counts ((goal.at.put_read-requires c).After-places-1) in record { held = read_held (told b) k.counts.given.1; room = (start b).requires.room }
+    let b = in_counts ((goal.at.put_read-requires c).In-Read-2) in record { held = read_held (told b) k.counts.given.1; room = (start b).requires.room }
 
 pub returns-in-Refused : goal.returns-in-Refused
 returns-in-Refused c =
@@ -45,5 +45,5 @@ pub returns-in-Read : goal.returns-in-Read
 returns-in-Read c =
     let p = c in
     let k = c in
-    let b = in_counts ((goal.at.returns-in-Read c).After-places-1) in
+    let b = in_counts ((goal.at.returns-in-Read c).In-Read-2) in
     read_prints (told b) k.counts.given.1 (put_as p.put_read.ensures (read_text (told b) k.counts.given.1)) (start b).requires.room

@@ -22,7 +22,7 @@ use Rattle.report.proofs.JobText.{figures_length, zones_are, sums_within, job_li
 use Rattle.report.proofs.JobText.{Reports, reports, never_refused, pair_is, sums_are, class_lines_are, job_text_is}
 use borrow.Author.Rules.{rules}
 use Rattle.report.proofs.working.put_job.Goals as goal
-use Rattle.report.proofs.working.put_job.Goals.{After-class_pairs, After-class_pairs-arg-1, After-class_room-class_space, After-of_classes-1, After-plain_report-report, After-put_account-at_pairs, After-put_classes-at_rank, After-put_pairs-at_classes, In-Reported-2, Start}
+use Rattle.report.proofs.working.put_job.Goals.{After-class_pairs, After-class_room-class_space, After-plain_report-report, After-put_account-at_pairs, After-put_classes-at_rank, After-put_pairs-at_classes, In-Reported-2, Start}
 
 -- texts that are the same by their parts
 both_same : {a b a' b' : List ℕ} → a ≡ a' → b ≡ b' → a ++ b ≡ a' ++ b'
@@ -69,7 +69,7 @@ slice_bounds-plain_report-end c = refl
 -- what the plain report has answered and left
 module _ (c : After-plain_report-report) where
   abbrev pairs_classed : After-class_pairs
-  pairs_classed = ((goal.at.After-plain_report-report c).After-class_pairs-arg-1)
+  pairs_classed = ((goal.at.After-plain_report-report c).After-class_pairs)
 
   abbrev rooms : After-class_room-class_space
   rooms = ((goal.at.After-class_pairs pairs_classed).After-class_room-class_space)
@@ -108,7 +108,7 @@ abbrev from_answer : In-Reported-2 → After-plain_report-report
 from_answer c = ((goal.at.In-Reported-2 c).After-plain_report-report)
 
 abbrev from_account : After-put_account-at_pairs → In-Reported-2
-from_account c = ((goal.at.After-put_account-at_pairs c).After-of_classes-1)
+from_account c = ((goal.at.After-put_account-at_pairs c).In-Reported-2)
 
 abbrev from_pairs : After-put_pairs-at_classes → After-put_account-at_pairs
 from_pairs c = ((goal.at.After-put_pairs-at_classes c).After-put_account-at_pairs)
@@ -127,15 +127,15 @@ module _ (w : In-Reported-2) where
 pub put_account-at_pairs-requires : goal.put_account-at_pairs-requires
 put_account-at_pairs-requires c =
     let w = c in
-    let b = from_answer ((goal.at.put_account-at_pairs-requires c).After-of_classes-1) in
+    let b = from_answer ((goal.at.put_account-at_pairs-requires c).In-Reported-2) in
     let zones = job_locals_length (n b) (values b) (weights b) in record {
-      within = sums_within (n b) (values b) (weights b) (sound b) _ (sums_known ((goal.at.put_account-at_pairs-requires c).After-of_classes-1));
-      readable_pair = job_readable (n b) (values b) (weights b) _ (pair_known ((goal.at.put_account-at_pairs-requires c).After-of_classes-1));
+      within = sums_within (n b) (values b) (weights b) (sound b) _ (sums_known ((goal.at.put_account-at_pairs-requires c).In-Reported-2));
+      readable_pair = job_readable (n b) (values b) (weights b) _ (pair_known ((goal.at.put_account-at_pairs-requires c).In-Reported-2));
       zoned = record {
         least = (sound b).two;
         most = (sound b).zones;
         weights_fit = (sound b).weights_fit;
-        few = omega (arith, kept_in (n b) (values b) (weights b) _ (sums_known ((goal.at.put_account-at_pairs-requires c).After-of_classes-1)), kept_most (n b) (values b) (weights b));
+        few = omega (arith, kept_in (n b) (values b) (weights b) _ (sums_known ((goal.at.put_account-at_pairs-requires c).In-Reported-2)), kept_most (n b) (values b) (weights b));
         locals_fit = ap length (said b).in_locals ∙ zones;
         figures_fit = ap length (said b).of_zones ∙ figures_length (n b) (values b) (weights b) ∙ zones;
       };
@@ -159,9 +159,9 @@ put_classes-at_rank-requires c =
     let pairs = c in
     let account = from_pairs ((goal.at.put_classes-at_rank-requires c).After-put_pairs-at_classes) in
     let b = from_answer (from_account account) in
-    let p = ((start b).requires.sound_lists, (start b).requires.room) in
+    let p = (start b).requires in
     let first = account.put_account-at_pairs.ensures in
-    let second = pairs.put_pairs-at_classes.ensures in record { rows_len = ap length (said b).in_rows ∙ class_sums_length (n b) (values b) (weights b) (classes b); readable_pairs = classes_readable (n b) (values b) (weights b) (classes b) _ (said b).of_classes-1; bands_bound = p.0.few_bands; room = omega (arith, put_length first, first.few, put_length second, second.few, p.1) }
+    let second = pairs.put_pairs-at_classes.ensures in record { rows_len = ap length (said b).in_rows ∙ class_sums_length (n b) (values b) (weights b) (classes b); readable_pairs = classes_readable (n b) (values b) (weights b) (classes b) _ (said b).of_classes; bands_bound = p.sound_lists.few_bands; room = omega (arith, put_length first, first.few, put_length second, second.few, p.room) }
 
 pub put_rank-requires : goal.put_rank-requires
 put_rank-requires c =
@@ -197,7 +197,7 @@ returns-in-Reported c =
     let first = put_as account.put_account-at_pairs.ensures (both_same lines zones) in
     let rows =
     counted_same bands
-    (class-rows-are (n b) (values b) (weights b) (classes b) _ (said b).of_classes-1 _ bands (said b).in_rows (start b).requires.sound_lists.few_bands) in
+    (class-rows-are (n b) (values b) (weights b) (classes b) _ (said b).of_classes _ bands (said b).in_rows (start b).requires.sound_lists.few_bands) in
     let third =
     put_as classes-put.put_classes-at_rank.ensures
     (rows ∙ class_lines_are (n b) (values b) (weights b) a.places.now a.bands.now _ (classed b)) in

@@ -10,7 +10,7 @@ use Rattle.account.proofs.RankTheorems.{ranked_counts, never_refused}
 use Rattle.report.proofs.Listed.{not_given, given, few_counted, counted_line}
 use Rattle.report.proofs.Puts.{put_none, put_as}
 use Rattle.report.proofs.working.put_rank.Goals as goal
-use Rattle.report.proofs.working.put_rank.Goals.{After-rank, In-Counted, In-Counted-1, In-Counted-2, Start}
+use Rattle.report.proofs.working.put_rank.Goals.{After-rank, In-Counted-2, Start}
 
 pub returns-then-shuffles-eq0 : goal.returns-then-shuffles-eq0
 returns-then-shuffles-eq0 c = put_as put_none (sym (not_given c.args.shuffles.now _ c.if-shuffles-eq0.true))
@@ -34,10 +34,10 @@ few : (c : In-Counted-2) → let t = c.counts-1.given.0.0 in t.less + t.equal + 
 few c = few_counted _ _ _ _ _ (ranked c)
 
 pub overflow_cast-list-in-Counted : goal.overflow_cast-list-in-Counted
-overflow_cast-list-in-Counted c = fits_le w64 _ 499 (omega (arith, few ((goal.at.overflow_cast-list-in-Counted c).In-Counted))) tt
+overflow_cast-list-in-Counted c = fits_le w64 _ 499 (omega (arith, few ((goal.at.overflow_cast-list-in-Counted c).In-Counted-2))) tt
 
 pub overflow_cast-list-in-Counted-2 : goal.overflow_cast-list-in-Counted-2
-overflow_cast-list-in-Counted-2 c = fits_le w64 _ 499 (omega (arith, few ((goal.at.overflow_cast-list-in-Counted-2 c).In-Counted))) tt
+overflow_cast-list-in-Counted-2 c = fits_le w64 _ 499 (omega (arith, few ((goal.at.overflow_cast-list-in-Counted-2 c).In-Counted-2))) tt
 
 -- LEFT (no such goal now): cast_t16 : Need-overflow-cast-t16
 -- cast_t16 c = fits_le w64 _ 499 (omega (arith, few c.before.before.before.before)) tt
@@ -52,6 +52,6 @@ returns-in-Counted c =
     let p = c in
     let t = c in
     let b = c in
-    let s = start ((goal.at.returns-in-Counted c).In-Counted-1) in
+    let s = start ((goal.at.returns-in-Counted c).After-rank) in
     put_as p.put_line.ensures
-    (counted_line _ _ _ _ _ (ranked ((goal.at.returns-in-Counted c).In-Counted)) ∙ sym (given s.args.shuffles.now _ b.if-shuffles-eq0.false))
+    (counted_line _ _ _ _ _ (ranked ((goal.at.returns-in-Counted c).In-Counted-2)) ∙ sym (given s.args.shuffles.now _ b.if-shuffles-eq0.false))

@@ -61,8 +61,8 @@ module _ (c : Joined-to-n) where
   counted : (c.if-to-n.from * n + c.if-to-n.to ≡ loop.loop-p.p + 1) × (c.if-to-n.to < n)
   counted =
       let l = loop.loop-p in
-      ⊎_elim (λ u. next_row n l.p l.from l.to l.inv.3 l.inv.4 _ _ u.1 u.2 u.0.taken)
-      (λ u. next_column n l.p l.from l.to l.inv.3 l.inv.4 _ _ u.1 u.2 u.0.left) c.if-to-n.branch
+      ⊎_elim (λ u. next_row n l.p l.from l.to l.invariant.3 l.invariant.4 _ _ u.1 u.2 u.0.taken)
+      (λ u. next_column n l.p l.from l.to l.invariant.3 l.invariant.4 _ _ u.1 u.2 u.0.left) c.if-to-n.branch
 
 pub loop-p-preserved : goal.loop-p-preserved
 loop-p-preserved c =
@@ -71,11 +71,11 @@ loop-p-preserved c =
     let a = b.args in
     let weights = a.weights.now in
     let join = bytes_of l.from l.to (get_or weights l.p 0) in
-    let next = next_put a.n weights l.p (omega arith) l.from l.to l.inv.3 l.inv.4 in
+    let next = next_put a.n weights l.p (omega arith) l.from l.to l.invariant.3 l.invariant.4 in
     let e = b.put_join-place.ensures in (
       omega arith,
-      omega (arith, ap length next, length-append (bytes_before a.n weights l.p) join, e.value, l.inv.1),
-      stored_next join l.inv.2 e.out_after l.inv.1 next,
+      omega (arith, ap length next, length-append (bytes_before a.n weights l.p) join, e.value, l.invariant.1),
+      stored_next join l.invariant.2 e.out_after l.invariant.1 next,
       (counted c).0,
       (counted c).1,
     )

@@ -16,7 +16,7 @@ use Rattle.image.proofs.Sections.{unbroken}
 use Rattle.image.proofs.Then.{then_kept}
 use Rattle.writer.proofs.Counts.{bad_count, by_items}
 use Rattle.writer.proofs.judging.judge_bands.Goals as goal
-use Rattle.writer.proofs.judging.judge_bands.Goals.{After-judge_band_count-count, Else-before-ne0, Else-count-ne0, Start}
+use Rattle.writer.proofs.judging.judge_bands.Goals.{After-judge_band_count-count, Else-count-ne0, Start}
 
 module _ (c : After-judge_band_count-count) where
   abbrev s : Start
@@ -39,7 +39,7 @@ module _ (c : Else-count-ne0) where
 
   decided : (r : ℕ) → r ≡ first_broken (items b) → r ≡ then (s b).args.before ((miscounted b, 12) ∷ items b)
   decided r e =
-      by_items (s b).args.before b.if-before-ne0.left (miscounted b) 11 (items b) b.judge_band_count-count.result
+      by_items (s b).args.before b.if-before-ne0.false (miscounted b) 11 (items b) b.judge_band_count-count.result
       b.judge_band_count-count.ensures c.if-count-ne0.false r e
 
 pub returns-then-before-ne0 : goal.returns-then-before-ne0
@@ -53,11 +53,11 @@ returns-then-count-ne0 c =
 
 pub slice_bounds-any_misplaced-end : goal.slice_bounds-any_misplaced-end
 slice_bounds-any_misplaced-end c =
-    let a = (s ((goal.at.slice_bounds-any_misplaced-end c).Else-before-ne0)).args in
-    sym (length-take-le a.k a.bands.now (omega (arith, few ((goal.at.slice_bounds-any_misplaced-end c).After-judge_band_count-count))))
+    let a = (s ((goal.at.slice_bounds-any_misplaced-end c).After-judge_band_count-count)).args in
+    sym (length-take-le a.k a.bands.now (omega (arith, few c)))
 
 pub returns-then-any_misplaced : goal.returns-then-any_misplaced
-returns-then-any_misplaced c = decided ((goal.at.returns-then-any_misplaced c).After-judge_band_count-count) 12 (rw (sym c.any_misplaced.ensures ∙ c.if-any_misplaced.true))
+returns-then-any_misplaced c = decided ((goal.at.returns-then-any_misplaced c).Else-count-ne0) 12 (rw (sym c.any_misplaced.ensures ∙ c.if-any_misplaced.true))
 
 pub returns : goal.returns
-returns c = decided ((goal.at.returns c).After-judge_band_count-count) 0 (rw (sym c.any_misplaced.ensures ∙ c.if-any_misplaced.false))
+returns c = decided ((goal.at.returns c).Else-count-ne0) 0 (rw (sym c.any_misplaced.ensures ∙ c.if-any_misplaced.false))

@@ -38,7 +38,7 @@ module _ (c : Else-count-ne0) where
 
   decided : (r : ℕ) → r ≡ first_broken (items b) → r ≡ then (s b).args.before ((part_only b, 15) ∷ items b)
   decided r e =
-      by_items (s b).args.before b.if-before-ne0.left (part_only b) 14 (items b) b.judge_none_or_all-count.result
+      by_items (s b).args.before b.if-before-ne0.false (part_only b) 14 (items b) b.judge_none_or_all-count.result
       b.judge_none_or_all-count.ensures c.if-count-ne0.false r e
 
 pub returns-then-before-ne0 : goal.returns-then-before-ne0
@@ -53,10 +53,10 @@ returns-then-count-ne0 c =
 pub slice_bounds-any_above-end : goal.slice_bounds-any_above-end
 slice_bounds-any_above-end c =
     let b = c in
-    sym (length-take-le b.args.k b.args.categories.now (omega (arith, few ((goal.at.slice_bounds-any_above-end c).After-judge_none_or_all-count))))
+    sym (length-take-le b.args.k b.args.categories.now (omega (arith, few c)))
 
 pub returns-then-any_above : goal.returns-then-any_above
-returns-then-any_above c = decided ((goal.at.returns-then-any_above c).After-judge_none_or_all-count) 8 (rw (sym c.any_above.ensures ∙ c.if-any_above.true))
+returns-then-any_above c = decided ((goal.at.returns-then-any_above c).Else-count-ne0) 8 (rw (sym c.any_above.ensures ∙ c.if-any_above.true))
 
 pub returns : goal.returns
-returns c = decided ((goal.at.returns c).After-judge_none_or_all-count) 0 (rw (sym c.any_above.ensures ∙ c.if-any_above.false))
+returns c = decided ((goal.at.returns c).Else-count-ne0) 0 (rw (sym c.any_above.ensures ∙ c.if-any_above.false))

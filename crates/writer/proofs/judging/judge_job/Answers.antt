@@ -15,7 +15,7 @@ use Rattle.image.proofs.Buffers.{Exact, exact}
 use Rattle.image.proofs.Parts.{parts_numbered}
 use Rattle.writer.proofs.Parts.{values_there, weights_there, parts_judged, summable}
 use Rattle.writer.proofs.judging.judge_job.Goals as goal
-use Rattle.writer.proofs.judging.judge_job.Goals.{After-judge_bands-b, After-judge_places-p, After-judge_shuffles-s, After-judge_weights-w, Start}
+use Rattle.writer.proofs.judging.judge_job.Goals.{After-judge_shuffles-s, After-judge_weights-w, Start}
 
 -- what is known at the start
 module _ (s : Start) where
@@ -35,7 +35,7 @@ module _ (s : Start) where
 
 -- the start, from the places after it
 abbrev after_weights : After-judge_weights-w → Start
-after_weights c = c.before.before.before.before.before.before.before.before.before
+after_weights c = ((goal.at.After-judge_weights-w c).Start)
 
 abbrev after_shuffles : After-judge_shuffles-s → Start
 after_shuffles c = after_weights ((goal.at.After-judge_shuffles-s c).After-judge_weights-w)
@@ -60,18 +60,18 @@ pub overflow_mul-pairs : goal.overflow_mul-pairs
 overflow_mul-pairs c = let s = c in omega (arith, few (given ((goal.at.overflow_mul-pairs c).Start)).values s.requires.zones)
 
 pub slice_bounds-judge_values-end : goal.slice_bounds-judge_values-end
-slice_bounds-judge_values-end c = let s = c in sym (values_there (given s) (lent s) s.requires)
+slice_bounds-judge_values-end c = let s = c in sym (values_there (given ((goal.at.slice_bounds-judge_values-end c).Start)) (lent ((goal.at.slice_bounds-judge_values-end c).Start)) s.requires)
 
 pub judge_categories-c-requires : goal.judge_categories-c-requires
-judge_categories-c-requires c = let s = c in record { n_bound = s.requires.zones; categories_len = (lengths s).categories }
+judge_categories-c-requires c = let s = c in record { n_bound = s.requires.zones; categories_len = (lengths ((goal.at.judge_categories-c-requires c).Start)).categories }
 
 pub slice_bounds-judge_weights-end : goal.slice_bounds-judge_weights-end
 slice_bounds-judge_weights-end c =
     let s = c in
-    sym (weights_there (given s) (lent s) s.requires)
+    sym (weights_there (given ((goal.at.slice_bounds-judge_weights-end c).Start)) (lent ((goal.at.slice_bounds-judge_weights-end c).Start)) s.requires)
 
 pub judge_weights-w-requires : goal.judge_weights-w-requires
-judge_weights-w-requires c = let s = c in record { le_n = s.requires.two; n_bound = s.requires.zones; weights_len = weights_there (given s) (lent s) s.requires }
+judge_weights-w-requires c = let s = c in record { le_n = s.requires.two; n_bound = s.requires.zones; weights_len = weights_there (given ((goal.at.judge_weights-w-requires c).Start)) (lent ((goal.at.judge_weights-w-requires c).Start)) s.requires }
 
 pub judge_places-p-requires : goal.judge_places-p-requires
 judge_places-p-requires c = let s = after_weights c in record { n_bound = s.requires.zones; places_len = (lengths s).places }
@@ -83,25 +83,25 @@ pub judge_shuffles-s-requires : goal.judge_shuffles-s-requires
 judge_shuffles-s-requires c = let s = after_weights ((goal.at.judge_shuffles-s-requires c).After-judge_weights-w) in record { le_n = s.requires.two; n_bound = s.requires.zones; shuffles_len = (lengths s).shuffles }
 
 pub slice_bounds-judge_sums-end : goal.slice_bounds-judge_sums-end
-slice_bounds-judge_sums-end c = let s = after_shuffles ((goal.at.slice_bounds-judge_sums-end c).After-judge_bands-b) in sym (values_there (given s) (lent s) s.requires)
+slice_bounds-judge_sums-end c = let s = after_shuffles c in sym (values_there (given s) (lent s) s.requires)
 
 pub slice_bounds-judge_sums-end-2 : goal.slice_bounds-judge_sums-end-2
-slice_bounds-judge_sums-end-2 c = let s = after_shuffles ((goal.at.slice_bounds-judge_sums-end-2 c).After-judge_places-p) in sym (weights_there (given s) (lent s) s.requires)
+slice_bounds-judge_sums-end-2 c = let s = after_shuffles c in sym (weights_there (given s) (lent s) s.requires)
 
 pub judge_sums-requires : goal.judge_sums-requires
 unfolding lent_job
 judge_sums-requires c =
     let b = c in
-    let s = after_shuffles ((goal.at.judge_sums-requires c).After-judge_places-p) in
+    let s = after_shuffles c in
     let values = values_there (given s) (lent s) s.requires in
-    let weights = weights_there (given s) (lent s) s.requires in record { le_n = s.requires.two; n_bound = s.requires.zones; values_len = values; weights_len = weights; summable = λ e. summable (given s) (job s) weights (sym (judged ((goal.at.judge_sums-requires c).After-judge_places-p)) ∙ e) }
+    let weights = weights_there (given s) (lent s) s.requires in record { le_n = s.requires.two; n_bound = s.requires.zones; values_len = values; weights_len = weights; summable = λ e. summable (given s) (job s) weights (sym (judged c) ∙ e) }
 
 pub returns : goal.returns
 unfolding lent_job
 returns c =
     let b = c in
-    let s = after_shuffles ((goal.at.returns c).After-judge_places-p) in
+    let s = after_shuffles ((goal.at.returns c).After-judge_shuffles-s) in
     let sums = sum_rules (given s).values (job s).values (job s).weights in
     c.judge_sums.ensures
-    ∙ ap (λ k. then k sums) (judged ((goal.at.returns c).After-judge_places-p))
+    ∙ ap (λ k. then k sums) (judged ((goal.at.returns c).After-judge_shuffles-s))
     ∙ then_after (part_rules (given s) (job s)) sums (parts_numbered (given s) (job s))

@@ -15,7 +15,7 @@ use Rattle.image.proofs.Then.{then_kept}
 use Rattle.image.proofs.Accepted.{at_most_all}
 use Rattle.writer.proofs.Counts.{bad_count, by_items}
 use Rattle.writer.proofs.judging.judge_places.Goals as goal
-use Rattle.writer.proofs.judging.judge_places.Goals.{After-judge_none_or_all-count, Else-before-ne0, Else-count-ne0, Start}
+use Rattle.writer.proofs.judging.judge_places.Goals.{After-judge_none_or_all-count, Else-count-ne0, Start}
 
 module _ (c : After-judge_none_or_all-count) where
   abbrev s : Start
@@ -47,12 +47,12 @@ overflow_mul-coordinates c = omega (arith, few c)
 
 pub slice_bounds-judge_in_turn-end : goal.slice_bounds-judge_in_turn-end
 slice_bounds-judge_in_turn-end c =
-    let a = (s ((goal.at.slice_bounds-judge_in_turn-end c).Else-before-ne0)).args in
-    sym (length-take-le (2 * a.k) a.places.now (omega (arith, few ((goal.at.slice_bounds-judge_in_turn-end c).After-judge_none_or_all-count))))
+    let a = (s ((goal.at.slice_bounds-judge_in_turn-end c).After-judge_none_or_all-count)).args in
+    sym (length-take-le (2 * a.k) a.places.now (omega (arith, few c)))
 
 pub returns : goal.returns
 returns c =
     let e = c in
     let b = c in
-    by_items (s ((goal.at.returns c).Else-before-ne0)).args.before b.if-before-ne0.false (part_only ((goal.at.returns c).Else-before-ne0)) 14 (items ((goal.at.returns c).Else-before-ne0)) b.judge_none_or_all-count.result
+    by_items (s ((goal.at.returns c).After-judge_none_or_all-count)).args.before b.if-before-ne0.false (part_only ((goal.at.returns c).After-judge_none_or_all-count)) 14 (items ((goal.at.returns c).After-judge_none_or_all-count)) b.judge_none_or_all-count.result
     b.judge_none_or_all-count.ensures e.if-count-ne0.false c.judge_in_turn.result c.judge_in_turn.ensures

@@ -52,14 +52,14 @@ pub overflow_mul-entries : goal.overflow_mul-entries
 overflow_mul-entries c = omega (arith, room c)
 
 pub slice_bounds-judge_shuffles-end : goal.slice_bounds-judge_shuffles-end
-slice_bounds-judge_shuffles-end c = sym (there ((goal.at.slice_bounds-judge_shuffles-end c).After-judge_shuffle_count-count))
+slice_bounds-judge_shuffles-end c = sym (there c)
 
 pub returns : goal.returns
 returns c =
     let e = c in
-    let a = (s (b ((goal.at.returns c).After-judge_shuffle_count-count))).args in
-    let p = ((s (b ((goal.at.returns c).After-judge_shuffle_count-count))).requires.le_n, ((s (b ((goal.at.returns c).After-judge_shuffle_count-count))).requires.n_bound, (s (b ((goal.at.returns c).After-judge_shuffle_count-count))).requires.shuffles_len)) in
-    by_items a.before (b ((goal.at.returns c).After-judge_shuffle_count-count)).if-before-ne0.false (ltb 499 a.k) 14 (shuffle_rules a.n (entries (b ((goal.at.returns c).After-judge_shuffle_count-count))))
-    (b ((goal.at.returns c).After-judge_shuffle_count-count)).judge_shuffle_count-count.result
-    (b ((goal.at.returns c).After-judge_shuffle_count-count)).judge_shuffle_count-count.ensures e.if-count-ne0.false c.judge_shuffles.result
-    (c.judge_shuffles.ensures ∙ shuffles_decide a.n a.k (entries (b ((goal.at.returns c).After-judge_shuffle_count-count))) p.0 p.1.0 (few ((goal.at.returns c).After-judge_shuffle_count-count)) (there ((goal.at.returns c).After-judge_shuffle_count-count)))
+    let a = (s (b ((goal.at.returns c).Else-count-ne0))).args in
+    let p = ((s (b ((goal.at.returns c).Else-count-ne0))).requires.le_n, ((s (b ((goal.at.returns c).Else-count-ne0))).requires.n_bound, (s (b ((goal.at.returns c).Else-count-ne0))).requires.shuffles_len)) in
+    by_items a.before (b ((goal.at.returns c).Else-count-ne0)).if-before-ne0.false (ltb 499 a.k) 14 (shuffle_rules a.n (entries (b ((goal.at.returns c).Else-count-ne0))))
+    (b ((goal.at.returns c).Else-count-ne0)).judge_shuffle_count-count.result
+    (b ((goal.at.returns c).Else-count-ne0)).judge_shuffle_count-count.ensures e.if-count-ne0.false c.judge_shuffles.result
+    (c.judge_shuffles.ensures ∙ shuffles_decide a.n a.k (entries (b ((goal.at.returns c).Else-count-ne0))) p.0 p.1.0 (few ((goal.at.returns c).Else-count-ne0)) (there ((goal.at.returns c).Else-count-ne0)))
