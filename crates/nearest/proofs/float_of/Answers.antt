@@ -3,7 +3,6 @@ use mathlib.Core.Path.{◌≡◌, sym, ap, ◌∙◌}
 use mathlib.Core.Bool.{false}
 use Prim.Native.Nat.{ℕ, ◌<◌}
 use native.Mathlib.Omega.{arith}
-use borrow.Author.Rules.{rules}
 use lib.Ieee.{round, binary64}
 use lib.IntN.{nat_abs}
 use mir.Syntax.{w64}
@@ -48,10 +47,15 @@ ratio-x-requires c =
     let g = accepted a.args.p a.args.q a.requires in
     let e = p_size ((goal.at.ratio-x-requires c).After-size-a) in
     let f = q_size c in
-    let some = above c.size-a.result c.if-a-eq0.false in let all = (some, (rw e (under _ g.p_near), (rw f (one_some a.args.q g.one), rw f (under _ g.q_near))))
+    record {
+      a_nonzero = above c.size-a.result c.if-a-eq0.false;
+      a_bound = rw e (under _ g.p_near);
+      q_nonzero = rw f (one_some a.args.q g.one);
+      q_bound = rw f (under _ g.q_near);
+    }
   where
-    above : (((goal.at.ratio-x-requires c).Start) : ℕ) → (((goal.at.ratio-x-requires c).Start) ≡ 0 → ⊥) → 0 < ((goal.at.ratio-x-requires c).Start)
-    above ((goal.at.ratio-x-requires c).Start) h = omega arith in record { a_nonzero = all.0; a_bound = all.1.0; q_nonzero = all.1.1.0; q_bound = all.1.1.1 }
+    above : (a : ℕ) → (a ≡ 0 → ⊥) → 0 < a
+    above a h = omega arith
 
 pub returns-then-is_below_zero : goal.returns-then-is_below_zero
 returns-then-is_below_zero c =

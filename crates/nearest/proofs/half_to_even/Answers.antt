@@ -2,7 +2,6 @@
 use mathlib.Core.Path.{◌≡◌}
 use mathlib.Core.Bool.{Bool, true, false}
 use Prim.Native.Nat.{ℕ, ◌+◌, ◌*◌, compare}
-use borrow.Author.Rules.{rules}
 use lib.Ieee.{nearest}
 use Rattle.halves.specs.Halves.{rounds_up}
 use Rattle.halves.proofs.Rounding.{rounded}

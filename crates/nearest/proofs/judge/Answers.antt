@@ -1,8 +1,6 @@
 -- `judge` meets its contract: its test is that of rule 18, part by part. Assumes nothing.
 use mathlib.Core.Path.{◌≡◌, refl, sym, ap, ◌∙◌}
-use mathlib.Core.Logic.{⊎_elim}
 use mathlib.Core.Bool.{Bool, true, false, ◌||◌}
-use borrow.Author.Rules.{rules}
 use lib.Dec.{ltb}
 use lib.IntN.{ℤ, pos, nat_abs}
 use lib.Signed.{lt_z}
@@ -12,7 +10,7 @@ use Rattle.whole.specs.Integer.{beyond}
 use Rattle.whole.specs.Rules.{ratio_limit}
 use Rattle.nearest.proofs.Accepted.{refused, let_in}
 use Rattle.nearest.proofs.judge.Goals as goal
-use Rattle.nearest.proofs.judge.Goals.{Joined-q-lt1, Joined-size-gt-LIMIT}
+use Rattle.nearest.proofs.judge.Goals.{Joined-q-lt1, Joined-size-gt-LIMIT, then-q-lt1, else-q-lt1, then-size-gt-LIMIT, else-size-gt-LIMIT}
 
 -- a test that is decided by its first part, and one that is not
 by_first : (x a b : Bool) → x ≡ a → a ≡ true → x ≡ (a || b)
@@ -21,27 +19,28 @@ by_first x a b e f = rw (e, f) refl
 by_second : (x a b : Bool) → x ≡ b → a ≡ false → x ≡ (a || b)
 by_second x a b e f = rw (e, f) refl
 
-two : (c : Joined-q-lt1) → c.if-q-lt1.if-size-gt-LIMIT ≡ (lt_z c.args.q (pos 1) || beyond ratio_limit c.args.p)
+two : (c : Joined-q-lt1) → c.if-q-lt1.value ≡ (lt_z c.args.q (pos 1) || beyond ratio_limit c.args.p)
 two c =
     let a = c in
     let q = ap (λ (z : ℤ). lt_z z (pos 1)) (to_z-of_z w64 a.args.q a.ranges.q) in
     let p = ap nat_abs (to_z-of_z w64 a.args.p a.ranges.p) in
-    ⊎_elim
-    (λ z. by_first _ _ _ (z.1 ∙ q) (sym q ∙ z.0.taken))
-    (λ z. by_second _ _ _ (z.2 ∙ ap (ltb ratio_limit) (z.1.ensures ∙ p)) (sym q ∙ z.0.left))
-    c.if-q-lt1.branch
+    elim c.if-q-lt1.branch [
+      | then-q-lt1 w ↦ by_first _ _ _ (w.value-is ∙ q) (sym q ∙ w.if-q-lt1.true)
+      | else-q-lt1 w ↦ by_second _ _ _ (w.value-is ∙ ap (ltb ratio_limit) (w.size.ensures ∙ p)) (sym q ∙ w.if-q-lt1.false)
+    ]
 
 three :
     (c : Joined-size-gt-LIMIT) →
     let a = c.args in
-    c.if-size-gt-LIMIT.if-size-gt-LIMIT-2 ≡ (lt_z a.q (pos 1) || beyond ratio_limit a.p || beyond ratio_limit a.q)
+    c.if-size-gt-LIMIT.value ≡ (lt_z a.q (pos 1) || beyond ratio_limit a.p || beyond ratio_limit a.q)
 three c =
     let a = c in
     let q = ap nat_abs (to_z-of_z w64 a.args.q a.ranges.q) in
-    ⊎_elim
-    (λ z. by_first _ _ _ (z.1 ∙ two ((goal.at.Joined-size-gt-LIMIT c).Joined-q-lt1)) (sym (two ((goal.at.Joined-size-gt-LIMIT c).Joined-q-lt1)) ∙ z.0.taken))
-    (λ z. by_second _ _ _ (z.2 ∙ ap (ltb ratio_limit) (z.1.ensures ∙ q)) (sym (two ((goal.at.Joined-size-gt-LIMIT c).Joined-q-lt1)) ∙ z.0.left))
-    c.if-size-gt-LIMIT.branch
+    let first = two ((goal.at.Joined-size-gt-LIMIT c).Joined-q-lt1) in
+    elim c.if-size-gt-LIMIT.branch [
+      | then-size-gt-LIMIT w ↦ by_first _ _ _ (w.value-is ∙ first) (sym first ∙ w.if-size-gt-LIMIT.true)
+      | else-size-gt-LIMIT w ↦ by_second _ _ _ (w.value-is ∙ ap (ltb ratio_limit) (w.size-else-size-gt-LIMIT.ensures ∙ q)) (sym first ∙ w.if-size-gt-LIMIT.false)
+    ]
 
 pub returns-then-size-gt-LIMIT-2 : goal.returns-then-size-gt-LIMIT-2
 returns-then-size-gt-LIMIT-2 c = let a = c.args in refused a.p a.q (sym (three ((goal.at.returns-then-size-gt-LIMIT-2 c).Joined-size-gt-LIMIT)) ∙ c.if-size-gt-LIMIT-2.true)

@@ -1,6 +1,5 @@
 -- `nearest` meets its contract: judged first, and worked only where no rule is broken. Assumes nothing.
 use mathlib.Core.Path.{◌≡◌, sym, ap₂, ◌∙◌}
-use borrow.Author.Rules.{rules}
 use mir.Syntax.{w64}
 use mir.ValLaws.{to_z-of_z}
 use Rattle.nearest.specs.Answers.{nearest_refusal, nearest_float}

@@ -1,7 +1,7 @@
 -- `long_division` meets its contract. The loop keeps whole × divisor + rest at a × 2^halvings. As the whole part has at most 53 digits
 -- the halvings are fewer than 116, since a × 2^halvings is below 2^116. Assumes nothing.
 use mathlib.Core.Path.{◌≡◌, sym, ap, ◌∙◌}
-use Prim.Native.Nat.{ℕ, ◌+◌, ◌*◌, ◌-◌, ◌^◌, ◌≤◌, ◌<◌}
+use Prim.Native.Nat.{ℕ, ◌+◌, ◌*◌, ◌^◌, ◌≤◌, ◌<◌}
 use native.Mathlib.Nat as N
 use native.Mathlib.Omega.{arith}
 use borrow.Author.Rules.{rules}

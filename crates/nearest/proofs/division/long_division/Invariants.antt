@@ -1,11 +1,5 @@
-use mathlib.Core.Path.{◌≡◌, sym, ap, ◌∙◌}
-use Prim.Native.Nat.{ℕ, ◌+◌, ◌*◌, ◌-◌, ◌^◌, ◌≤◌, ◌<◌}
-use native.Mathlib.Nat as N
-use native.Mathlib.Omega.{arith}
-use borrow.Author.Rules.{rules}
-use lib.Arith.{digits_lt}
-use lib.Pow.{pow-add, pow_mono}
-use Rattle.nearest.proofs.Doublings.{less_often}
+use mathlib.Core.Path.{◌≡◌}
+use Prim.Native.Nat.{◌+◌, ◌*◌, ◌-◌, ◌^◌, ◌<◌}
 use Rattle.nearest.proofs.division.long_division.Given as goal
 
 abbrev pub invariant-loop-x : goal.invariant-loop-x

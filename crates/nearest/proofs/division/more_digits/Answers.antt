@@ -3,7 +3,6 @@ use mathlib.Core.Path.{refl}
 use Prim.Native.Nat.{◌<◌}
 use native.Mathlib.Nat.{mod-lt}
 use native.Mathlib.Omega.{arith}
-use borrow.Author.Rules.{rules}
 use Rattle.nearest.proofs.Doublings.{further_most, further_same}
 use Rattle.nearest.proofs.division.more_digits.Goals as goal
 
