@@ -8,6 +8,8 @@
 ghost use Rattle.std.specs.Prelude.{◌<◌};
 
 use nearest::Answer;
+use std::io;
+use std::io::{Print, Read};
 
 // ---- what is written
 
@@ -21,7 +23,7 @@ fn digit(x: u64) -> u8
     }
 }
 
-fn print_bits(bits: u64) {
+fn print_bits(rt: &impl Print, bits: u64) -> io::Result<()> {
     let mut line: [u8; 17] = [10; 17];
     let mut rest = bits;
     let mut i: usize = 16;
@@ -30,38 +32,36 @@ fn print_bits(bits: u64) {
         line[i] = digit(rest % 16);
         rest = rest / 16;
     }
-    io::write_all(1, &line);
+    rt.write_all(&line)
 }
 
-fn print_answer(p: i64, q: i64) {
+fn print_answer(rt: &impl Print, p: i64, q: i64) -> io::Result<()> {
     match nearest::nearest(p, q) {
-        Answer::Refused(number) => {
-            io::write_all(1, b"refused ");
-            io::print_decimal(1, number as u64);
-            io::write_all(1, b"\n");
-        }
-        Answer::Rounded(x) => {
-            print_bits(f64::to_bits(x));
-        }
+        Answer::Refused(number) => println!(rt; "refused {number}"),
+        Answer::Rounded(x) => print_bits(rt, f64::to_bits(x)),
     }
 }
 
 // ---- the input
 
+// How many bytes are read at most: 4,096 ratios.
+const MOST: u64 = 65536;
+
 fn number_at(s: &[u8], at: usize) -> i64 {
     words::signed_long(words::long_at(s, at))
 }
 
-fn run(s: &[u8]) {
+fn run(rt: &impl Print, s: &[u8]) -> io::Result<()> {
     let mut at: usize = 0;
     while at + 15 < s.len() {
-        print_answer(number_at(s, at), number_at(s, at + 8));
+        print_answer(rt, number_at(s, at), number_at(s, at + 8))?;
         at += 16;
     }
+    Ok(())
 }
 
-fn main() {
-    let mut input = io::large_buffer();
-    let end = io::read_full(0, &mut input);
-    run(&input[..end]);
+fn main(rt: HostRuntime) -> io::Result<()> {
+    let mut input = Vec::new(rt.alloc());
+    rt.stdin().take(MOST).read_to_end(&mut input)?;
+    run(&rt, &input)
 }
