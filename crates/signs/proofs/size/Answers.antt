@@ -1,5 +1,4 @@
 -- `size` meets its contract. Assumes nothing.
-use borrow.Author.Rules.{rules}
 use Rattle.whole.proofs.Sign.{not_below, below, Turned}
 use Rattle.signs.proofs.size.Goals as goal
 use Rattle.signs.proofs.size.Goals.{Then-z-lt0}
