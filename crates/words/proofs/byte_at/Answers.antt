@@ -1,7 +1,6 @@
 -- `byte_at` meets its contract. Assumes nothing.
 use mathlib.Core.Path.{sym}
 use native.Mathlib.Omega.{arith}
-use borrow.Author.Rules.{rules}
 use Rattle.words.proofs.Beyond.{byte_beyond}
 use Rattle.words.proofs.byte_at.Goals as goal
 

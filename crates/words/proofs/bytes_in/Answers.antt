@@ -1,13 +1,12 @@
 -- `bytes_in` meets its contract. The loop's invariant: each number passed is its byte. Assumes nothing.
 use mathlib.Core.Path.{◌≡◌, refl, sym, ◌∙◌}
-use mathlib.Core.Logic.{⊎_elim}
-use Prim.Native.Nat.{ℕ, ◌-◌, ◌≤◌, ◌<◌}
 use native.Mathlib.Omega.{arith}
-use lib.ListN.{length, get_or, length-set}
+use lib.ListN.{length-set}
 use Rattle.whole.proofs.Table.{is_table, stored}
 use Rattle.words.specs.Words.{byte_at}
 use Rattle.words.proofs.Beyond.{byte_beyond}
 use Rattle.words.proofs.bytes_in.Goals as goal
+use Rattle.words.proofs.bytes_in.Goals.{then-k-bytes, else-k-bytes}
 
 pub loop-k-init : goal.loop-k-init
 loop-k-init c = (omega arith, refl, λ t h. let z : ⊥ = omega arith in absurd z)
@@ -29,7 +28,10 @@ loop-k-preserved c =
     let b = c in
     let bytes = b.args.bytes.now in
     let is : c.if-k-bytes.number ≡ byte_at bytes b.loop-k.k =
-    ⊎_elim (λ u. u.2) (λ u. u.1 ∙ sym (byte_beyond bytes b.loop-k.k u.0.left)) c.if-k-bytes.branch in (
+    elim c.if-k-bytes.branch [
+      | then-k-bytes w ↦ w.number-is
+      | else-k-bytes w ↦ w.number-is ∙ sym (byte_beyond bytes b.loop-k.k w.if-k-bytes.false)
+    ] in (
       omega arith,
       length-set b.loop-k.numbers b.loop-k.k _ ∙ b.loop-k.invariant.1,
       stored (byte_at bytes) 0 _ b.loop-k.numbers b.loop-k.k (omega arith) is b.loop-k.invariant.2,

@@ -1,11 +1,7 @@
-use mathlib.Core.Path.{◌≡◌, refl, sym, ◌∙◌}
-use mathlib.Core.Logic.{⊎_elim}
+use mathlib.Core.Path.{◌≡◌}
 use Prim.Native.Nat.{ℕ, ◌-◌, ◌≤◌, ◌<◌}
-use native.Mathlib.Omega.{arith}
-use lib.ListN.{length, get_or, length-set}
-use Rattle.whole.proofs.Table.{is_table, stored}
+use lib.ListN.{length, get_or}
 use Rattle.words.specs.Words.{byte_at}
-use Rattle.words.proofs.Beyond.{byte_beyond}
 use Rattle.words.proofs.bytes_in.Given as goal
 
 abbrev pub invariant-loop-k : goal.invariant-loop-k

@@ -1,7 +1,6 @@
 -- `long_at` meets its contract. Assumes nothing.
 use mathlib.Core.Path.{sym}
 use native.Mathlib.Omega.{arith}
-use borrow.Author.Rules.{rules}
 use Rattle.words.specs.Words.{long_at}
 use Rattle.words.proofs.Beyond.{long_beyond}
 use Rattle.words.proofs.long_at.Goals as goal

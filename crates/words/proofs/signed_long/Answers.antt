@@ -1,7 +1,6 @@
 -- `signed_long` meets its contract. Assumes nothing.
 use Prim.Native.Nat.{◌-◌}
 use native.Mathlib.Omega.{arith}
-use borrow.Author.Rules.{rules}
 use mir.Syntax.{w64}
 use Rattle.whole.proofs.Sign.{minus_fits, minus_is}
 use Rattle.words.proofs.signed_long.Goals as goal

@@ -1,7 +1,6 @@
 -- `signed_word` meets its contract. Assumes nothing.
 use Prim.Native.Nat.{◌-◌}
 use native.Mathlib.Omega.{arith}
-use borrow.Author.Rules.{rules}
 use mir.Syntax.{w32}
 use Rattle.whole.proofs.Sign.{minus_fits, minus_is}
 use Rattle.words.proofs.signed_word.Goals as goal

@@ -1,16 +1,13 @@
 -- `signed_words_in` meets its contract. The loop's invariant: each number passed is that of its four bytes. Assumes nothing.
-use mathlib.Core.Path.{◌≡◌, refl, ap, ◌∙◌}
-use mathlib.Core.List.{List}
-use Prim.Native.Nat.{ℕ, ◌*◌, ◌-◌, ◌≤◌, ◌<◌}
+use mathlib.Core.Path.{refl, ap, ◌∙◌}
 use native.Mathlib.Omega.{arith}
 use borrow.Author.Rules.{sfits_of}
-use lib.IntN.{ℤ, pos}
-use lib.ListN.{length, get_or, length-set}
+use lib.IntN.{pos}
+use lib.ListN.{length-set}
 use mir.Syntax.{w32}
 use mir.Val.{to_z}
 use mir.ValLaws.{to_z-of_z}
 use Rattle.whole.proofs.Table.{is_table, stored}
-use Rattle.words.specs.Words.{word_at}
 use Rattle.words.proofs.signed_words_in.Invariants.{number_at}
 use Rattle.words.proofs.signed_words_in.Goals as goal
 

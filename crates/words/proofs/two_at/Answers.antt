@@ -1,7 +1,6 @@
 -- `two_at` meets its contract. Assumes nothing.
 use mathlib.Core.Path.{sym}
 use native.Mathlib.Omega.{arith}
-use borrow.Author.Rules.{rules}
 use Rattle.words.specs.Words.{two_at}
 use Rattle.words.proofs.Beyond.{two_beyond}
 use Rattle.words.proofs.two_at.Goals as goal

@@ -1,7 +1,6 @@
 -- `word_at` meets its contract. Assumes nothing.
 use mathlib.Core.Path.{sym}
 use native.Mathlib.Omega.{arith}
-use borrow.Author.Rules.{rules}
 use Rattle.words.specs.Words.{word_at}
 use Rattle.words.proofs.Beyond.{word_beyond}
 use Rattle.words.proofs.word_at.Goals as goal

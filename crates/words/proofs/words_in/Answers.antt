@@ -1,11 +1,8 @@
 -- `words_in` meets its contract. The loop's invariant: each number passed is that of its four bytes. Assumes nothing.
-use mathlib.Core.Path.{◌≡◌, refl, ◌∙◌}
-use mathlib.Core.List.{List}
-use Prim.Native.Nat.{ℕ, ◌*◌, ◌-◌, ◌≤◌, ◌<◌}
+use mathlib.Core.Path.{refl, ◌∙◌}
 use native.Mathlib.Omega.{arith}
-use lib.ListN.{length, get_or, length-set}
+use lib.ListN.{length-set}
 use Rattle.whole.proofs.Table.{is_table, stored}
-use Rattle.words.specs.Words.{word_at}
 use Rattle.words.proofs.words_in.Invariants.{number_at}
 use Rattle.words.proofs.words_in.Goals as goal
 

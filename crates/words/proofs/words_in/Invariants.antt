@@ -1,9 +1,7 @@
-use mathlib.Core.Path.{◌≡◌, refl, ◌∙◌}
+use mathlib.Core.Path.{◌≡◌}
 use mathlib.Core.List.{List}
 use Prim.Native.Nat.{ℕ, ◌*◌, ◌-◌, ◌≤◌, ◌<◌}
-use native.Mathlib.Omega.{arith}
-use lib.ListN.{length, get_or, length-set}
-use Rattle.whole.proofs.Table.{is_table, stored}
+use lib.ListN.{length, get_or}
 use Rattle.words.specs.Words.{word_at}
 use Rattle.words.proofs.words_in.Given as goal
 
