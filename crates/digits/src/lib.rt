@@ -4,13 +4,12 @@
 ghost use Rattle.std.specs.Prelude.{◌≡◌, ◌+◌, ◌^◌, ◌≤◌, ◌<◌, length};
 ghost use Rattle.std.proofs.lemmas.List.Edits.{sets};
 ghost use Rattle.whole.specs.Table.{over};
-ghost use Rattle.digits.specs.Digits.{unsigned, decimal, hexadecimal};
-ghost use Rattle.digits.specs.Digits.{digit as Digits·digit};
+ghost use Rattle.digits.specs.Digits.{digit, unsigned, decimal, hexadecimal};
 
 // The code of a digit.
 fn digit(d: u64) -> u8
     requires { d < 16 }
-    ensures { result ≡ Digits·digit d }
+    ensures { result ≡ digit d }
 {
     if d < 10 { 48 + d as u8 } else { 55 + d as u8 }
 }

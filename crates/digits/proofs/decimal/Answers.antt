@@ -2,7 +2,6 @@
 use mathlib.Core.Path.{◌≡◌, sym, ap, ◌∙◌}
 use mathlib.Core.List.{◌∷◌}
 use native.Mathlib.Omega.{arith}
-use borrow.Author.Rules.{rules}
 use lib.IntN.{nat_abs}
 use lib.ListN.{length, length-set}
 use lib.Seq.{sets}
@@ -13,7 +12,7 @@ use Rattle.whole.proofs.Stores.{stored_over}
 use Rattle.digits.specs.Digits.{unsigned, decimal}
 use Rattle.digits.proofs.DecimalDigits.{size_most, decimal_below, decimal_not_below}
 use Rattle.digits.proofs.decimal.Goals as goal
-use Rattle.digits.proofs.decimal.Goals.{After-decimal_places-k, After-is_below_zero, After-size-n, Then-is_below_zero}
+use Rattle.digits.proofs.decimal.Goals.{After-is_below_zero, After-size-n}
 
 -- what the two calls answer of the number
 size_is : (c : After-size-n) → c.size-n.result ≡ nat_abs c.args.number
@@ -32,8 +31,8 @@ returns-then-is_below_zero c =
     let s = c in
     let a = s.args in
     let e : decimal a.number ≡ 45 ∷ unsigned s.size-n.result =
-    decimal_below a.number (sym (sign_is ((goal.at.returns-then-is_below_zero c).Then-is_below_zero)) ∙ c.if-is_below_zero.true)
-    ∙ ap (λ n. 45 ∷ unsigned n) (sym (size_is ((goal.at.returns-then-is_below_zero c).After-decimal_places-k))) in
+    decimal_below a.number (sym (sign_is ((goal.at.returns-then-is_below_zero c).After-is_below_zero)) ∙ c.if-is_below_zero.true)
+    ∙ ap (λ n. 45 ∷ unsigned n) (sym (size_is ((goal.at.returns-then-is_below_zero c).After-size-n))) in
     let many = ap length e in record {
       length = omega arith;
       few = omega arith;

@@ -1,9 +1,5 @@
 -- `decimal_places` meets its contract. The loop's invariant: with those of the rest, the digits counted are 1 too many. Assumes nothing.
-use mathlib.Core.Path.{◌≡◌}
-use Prim.Native.Nat.{◌+◌}
 use native.Mathlib.Omega.{arith}
-use lib.ListN.{length}
-use Rattle.digits.specs.Digits.{unsigned}
 use Rattle.digits.proofs.DecimalDigits.{places_one, places_more, places_some, places_19}
 use Rattle.digits.proofs.decimal_places.Goals as goal
 

@@ -1,9 +1,7 @@
 use mathlib.Core.Path.{◌≡◌}
 use Prim.Native.Nat.{◌+◌}
-use native.Mathlib.Omega.{arith}
 use lib.ListN.{length}
 use Rattle.digits.specs.Digits.{unsigned}
-use Rattle.digits.proofs.DecimalDigits.{places_one, places_more, places_some, places_19}
 use Rattle.digits.proofs.decimal_places.Given as goal
 
 abbrev pub invariant-loop-rest : goal.invariant-loop-rest

@@ -1,5 +1,4 @@
 -- `digit` meets its contract. Assumes nothing.
-use borrow.Author.Rules.{rules}
 use borrow.Author.Tests.{lt-ltb, le-ltb}
 use native.Mathlib.Omega.{arith}
 use Rattle.digits.proofs.digit.Goals as goal

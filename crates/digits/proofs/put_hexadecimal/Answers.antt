@@ -1,9 +1,9 @@
 -- `put_hexadecimal` meets its contract. The loop's invariant: the last i digits of the rest are yet to be stored. Assumes nothing.
 use mathlib.Core.Path.{◌≡◌, ap, ◌∙◌}
-use Prim.Native.Nat.{◌+◌, ◌-◌, ◌/◌, ◌%◌, ◌≤◌}
+use Prim.Native.Nat.{◌+◌, ◌-◌, ◌/◌, ◌%◌}
 use native.Mathlib.Omega.{arith}
 use lib.ListN.{length, set}
-use Rattle.whole.proofs.Stores.{Unstored, unstored_length, unstored_all, unstored_last, unstored_none, stored_whole}
+use Rattle.whole.proofs.Stores.{unstored_length, unstored_all, unstored_last, unstored_none, stored_whole}
 use Rattle.digits.specs.Digits.{digit, hexadecimal_digits, hexadecimal}
 use Rattle.digits.proofs.HexadecimalDigits.{hexadecimal_length, hexadecimal_more}
 use Rattle.digits.proofs.put_hexadecimal.Goals as goal

@@ -1,10 +1,6 @@
-use mathlib.Core.Path.{◌≡◌, ap, ◌∙◌}
-use Prim.Native.Nat.{◌+◌, ◌-◌, ◌/◌, ◌%◌, ◌≤◌}
-use native.Mathlib.Omega.{arith}
-use lib.ListN.{length, set}
-use Rattle.whole.proofs.Stores.{Unstored, unstored_length, unstored_all, unstored_last, unstored_none, stored_whole}
-use Rattle.digits.specs.Digits.{digit, hexadecimal_digits, hexadecimal}
-use Rattle.digits.proofs.HexadecimalDigits.{hexadecimal_length, hexadecimal_more}
+use Prim.Native.Nat.{◌≤◌}
+use Rattle.whole.proofs.Stores.{Unstored}
+use Rattle.digits.specs.Digits.{hexadecimal_digits}
 use Rattle.digits.proofs.put_hexadecimal.Given as goal
 
 abbrev pub invariant-loop-i : goal.invariant-loop-i

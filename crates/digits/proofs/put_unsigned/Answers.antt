@@ -1,10 +1,10 @@
 -- `put_unsigned` meets its contract. The loop's invariant: the digits of the rest are yet to be stored. Assumes nothing.
 use mathlib.Core.Path.{◌≡◌, sym, ap, ◌∙◌}
-use Prim.Native.Nat.{◌+◌, ◌/◌, ◌%◌, ◌<◌}
+use Prim.Native.Nat.{◌+◌, ◌/◌, ◌%◌}
 use native.Mathlib.Omega.{arith}
 use lib.ListN.{length, set, length-set}
 use lib.Seq.{sets}
-use Rattle.whole.proofs.Stores.{Unstored, unstored_length, unstored_all, unstored_last}
+use Rattle.whole.proofs.Stores.{unstored_length, unstored_all, unstored_last}
 use Rattle.digits.specs.Digits.{digit, unsigned}
 use Rattle.digits.proofs.DecimalDigits.{unsigned_one, unsigned_more, places_more, places_some}
 use Rattle.digits.proofs.put_unsigned.Goals as goal

@@ -1,11 +1,8 @@
-use mathlib.Core.Path.{◌≡◌, sym, ap, ◌∙◌}
-use Prim.Native.Nat.{◌+◌, ◌/◌, ◌%◌, ◌<◌}
-use native.Mathlib.Omega.{arith}
-use lib.ListN.{length, set, length-set}
-use lib.Seq.{sets}
-use Rattle.whole.proofs.Stores.{Unstored, unstored_length, unstored_all, unstored_last}
-use Rattle.digits.specs.Digits.{digit, unsigned}
-use Rattle.digits.proofs.DecimalDigits.{unsigned_one, unsigned_more, places_more, places_some}
+use mathlib.Core.Path.{◌≡◌}
+use Prim.Native.Nat.{◌+◌, ◌<◌}
+use lib.ListN.{length}
+use Rattle.whole.proofs.Stores.{Unstored}
+use Rattle.digits.specs.Digits.{unsigned}
 use Rattle.digits.proofs.put_unsigned.Given as goal
 
 abbrev pub invariant-loop-rest : goal.invariant-loop-rest
