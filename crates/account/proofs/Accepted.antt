@@ -5,7 +5,7 @@ use mathlib.Core.List.{List, [], ◌∷◌, ◌++◌}
 use Prim.Native.Nat.{ℕ, ◌*◌, ◌≤◌, ◌<◌}
 use native.Mathlib.Omega.{arith}
 use borrow.Author.Tests.{le-ltb, eq-eqb}
-use lib.Dec.{ltb, eqb}
+use lib.Dec.{eqb}
 use lib.IntN.{ℤ, nat_abs}
 use lib.ListN.{length, get_or}
 use Rattle.whole.specs.Integer.{is_zero}
@@ -13,7 +13,7 @@ use Rattle.whole.specs.Rules.{Rule, first_broken, misfits, size_rules}
 use Rattle.whole.proofs.Rules.{holds, first_none, both_hold, fits, sizes_hold, sizes_let_in}
 use Rattle.whole.proofs.Search.{none_beyond, none_above}
 use Rattle.whole.proofs.Size.{some_size}
-use Rattle.whole.specs.Table.{at, pair_at}
+use Rattle.whole.specs.Table.{pair_at}
 use Rattle.whole.specs.Search.{any_beyond, any_above, any_on_diagonal}
 use Rattle.shuffles.specs.Shuffles.{shuffle_count, any_lacking, shuffle_refusal}
 use Rattle.shuffles.specs.Steps.{Shuffles}

@@ -1,6 +1,6 @@
 -- A territory in which every zone touches another: what holds of the zones kept is what holds of all, so that every figure and every
 -- refusal is the one of zones that all count. Assumes nothing.
-use mathlib.Core.Path.{◌≡◌, refl, sym, ap, ◌∙◌}
+use mathlib.Core.Path.{◌≡◌, refl, ap, ◌∙◌}
 use mathlib.Core.Bool.{false}
 use mathlib.Core.List.{List, [], ◌∷◌, ◌++◌}
 use Prim.Native.Nat.{ℕ, ◌*◌, ◌<◌}
@@ -8,10 +8,10 @@ use lib.IntN.{ℤ, pos}
 use lib.ListN.{length}
 use Rattle.whole.specs.Integer.{is_zero}
 use Rattle.whole.specs.Order.{lacks}
-use Rattle.whole.specs.Table.{table, at, pair_at}
+use Rattle.whole.specs.Table.{at, pair_at}
 use Rattle.whole.proofs.Table.{table_cong}
 use Rattle.whole.proofs.TableRows.{rows_cong}
-use Rattle.kept.specs.Kept.{kept_count, kept_values, kept_pairs, kept_shuffles, put_back}
+use Rattle.kept.specs.Kept.{kept_count, kept_values, kept_pairs}
 use Rattle.kept.proofs.KeptZones.{same_values, same_pairs, same_put_back}
 use Rattle.kept.proofs.KeptShuffle.{same_shuffles}
 use Rattle.shuffles.specs.Shuffles.{shuffle_count}

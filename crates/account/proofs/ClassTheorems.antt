@@ -6,7 +6,7 @@ use Prim.Native.Nat.{ℕ, ◌+◌, ◌*◌, ◌≤◌, ◌<◌}
 use native.Mathlib.Nat as N
 use native.Mathlib.Omega.{arith}
 use borrow.Author.Tests.{eq-eqb}
-use lib.IntN.{ℤ, pos, ◌*ℤ◌}
+use lib.IntN.{ℤ, pos}
 use lib.ListN.{length, get_or}
 use Rattle.whole.specs.Rules.{first_broken, Applies, misfits}
 use Rattle.whole.specs.Search.{any_above}
@@ -16,7 +16,7 @@ use Rattle.whole.proofs.Lists.{within}
 use Rattle.whole.proofs.Rules.{first_least, first_applies}
 use Rattle.whole.proofs.Search.{all_within}
 use Rattle.whole.proofs.TableRows as rows
-use Rattle.kept.specs.Kept.{kept_count, kept_values, kept_pairs, put_back}
+use Rattle.kept.specs.Kept.{kept_count, kept_values, kept_pairs}
 use Rattle.kept.proofs.KeptZones.{pairs_each, put_back_sum, put_back_cong, put_back_sums}
 use Rattle.account.specs.Measures.{deviation_of}
 use Rattle.account.specs.Limits.{Limits}

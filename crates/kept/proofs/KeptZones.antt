@@ -1,7 +1,7 @@
 -- Laws of the kept zones and of their lists: what stands where, the lists themselves where all zones are kept, sums over the kept zones
 -- and sums over all, and that two zones are kept where there is weight. Assumes nothing.
 use mathlib.Core.Path.{◌≡◌, refl, sym, ap, ◌∙◌, subst}
-use mathlib.Core.Bool.{Bool, true, false, cond, ◌||◌}
+use mathlib.Core.Bool.{Bool, true, false, ◌||◌}
 use mathlib.Core.List.{List}
 use Prim.Native.Nat.{ℕ, ◌+◌, ◌*◌, ◌/◌, ◌%◌, ◌≤◌, ◌<◌}
 use native.Mathlib.Decide.{dec_lt}
@@ -10,16 +10,16 @@ use borrow.Author.Tests.{lt-ltb, ltb-false}
 use lib.Dec.{ltb}
 use lib.IntN.{ℤ, pos}
 use lib.ListN.{length, get_or}
-use Rattle.whole.specs.Search.{some, count}
+use Rattle.whole.specs.Search.{count}
 use Rattle.whole.specs.Sum.{sum}
 use Rattle.whole.specs.Table.{table, table_rows, at, pair_at}
 use Rattle.whole.proofs.Counting.{count_le, count_less}
 use Rattle.whole.proofs.Rules.{neither}
 use Rattle.whole.proofs.Search.{some_none, some_found}
 use Rattle.whole.proofs.Sum.{sum_cong, sum_none}
-use Rattle.whole.proofs.Table.{table_length, table_at, is_table, table_cong}
+use Rattle.whole.proofs.Table.{table_length, table_at, is_table}
 use Rattle.whole.proofs.TableRows.{split, rows_length, rows_at, rows_each, rows_flat}
-use Rattle.kept.specs.Kept.{keeps, kept_zones, kept_count, kept_zone, kept_place, kept_values, kept_pairs, kept_row, kept_shuffles, put_back}
+use Rattle.kept.specs.Kept.{keeps, kept_zones, kept_count, kept_zone, kept_place, kept_values, kept_pairs, put_back}
 use Rattle.kept.proofs.Passing.{Stands, passing_length, place_below, nth_place, nth_stands, passing_sum, passing_sum_all, all_pass, own_place}
 
 module _ (n : ℕ) (weights : List ℕ) where

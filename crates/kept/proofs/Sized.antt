@@ -1,7 +1,7 @@
 -- A call that is lent weights and one list more: by which number its sizes are refused, and what they are where they are not. Assumes
 -- nothing.
 use mathlib.Core.Path.{◌≡◌, refl}
-use mathlib.Core.List.{List, [], ◌∷◌}
+use mathlib.Core.List.{[], ◌∷◌}
 use Prim.Native.Nat.{ℕ, ◌*◌, ◌≤◌}
 use borrow.Author.Tests.{eq-eqb}
 use Rattle.whole.specs.Rules.{first_broken, size_rules}

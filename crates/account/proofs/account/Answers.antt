@@ -6,7 +6,6 @@ use Rattle.account.specs.Answers.{figures_of}
 use Rattle.account.proofs.Accepted.{Accepted, accepted}
 use Rattle.account.proofs.Answered.{refused, accounted}
 use Rattle.account.proofs.Found.{Left, found_left}
-use borrow.Author.Rules.{rules}
 use Rattle.account.proofs.account.Goals as goal
 use Rattle.account.proofs.account.Goals.{After-judge_account-found, Else-refusal-ne0, Start}
 

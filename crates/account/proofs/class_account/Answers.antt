@@ -1,14 +1,12 @@
 -- `class_account` meets its contract: judged first, and worked only where no rule is broken. Assumes nothing.
 use mathlib.Core.Path.{◌≡◌, refl, sym, ◌∙◌}
 use Prim.Native.Nat.{ℕ}
-use lib.ListN.{length}
 use lib.Seq.{length-take-le}
 use Rattle.whole.proofs.Rules.{kept_when_refused, worked_when_taken}
 use Rattle.account.specs.Answers.{number_of, figures_of}
 use Rattle.account.specs.Classes.{class_refusal, class_account_figures, class_account_rows, class_account_locals, class_account_own}
 use Rattle.account.proofs.Accepted.{class_job, class_accepted}
 use Rattle.account.proofs.Found.{Left, found_left}
-use borrow.Author.Rules.{rules}
 use Rattle.account.proofs.class_account.Goals as goal
 use Rattle.account.proofs.class_account.Goals.{After-judge_classes-found, Else-number-ne0, Start}
 

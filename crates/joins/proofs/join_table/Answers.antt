@@ -1,6 +1,5 @@
 -- `join_table` meets its contract: judged first, and counted only where no rule is broken. Assumes nothing.
 use mathlib.Core.Path.{◌≡◌, sym, ap, ◌∙◌}
-use borrow.Author.Rules.{rules}
 use lib.IntN.{pos}
 use lib.ListN.{length}
 use Rattle.whole.specs.Table.{table}

@@ -1,13 +1,8 @@
 -- `any_above` meets its contract. The loop's invariant: `found` says whether some number passed is above the limit. Assumes nothing.
-use mathlib.Core.Path.{◌≡◌, sym, ap, ◌∙◌}
-use mathlib.Core.Logic.{⊎_elim}
-use mathlib.Core.Bool.{Bool}
-use mathlib.Core.List.{List}
-use Prim.Native.Nat.{ℕ, ◌+◌, ◌-◌, ◌≤◌}
+use mathlib.Core.Path.{sym, ap, ◌∙◌}
+use Prim.Native.Nat.{◌+◌}
 use native.Mathlib.Omega.{arith}
 use borrow.Author.Tests.{lt-ltb, le-ltb}
-use lib.Dec.{ltb}
-use lib.ListN.{length, get_or}
 use Rattle.whole.specs.Search.{some, any_above}
 use Rattle.whole.proofs.Search.{some_zero, some_found, some_same}
 use Rattle.judges.proofs.any_above.Invariants.{test}

@@ -1,8 +1,7 @@
 -- `any_beyond` meets its contract. The loop's invariant: no number passed is beyond the limit. Assumes nothing.
 use mathlib.Core.Path.{◌≡◌, sym, ap, ◌∙◌}
-use mathlib.Core.Bool.{Bool, true, false}
-use mathlib.Core.List.{List}
-use Prim.Native.Nat.{ℕ, ◌-◌, ◌≤◌, ◌<◌, ◌^◌, zero-le}
+use mathlib.Core.Bool.{true, false}
+use Prim.Native.Nat.{ℕ, ◌≤◌, ◌<◌, ◌^◌, zero-le}
 use native.Mathlib.Omega.{arith}
 use borrow.Author.Rules.{sfits_of}
 use lib.IntN.{ℤ, pos, negsuc, nat_abs, neg_ℤ, ◌-ℤ◌, +ℤ_idl}
@@ -12,7 +11,7 @@ use mir.Syntax.{w32, w64}
 use mir.Val.{to_z}
 use mir.ValLaws.{to_z-of_z}
 use Rattle.whole.specs.Integer.{beyond}
-use Rattle.whole.specs.Search.{some, any_beyond}
+use Rattle.whole.specs.Search.{any_beyond}
 use Rattle.whole.specs.Table.{at}
 use Rattle.whole.proofs.Machine.{Is, val, nat, rd, is__, fit, r32, r64}
 use Rattle.whole.proofs.Size.{size_neg}

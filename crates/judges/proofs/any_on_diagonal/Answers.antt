@@ -1,9 +1,9 @@
 -- `any_on_diagonal` meets its contract. The loop's invariant: `place` is that of the next entry of the diagonal, and none before it has a
 -- weight. Assumes nothing.
 use mathlib.Core.Path.{◌≡◌, sym, ap, ◌∙◌}
-use mathlib.Core.Bool.{Bool, false}
+use mathlib.Core.Bool.{false}
 use mathlib.Core.List.{List}
-use Prim.Native.Nat.{ℕ, ◌+◌, ◌*◌, ◌-◌, ◌≤◌, ◌<◌}
+use Prim.Native.Nat.{ℕ, ◌+◌, ◌*◌, ◌≤◌, ◌<◌}
 use native.Mathlib.Nat as N
 use native.Mathlib.Decide.{dec_lt}
 use native.Mathlib.Omega.{arith}

@@ -1,12 +1,10 @@
 -- `keep` meets its contract: the number of the sizes, or the zones kept at the front of the list. Assumes nothing.
 use mathlib.Core.Path.{◌≡◌, sym, ap, ◌∙◌}
 use mathlib.Core.List.{◌∷◌, []}
-use Prim.Native.Nat.{ℕ}
 use lib.ListN.{length}
 use Rattle.whole.proofs.Rules.{kept_when_refused, worked_when_taken}
 use Rattle.kept.specs.Answers.{number_of, many_in, keep_refusal, keep_many, keep_left}
 use Rattle.kept.proofs.Sized.{Fitting, same_sizes, fitting}
-use borrow.Author.Rules.{rules}
 use Rattle.kept.proofs.keep.Goals as goal
 use Rattle.kept.proofs.keep.Goals.{After-judge_sizes-sizes, Else-sizes-ne0}
 

@@ -1,12 +1,9 @@
 -- `mark` meets its contract: the number of the sizes, or a mark for each zone. Assumes nothing.
-use mathlib.Core.Path.{◌≡◌, sym, ap, ◌∙◌}
-use mathlib.Core.List.{◌∷◌, []}
-use Prim.Native.Nat.{ℕ}
+use mathlib.Core.Path.{◌≡◌, sym, ◌∙◌}
 use lib.ListN.{length}
 use Rattle.whole.proofs.Rules.{kept_when_refused, worked_when_taken}
 use Rattle.kept.specs.Answers.{marks_refusal, marks_left}
 use Rattle.kept.proofs.Sized.{Fitting, same_sizes, fitting}
-use borrow.Author.Rules.{rules}
 use Rattle.kept.proofs.mark.Goals as goal
 use Rattle.kept.proofs.mark.Goals.{After-judge_sizes-sizes, Else-sizes-ne0}
 

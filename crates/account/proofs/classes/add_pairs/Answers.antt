@@ -1,7 +1,7 @@
 -- `add_pairs` meets its contract. The loop's invariant: the parts hold the sums over the pairs passed. Assumes nothing.
 use mathlib.Core.Path.{◌≡◌, sym, ap, ◌∙◌}
 use mathlib.Core.List.{List}
-use Prim.Native.Nat.{ℕ, zero, suc, ◌+◌, ◌*◌, ◌-◌, ◌≤◌, ◌<◌}
+use Prim.Native.Nat.{ℕ, zero, suc, ◌+◌, ◌*◌, ◌≤◌, ◌<◌}
 use native.Mathlib.Nat as N
 use native.Mathlib.Omega.{arith}
 use lib.IntN.{ℤ, pos, ◌-ℤ◌, ◌*ℤ◌}
@@ -9,7 +9,7 @@ use lib.ListN.{length, get_or}
 use mir.Syntax.{w64}
 use mir.Val.{to_z}
 use Rattle.whole.specs.Integer.{square}
-use Rattle.whole.specs.Table.{table_rows, at, pair_at}
+use Rattle.whole.specs.Table.{at, pair_at}
 use Rattle.whole.proofs.Lists.{within, few}
 use Rattle.whole.proofs.Machine.{Is, nat, rd, is_*, fit, fits_le, r64}
 use Rattle.whole.proofs.TableRows.{rows_length}
@@ -19,7 +19,7 @@ use Rattle.account.specs.Steps.{counted}
 use Rattle.account.specs.declared.ClassRow.{ClassRow}
 use Rattle.account.proofs.Locals.{deviations_sized, deviation_is}
 use Rattle.account.proofs.Reading.{place, weight_le, read_le, difference_told}
-use Rattle.account.proofs.ZoneByZone.{pairs_in, no_pairs, one_pair, all_pairs, pairs_sized, added_small}
+use Rattle.account.proofs.ZoneByZone.{no_pairs, one_pair, all_pairs, pairs_sized, added_small}
 use Rattle.account.proofs.classes.add_pairs.Goals as goal
 use Rattle.account.proofs.classes.add_pairs.Goals.{After-squared_difference-square, In-loop-j, Start}
 

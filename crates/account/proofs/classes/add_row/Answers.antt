@@ -8,7 +8,6 @@ use Rattle.whole.specs.Table.{at}
 use Rattle.whole.proofs.Machine.{Is, val, rd, is_+, fit, r64}
 use Rattle.account.specs.declared.ClassRow.{ClassRow}
 use Rattle.account.proofs.ByClass.{row_stored}
-use borrow.Author.Rules.{rules}
 use Rattle.account.proofs.classes.add_row.Goals as goal
 use Rattle.account.proofs.classes.add_row.Goals.{After-squared-1, Start}
 

@@ -2,14 +2,14 @@
 -- before it in those of all; the local numerators of zone i in the first k classes are added up. Assumes nothing.
 use mathlib.Core.Path.{◌≡◌, refl, sym, ap, ◌∙◌}
 use mathlib.Core.List.{List}
-use Prim.Native.Nat.{ℕ, zero, suc, ◌+◌, ◌*◌, ◌-◌, ◌≤◌, ◌<◌}
+use Prim.Native.Nat.{ℕ, zero, suc, ◌+◌, ◌*◌, ◌≤◌, ◌<◌}
 use native.Mathlib.Nat as N
 use native.Mathlib.Omega.{arith}
 use borrow.Author.Tests.{lt-ltb, le-ltb}
 use lib.IntN.{ℤ, pos, nat_abs, ◌+ℤ◌, ◌*ℤ◌}
-use lib.ListN.{length, length-set}
+use lib.ListN.{length-set}
 use mir.Syntax.{w64}
-use mir.Val.{to_z, of_z}
+use mir.Val.{to_z}
 use Rattle.whole.specs.Sum.{sum}
 use Rattle.whole.specs.Table.{table, table_rows, at, pair_at}
 use Rattle.whole.proofs.Accumulate.{Bounded, acc_none, acc_more, acc_done}
@@ -18,7 +18,7 @@ use Rattle.whole.proofs.SumSize.{sum_size}
 use Rattle.whole.proofs.Table.{stored}
 use Rattle.account.specs.Measures.{deviation_of, local_of}
 use Rattle.account.specs.Classes.{zones_class_local, sum_at}
-use Rattle.account.specs.Steps.{zone_part, zone_sum, Zoned, Owned}
+use Rattle.account.specs.Steps.{zone_part, zone_sum, Owned}
 use Rattle.account.specs.declared.ClassRow.{ClassRow}
 use Rattle.account.proofs.ByClass.{sums_at}
 use Rattle.account.proofs.Locals.{deviations_sized, deviation_is}

@@ -2,7 +2,6 @@
 -- zones passed are in the rows and in the local numerators, those of the classes and the job's own. Assumes nothing.
 use mathlib.Core.Path.{◌≡◌, sym, ◌∙◌}
 use mathlib.Core.List.{List}
-use Prim.Native.Nat.{ℕ, ◌-◌, ◌≤◌, ◌<◌}
 use native.Mathlib.Omega.{arith}
 use lib.IntN.{ℤ, pos}
 use lib.ListN.{length}
@@ -14,7 +13,7 @@ use Rattle.whole.proofs.Lists.{front, front_le, front_length}
 use Rattle.whole.proofs.Table.{table_length, is_table}
 use Rattle.account.specs.Measures.{deviation_of, local_of}
 use Rattle.account.specs.Answers.{zones_local}
-use Rattle.account.specs.Steps.{zones_locals, Zoned, Owned}
+use Rattle.account.specs.Steps.{zones_locals}
 use Rattle.account.proofs.Locals.{total_told}
 use Rattle.account.proofs.ZoneByZone.{zoned_length, no_zones, all_zones}
 use Rattle.account.proofs.classes.add_zones.Goals as goal

@@ -1,10 +1,9 @@
 -- `clear` meets its contract. The loop's invariant: what was passed holds 0. Assumes nothing.
 use mathlib.Core.Path.{◌≡◌, refl, ◌∙◌}
-use Prim.Native.Nat.{ℕ, ◌-◌, ◌≤◌, ◌<◌}
 use native.Mathlib.Omega.{arith}
 use lib.IntN.{pos}
-use lib.ListN.{length, length-set}
-use Rattle.whole.specs.Table.{table, table_rows, at}
+use lib.ListN.{length-set}
+use Rattle.whole.specs.Table.{table, table_rows}
 use Rattle.whole.proofs.Table.{is_table, stored}
 use Rattle.account.proofs.classes.clear.Goals as goal
 

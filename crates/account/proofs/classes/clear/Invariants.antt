@@ -1,10 +1,8 @@
-use mathlib.Core.Path.{◌≡◌, refl, ◌∙◌}
+use mathlib.Core.Path.{◌≡◌}
 use Prim.Native.Nat.{ℕ, ◌-◌, ◌≤◌, ◌<◌}
-use native.Mathlib.Omega.{arith}
 use lib.IntN.{pos}
-use lib.ListN.{length, length-set}
-use Rattle.whole.specs.Table.{table, table_rows, at}
-use Rattle.whole.proofs.Table.{is_table, stored}
+use lib.ListN.{length}
+use Rattle.whole.specs.Table.{at}
 use Rattle.account.proofs.classes.clear.Given as goal
 
 abbrev pub invariant-loop-place : goal.invariant-loop-place

@@ -1,10 +1,9 @@
 -- `zone_classes` meets its contract: the rows and the local numerators first, then the sums of the whole job from them. Assumes nothing.
-use mathlib.Core.Path.{◌≡◌, sym, ap, ◌∙◌, subst}
+use mathlib.Core.Path.{◌≡◌, ◌∙◌}
 use mathlib.Core.List.{List}
 use Prim.Native.Nat.{ℕ, ◌+◌, ◌*◌, ◌≤◌, ◌<◌}
 use native.Mathlib.Omega.{arith}
 use lib.IntN.{ℤ, nat_abs}
-use lib.ListN.{length}
 use mir.Syntax.{w64}
 use Rattle.whole.specs.Sum.{sum}
 use Rattle.whole.specs.Table.{at, pair_at}
@@ -17,7 +16,6 @@ use Rattle.account.proofs.ByClass.{sums_at}
 use Rattle.account.proofs.Locals.{locals_sized, locals_cross, total_told, spread_told, weight_told, cross_told, squares_told, same_figures}
 use Rattle.account.proofs.NineClasses.{weights_together, squares_together}
 use Rattle.account.proofs.ZoneByZone.{class_weight_size, class_squares_size}
-use borrow.Author.Rules.{rules}
 use Rattle.account.proofs.classes.zone_classes.Goals as goal
 use Rattle.account.proofs.classes.zone_classes.Goals.{After-add_zones, After-spread-spread, After-total-total, Start}
 

@@ -1,10 +1,9 @@
 -- `deviations` meets its contract. The loop's invariant: each element passed is its deviation. Assumes nothing.
-use mathlib.Core.Path.{◌≡◌}
-use Prim.Native.Nat.{ℕ, ◌-◌, ◌≤◌, ◌<◌}
+use Prim.Native.Nat.{ℕ}
 use native.Mathlib.Nat as N
 use native.Mathlib.Omega.{arith}
 use lib.IntN.{pos, ◌-ℤ◌, ◌*ℤ◌}
-use lib.ListN.{length, length-set}
+use lib.ListN.{length-set}
 use mir.Syntax.{w64}
 use mir.Val.{to_z}
 use Rattle.whole.proofs.Machine.{Is, nat, told, rd, is__, is_*, fit, fits_le, r32, r64}

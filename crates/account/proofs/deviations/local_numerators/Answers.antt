@@ -1,9 +1,7 @@
 -- `local_numerators` meets its contract. The loop's invariant: each element passed is its local numerator. Assumes nothing.
-use mathlib.Core.Path.{◌≡◌}
-use Prim.Native.Nat.{ℕ, ◌-◌, ◌≤◌, ◌<◌}
 use native.Mathlib.Omega.{arith}
 use lib.IntN.{pos, ◌*ℤ◌}
-use lib.ListN.{length, length-set}
+use lib.ListN.{length-set}
 use mir.Syntax.{w64}
 use Rattle.whole.proofs.Machine.{Is, rd, fit, r64}
 use Rattle.whole.proofs.Table.{is_table, stored}

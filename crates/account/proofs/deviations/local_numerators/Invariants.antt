@@ -1,14 +1,8 @@
 use mathlib.Core.Path.{◌≡◌}
 use Prim.Native.Nat.{ℕ, ◌-◌, ◌≤◌, ◌<◌}
-use native.Mathlib.Omega.{arith}
-use lib.IntN.{pos, ◌*ℤ◌}
-use lib.ListN.{length, length-set}
-use mir.Syntax.{w64}
-use Rattle.whole.proofs.Machine.{Is, rd, fit, r64}
-use Rattle.whole.proofs.Table.{is_table, stored}
+use lib.ListN.{length}
 use Rattle.whole.specs.Table.{at, pair_at}
 use Rattle.account.specs.Measures.{local_of}
-use Rattle.account.proofs.Running.{local_is}
 use Rattle.account.proofs.deviations.local_numerators.Given as goal
 
 abbrev pub invariant-loop-i : goal.invariant-loop-i

@@ -1,10 +1,9 @@
 -- `sum_of` meets its contract. The loop's invariant: the accumulator's bits are those of the sum of the numbers passed. Assumes nothing.
-use mathlib.Core.Path.{◌≡◌, ap}
-use Prim.Native.Nat.{◌+◌, ◌-◌, ◌≤◌}
+use Prim.Native.Nat.{◌+◌}
 use native.Mathlib.Omega.{arith}
 use lib.IntN.{◌+ℤ◌}
 use mir.Syntax.{w64}
-use mir.Val.{to_z, of_z}
+use mir.Val.{to_z}
 use Rattle.whole.specs.Sum.{sum}
 use Rattle.whole.proofs.Accumulate.{acc_none, acc_more, acc_done}
 use Rattle.whole.proofs.Machine.{Is, val, rd, fit, r64}

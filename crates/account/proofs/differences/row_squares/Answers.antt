@@ -1,12 +1,11 @@
 -- `row_squares` meets its contract. The loop's invariant: the accumulator's bits are those of the sum over the zones passed.
 -- Assumes nothing.
-use mathlib.Core.Path.{◌≡◌, ap}
-use Prim.Native.Nat.{ℕ, ◌+◌, ◌*◌, ◌-◌, ◌≤◌}
+use Prim.Native.Nat.{ℕ, ◌+◌, ◌*◌}
 use native.Mathlib.Omega.{arith}
 use lib.IntN.{ℤ, pos, ◌+ℤ◌, ◌-ℤ◌, ◌*ℤ◌}
 use lib.ListN.{get_or}
 use mir.Syntax.{w64}
-use mir.Val.{to_z, of_z}
+use mir.Val.{to_z}
 use Rattle.whole.specs.Integer.{square}
 use Rattle.whole.specs.Sum.{sum}
 use Rattle.whole.proofs.Accumulate.{acc_none, acc_more, acc_done}

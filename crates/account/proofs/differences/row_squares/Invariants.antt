@@ -1,19 +1,9 @@
-use mathlib.Core.Path.{◌≡◌, ap}
-use Prim.Native.Nat.{ℕ, ◌+◌, ◌*◌, ◌-◌, ◌≤◌}
-use native.Mathlib.Omega.{arith}
-use lib.IntN.{ℤ, pos, ◌+ℤ◌, ◌-ℤ◌, ◌*ℤ◌}
-use lib.ListN.{get_or}
-use mir.Syntax.{w64}
-use mir.Val.{to_z, of_z}
+use mathlib.Core.Path.{◌≡◌}
+use Prim.Native.Nat.{◌-◌, ◌≤◌}
+use lib.IntN.{pos, ◌-ℤ◌, ◌*ℤ◌}
 use Rattle.whole.specs.Integer.{square}
 use Rattle.whole.specs.Sum.{sum}
-use Rattle.whole.proofs.Accumulate.{acc_none, acc_more, acc_done}
-use Rattle.whole.proofs.Lists.{within, few}
-use Rattle.whole.proofs.Machine.{Is, nat, rd, is_*, fit, fits_le, r64}
 use Rattle.whole.specs.Table.{at, pair_at}
-use Rattle.account.specs.Measures.{row_of}
-use Rattle.account.proofs.Reading.{place, weight_le, read_le, difference_told}
-use Rattle.account.proofs.Running.{row_squares_run}
 use Rattle.account.proofs.differences.row_squares.Given as goal
 
 abbrev pub invariant-loop-j : goal.invariant-loop-j

@@ -6,7 +6,6 @@ use borrow.Author.Tests.{eq-eqb}
 use lib.IntN.{ℤ}
 use Rattle.whole.specs.Rules.{first_broken}
 use Rattle.account.specs.Refusals.{call_rules, job_refusal}
-use borrow.Author.Rules.{rules}
 use Rattle.account.proofs.judging.judge.Goals as goal
 
 alone :

@@ -7,7 +7,6 @@ use Rattle.account.specs.Refusals.{job_rules}
 use Rattle.account.proofs.Accepted.{fitting}
 use Rattle.account.proofs.Judged.{sizes_of, by_sizes, then_job}
 use Rattle.account.proofs.Found.{by_number, as_job}
-use borrow.Author.Rules.{rules}
 use Rattle.account.proofs.judging.judge_account.Goals as goal
 use Rattle.account.proofs.judging.judge_account.Goals.{After-judge_sizes-sizes, Else-sizes-ne0, Start}
 

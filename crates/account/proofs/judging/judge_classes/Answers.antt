@@ -11,7 +11,6 @@ use Rattle.account.specs.Classes.{class_rules, class_lengths}
 use Rattle.account.proofs.Accepted.{fitting}
 use Rattle.account.proofs.Judged.{sizes_of, by_sizes, by_job, by_rest}
 use Rattle.account.proofs.Found.{by_number, with_zones}
-use borrow.Author.Rules.{rules}
 use Rattle.account.proofs.judging.judge_classes.Goals as goal
 use Rattle.account.proofs.judging.judge_classes.Goals.{After-judge_class_sizes-sizes, After-judge_job-job, Else-number-ne0, Else-sizes-ne0, Start}
 

@@ -10,7 +10,6 @@ use Rattle.kept.specs.declared.Answer.TheVariants.{Refused, Kept}
 use Rattle.account.specs.Refusals.{list_rules}
 use Rattle.account.proofs.Accepted.{Lawful, lawful}
 use Rattle.account.proofs.Found.{by_number, Left, never_refused, zones_left, by_lists, sums_asked, by_sums}
-use borrow.Author.Rules.{rules}
 use Rattle.account.proofs.judging.judge_job.Goals as goal
 use Rattle.account.proofs.judging.judge_job.Goals.{After-keep, In-Kept, Start}
 

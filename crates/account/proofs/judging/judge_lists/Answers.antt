@@ -2,7 +2,6 @@
 use mathlib.Core.Path.{◌≡◌, refl, sym, ◌∙◌}
 use mathlib.Core.Bool.{false}
 use Rattle.whole.specs.Search.{any_beyond, any_above, any_on_diagonal}
-use borrow.Author.Rules.{rules}
 use Rattle.account.proofs.judging.judge_lists.Goals as goal
 use Rattle.account.proofs.judging.judge_lists.Goals.{Else-any_above, Else-any_beyond, Else-any_on_diagonal}
 

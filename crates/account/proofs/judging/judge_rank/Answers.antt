@@ -14,7 +14,6 @@ use Rattle.account.specs.Rank.{rank_rules, rank_refusal}
 use Rattle.account.proofs.Accepted.{Fitting, fitting, fitted, unfitted, also_misfits}
 use Rattle.account.proofs.Judged.{sizes_of, by_sizes, by_job, by_rest}
 use Rattle.account.proofs.Found.{by_number, with_zones}
-use borrow.Author.Rules.{rules}
 use Rattle.account.proofs.judging.judge_rank.Goals as goal
 use Rattle.account.proofs.judging.judge_rank.Goals.{After-judge_sizes-sizes, Else-listed-eq2, Else-sizes-ne0, Start}
 

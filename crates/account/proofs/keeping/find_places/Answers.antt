@@ -1,12 +1,11 @@
 -- `find_places` meets its contract. The loop's invariant: the zones passed have their places, and k zones of the list are
 -- passed. Assumes nothing.
 use mathlib.Core.List.{List}
-use mathlib.Core.Logic.{⊎_elim}
-use Prim.Native.Nat.{ℕ, ◌-◌, ◌≤◌}
+use Prim.Native.Nat.{ℕ, ◌≤◌}
 use native.Mathlib.Omega.{arith}
 use lib.ListN.{length}
 use Rattle.account.specs.Steps.{Zones}
-use Rattle.account.proofs.Placing.{Placed, placed_none, placed_found, placed_lacking, placed_all}
+use Rattle.account.proofs.Placing.{placed_none, placed_found, placed_lacking, placed_all}
 use Rattle.account.proofs.keeping.find_places.Goals as goal
 use Rattle.account.proofs.keeping.find_places.Goals.{then-k-many+then-zones-k, then-k-many+else-zones-k, else-k-many}
 use Rattle.account.proofs.keeping.find_places.Goals.{In-loop-i, Joined-k-many, Start}

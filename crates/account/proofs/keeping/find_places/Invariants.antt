@@ -1,10 +1,5 @@
-use mathlib.Core.List.{List}
-use mathlib.Core.Logic.{⊎_elim}
-use Prim.Native.Nat.{ℕ, ◌-◌, ◌≤◌}
-use native.Mathlib.Omega.{arith}
-use lib.ListN.{length}
-use Rattle.account.specs.Steps.{Zones}
-use Rattle.account.proofs.Placing.{Placed, placed_none, placed_found, placed_lacking, placed_all}
+use Prim.Native.Nat.{◌-◌}
+use Rattle.account.proofs.Placing.{Placed}
 use Rattle.account.proofs.keeping.find_places.Given as goal
 
 abbrev pub invariant-loop-i : goal.invariant-loop-i

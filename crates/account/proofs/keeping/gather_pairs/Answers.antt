@@ -1,10 +1,9 @@
 -- `gather_pairs` meets its contract. The loop's invariant: the rows of the zones passed are written. Assumes nothing.
-use mathlib.Core.Path.{◌≡◌, sym, ◌∙◌}
-use Prim.Native.Nat.{ℕ, ◌+◌, ◌*◌, ◌-◌, ◌≤◌, ◌<◌}
+use mathlib.Core.Path.{sym, ◌∙◌}
+use Prim.Native.Nat.{ℕ, ◌+◌, ◌*◌, ◌≤◌, ◌<◌}
 use native.Mathlib.Omega.{arith}
 use borrow.Rule.Slice.PartMut.{mid_len}
-use lib.ListN.{length, get_or, take}
-use Rattle.whole.specs.Table.{table_rows}
+use lib.ListN.{length, get_or}
 use Rattle.whole.proofs.TableRows.{rows_none, row_length, row_written, rows_done}
 use Rattle.kept.proofs.Marks.{row_end, row_few}
 use Rattle.account.specs.Steps.{gathered_pair}

@@ -1,11 +1,7 @@
-use mathlib.Core.Path.{◌≡◌, sym, ◌∙◌}
-use Prim.Native.Nat.{ℕ, ◌+◌, ◌*◌, ◌-◌, ◌≤◌, ◌<◌}
-use native.Mathlib.Omega.{arith}
-use borrow.Rule.Slice.PartMut.{mid_len}
+use mathlib.Core.Path.{◌≡◌}
+use Prim.Native.Nat.{◌*◌, ◌-◌, ◌≤◌}
 use lib.ListN.{length, get_or, take}
 use Rattle.whole.specs.Table.{table_rows}
-use Rattle.whole.proofs.TableRows.{rows_none, row_length, row_written, rows_done}
-use Rattle.kept.proofs.Marks.{row_end, row_few}
 use Rattle.account.specs.Steps.{gathered_pair}
 use Rattle.account.proofs.keeping.gather_pairs.Given as goal
 

@@ -1,8 +1,8 @@
 -- `gather_row` meets its contract. The loop's invariant: the entries of the zones passed are written. Assumes nothing.
-use mathlib.Core.Path.{◌≡◌, refl, sym, ◌∙◌}
-use Prim.Native.Nat.{ℕ, ◌+◌, ◌*◌, ◌-◌, ◌≤◌, ◌<◌}
+use mathlib.Core.Path.{refl, sym, ◌∙◌}
+use Prim.Native.Nat.{◌+◌, ◌*◌, ◌≤◌, ◌<◌}
 use native.Mathlib.Omega.{arith}
-use lib.ListN.{length, get_or, length-set}
+use lib.ListN.{get_or, length-set}
 use Rattle.whole.specs.Table.{pair_at}
 use Rattle.whole.proofs.Table.{is_table, stored}
 use Rattle.kept.proofs.Marks.{row_end, row_few}

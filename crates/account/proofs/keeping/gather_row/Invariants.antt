@@ -1,10 +1,6 @@
-use mathlib.Core.Path.{◌≡◌, refl, sym, ◌∙◌}
-use Prim.Native.Nat.{ℕ, ◌+◌, ◌*◌, ◌-◌, ◌≤◌, ◌<◌}
-use native.Mathlib.Omega.{arith}
-use lib.ListN.{length, get_or, length-set}
-use Rattle.whole.specs.Table.{pair_at}
-use Rattle.whole.proofs.Table.{is_table, stored}
-use Rattle.kept.proofs.Marks.{row_end, row_few}
+use mathlib.Core.Path.{◌≡◌}
+use Prim.Native.Nat.{ℕ, ◌-◌, ◌≤◌, ◌<◌}
+use lib.ListN.{length, get_or}
 use Rattle.account.specs.Steps.{gathered_pair}
 use Rattle.account.proofs.keeping.gather_row.Given as goal
 

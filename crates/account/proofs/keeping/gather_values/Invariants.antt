@@ -1,12 +1,7 @@
-use mathlib.Core.Path.{◌≡◌, sym, ◌∙◌}
+use mathlib.Core.Path.{◌≡◌}
 use Prim.Native.Nat.{ℕ, ◌-◌, ◌≤◌, ◌<◌}
-use native.Mathlib.Omega.{arith}
-use lib.IntN.{pos}
-use lib.ListN.{length, get_or, length-set}
-use mir.Syntax.{w32}
-use mir.ValLaws.{to_z-of_z}
+use lib.ListN.{length, get_or}
 use Rattle.whole.specs.Table.{at}
-use Rattle.whole.proofs.Table.{is_table, stored}
 use Rattle.account.proofs.keeping.gather_values.Given as goal
 
 abbrev pub invariant-loop-k : goal.invariant-loop-k

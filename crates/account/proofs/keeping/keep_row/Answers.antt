@@ -3,8 +3,7 @@
 use mathlib.Core.Path.{◌≡◌, refl}
 use mathlib.Core.Bool.{false}
 use mathlib.Core.List.{List}
-use mathlib.Core.Logic.{⊎_elim}
-use Prim.Native.Nat.{ℕ, ◌+◌, ◌*◌, ◌-◌, ◌≤◌, ◌<◌}
+use Prim.Native.Nat.{ℕ, ◌+◌, ◌*◌, ◌≤◌, ◌<◌}
 use native.Mathlib.Omega.{arith}
 use lib.Dec.{ltb}
 use lib.ListN.{length, get_or}
@@ -13,7 +12,7 @@ use Rattle.whole.specs.Search.{count}
 use Rattle.whole.specs.Table.{pair_at}
 use Rattle.whole.proofs.Permutation.{full}
 use Rattle.shuffles.proofs.ShuffleList.{row_end}
-use Rattle.account.proofs.Placing.{Taken, taken_none, taken_few, taken_room, taken_yes, taken_no, taken_all}
+use Rattle.account.proofs.Placing.{taken_none, taken_few, taken_room, taken_yes, taken_no, taken_all}
 use Rattle.account.proofs.keeping.keep_row.Goals as goal
 use Rattle.account.proofs.keeping.keep_row.Goals.{then-place-out, else-place-out}
 use Rattle.account.proofs.keeping.keep_row.Goals.{At-loop-p, In-loop-p, Start}

@@ -7,7 +7,7 @@ use borrow.Rule.Slice.PartMut.{mid_len}
 use lib.Dec.{ltb}
 use lib.ListN.{length, get_or, take, drop}
 use Rattle.whole.specs.Search.{count}
-use Rattle.whole.specs.Table.{table, table_rows, pair_at}
+use Rattle.whole.specs.Table.{table, pair_at}
 use Rattle.whole.proofs.Counting.{count_le}
 use Rattle.whole.proofs.TableRows.{rows_none, row_length, row_written, rows_done}
 use Rattle.shuffles.specs.Steps.{Row, Shuffles}

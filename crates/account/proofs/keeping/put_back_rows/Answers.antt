@@ -11,7 +11,7 @@ use lib.Dec.{ltb}
 use lib.IntN.{ℤ, pos}
 use lib.ListN.{length, get_or, take, drop, length-drop}
 use lib.Seq.{get_or-take, get_or-drop, length-take-le}
-use Rattle.whole.specs.Table.{table, table_rows, at}
+use Rattle.whole.specs.Table.{table, at}
 use Rattle.whole.proofs.Table.{table_cong}
 use Rattle.whole.proofs.TableRows.{rows_none, row_length, row_written, rows_done}
 use Rattle.account.specs.Steps.{at_place}

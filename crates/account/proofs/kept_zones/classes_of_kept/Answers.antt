@@ -11,7 +11,6 @@ use Rattle.whole.proofs.Lists.{few}
 use Rattle.account.specs.Steps.{ClassJob, Zones}
 use Rattle.account.proofs.KeptClasses.{Gathers, gathers, gathered_job, figures_kept, sums_kept, locals_back, class_locals_back}
 use Rattle.account.proofs.KeptWork.{zones_rise, places_long}
-use borrow.Author.Rules.{rules}
 use Rattle.account.proofs.kept_zones.classes_of_kept.Goals as goal
 use Rattle.account.proofs.kept_zones.classes_of_kept.Goals.{After-find_places, After-gather_pairs, After-gather_pairs-2, After-gather_values, After-pair_room-class_space, After-pair_room-weight_space, After-put_back, After-put_back_rows, After-zone_classes-sums, Start}
 

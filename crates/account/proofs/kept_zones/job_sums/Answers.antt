@@ -2,7 +2,6 @@
 use mathlib.Core.Path.{sym, ◌∙◌}
 use Rattle.account.proofs.AllKept.{all_figures, all_locals}
 use Rattle.account.proofs.KeptWork.{zones_count}
-use borrow.Author.Rules.{rules}
 use Rattle.account.proofs.kept_zones.job_sums.Goals as goal
 
 pub returns-then-zones-n : goal.returns-then-zones-n

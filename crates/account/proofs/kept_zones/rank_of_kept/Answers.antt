@@ -11,7 +11,6 @@ use Rattle.shuffles.specs.Steps.{Shuffles}
 use Rattle.account.specs.Steps.{Job, Zones}
 use Rattle.account.proofs.KeptWork.{zones_rise, zones_few, pairs_few, zones_rise_in, gathered_job, places_long}
 use Rattle.account.proofs.KeptWork.{rows_few, places_count, gathered_shuffles, rank_kept}
-use borrow.Author.Rules.{rules}
 use Rattle.account.proofs.kept_zones.rank_of_kept.Goals as goal
 use Rattle.account.proofs.kept_zones.rank_of_kept.Goals.{After-find_places, After-gather_pairs, After-keep_rows, After-pair_room-weight_space, After-shuffle_room-shuffle_space, Start}
 

@@ -10,7 +10,6 @@ use lib.Seq.{length-take-le}
 use Rattle.account.specs.Steps.{Job, Zones}
 use Rattle.account.proofs.KeptWork.{zones_rise, zones_few, pairs_few, zones_rise_in, places_long}
 use Rattle.account.proofs.KeptWork.{gathered_job, figures_kept, locals_back}
-use borrow.Author.Rules.{rules}
 use Rattle.account.proofs.kept_zones.sums_of_kept.Goals as goal
 use Rattle.account.proofs.kept_zones.sums_of_kept.Goals.{After-find_places, After-gather_pairs, After-pair_room-weight_space, After-zone_sums-sums, Start}
 

@@ -10,7 +10,6 @@ use Rattle.account.specs.Classes.{class_sums, class_locals_of}
 use Rattle.account.specs.Steps.{ClassJob, zones_locals, zones_class_sums, zones_class_locals}
 use Rattle.account.proofs.AllKept.{all_figures, all_locals, all_class_sums, all_class_locals}
 use Rattle.account.proofs.KeptWork.{zones_count}
-use borrow.Author.Rules.{rules}
 use Rattle.account.proofs.kept_zones.work_classes.Goals as goal
 use Rattle.account.proofs.kept_zones.work_classes.Goals.{Start, Then-zones-n}
 

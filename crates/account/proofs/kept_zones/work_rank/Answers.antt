@@ -1,7 +1,6 @@
 -- `work_rank` meets its contract: where all zones are kept, the lists of those kept are the job's own. Assumes nothing.
 use mathlib.Core.Path.{sym, ◌∙◌}
 use Rattle.account.proofs.KeptWork.{zones_count, rank_of_all}
-use borrow.Author.Rules.{rules}
 use Rattle.account.proofs.kept_zones.work_rank.Goals as goal
 
 pub returns-then-zones-n : goal.returns-then-zones-n

@@ -1,8 +1,7 @@
 -- `tally` meets its contract. The loop's invariant: the three counts are those of the shuffles passed. Assumes nothing.
 use mathlib.Core.Path.{◌≡◌, ap, ◌∙◌}
 use mathlib.Core.Bool.{Bool}
-use mathlib.Core.Logic.{⊎_elim}
-use Prim.Native.Nat.{ℕ, ◌+◌, ◌-◌, ◌≤◌}
+use Prim.Native.Nat.{ℕ, ◌+◌, ◌≤◌}
 use native.Mathlib.Omega.{arith}
 use lib.IntN.{ℤ}
 use lib.Signed.{lt_z}
@@ -14,7 +13,7 @@ use Rattle.account.specs.Rank.{compared}
 use Rattle.account.specs.Steps.{cross_held, cross_moved}
 use Rattle.account.proofs.Locals.{deviations_cross_told}
 use Rattle.account.proofs.Shuffled.{shuffled_size}
-use Rattle.account.proofs.Tallied.{Tallied, none_yet, one_less, one_greater, one_equal, no_more, tallied}
+use Rattle.account.proofs.Tallied.{none_yet, one_less, one_greater, one_equal, no_more, tallied}
 use Rattle.account.proofs.ranking.tally.Goals as goal
 use Rattle.account.proofs.ranking.tally.Goals.{then-cross-own, else-cross-own+then-own-cross, else-cross-own+else-own-cross}
 use Rattle.account.proofs.ranking.tally.Goals.{After-shuffle_cross-cross, At-loop-r, Start}

@@ -1,19 +1,6 @@
-use mathlib.Core.Path.{◌≡◌, ap, ◌∙◌}
-use mathlib.Core.Bool.{Bool}
-use mathlib.Core.Logic.{⊎_elim}
-use Prim.Native.Nat.{ℕ, ◌+◌, ◌-◌, ◌≤◌}
-use native.Mathlib.Omega.{arith}
-use lib.IntN.{ℤ}
-use lib.Signed.{lt_z}
-use mir.Syntax.{w64}
-use Rattle.whole.specs.Table.{at}
-use Rattle.whole.proofs.Machine.{Is, rd, r64}
-use Rattle.shuffles.proofs.ShuffleList.{shuffle_there}
-use Rattle.account.specs.Rank.{compared}
+use Prim.Native.Nat.{◌-◌, ◌≤◌}
 use Rattle.account.specs.Steps.{cross_held, cross_moved}
-use Rattle.account.proofs.Locals.{deviations_cross_told}
-use Rattle.account.proofs.Shuffled.{shuffled_size}
-use Rattle.account.proofs.Tallied.{Tallied, none_yet, one_less, one_greater, one_equal, no_more, tallied}
+use Rattle.account.proofs.Tallied.{Tallied}
 use Rattle.account.proofs.ranking.tally.Given as goal
 
 abbrev pub invariant-loop-r : goal.invariant-loop-r

@@ -1,10 +1,9 @@
 -- `shuffle_deviations` meets its contract. The loop's invariant: each element passed is the deviation of the zone named there.
 -- Assumes nothing.
-use mathlib.Core.Path.{◌≡◌}
-use Prim.Native.Nat.{ℕ, ◌+◌, ◌*◌, ◌-◌, ◌≤◌, ◌<◌}
+use Prim.Native.Nat.{◌+◌, ◌*◌, ◌<◌}
 use native.Mathlib.Omega.{arith}
 use lib.IntN.{pos}
-use lib.ListN.{length, get_or, length-set}
+use lib.ListN.{get_or, length-set}
 use mir.Syntax.{w64}
 use mir.ValLaws.{to_z-of_z}
 use Rattle.whole.specs.Table.{at, pair_at}

@@ -10,7 +10,6 @@ use Rattle.account.specs.Answers.{class_row}
 use Rattle.account.specs.declared.ClassRow.{ClassRow}
 use Rattle.account.specs.Steps.{zones_locals}
 use Rattle.account.proofs.Locals.{deviations_sized, locals_are, locals_sized, locals_cross, weight_told, cross_told, squares_told}
-use borrow.Author.Rules.{rules}
 use Rattle.account.proofs.working.pair_sums.Goals as goal
 use Rattle.account.proofs.working.pair_sums.Goals.{After-local_numerators}
 

@@ -1,9 +1,9 @@
 -- `weight_sum` meets its contract. The loop's invariant: the accumulator is the sum of the weights passed. Assumes nothing.
 use mathlib.Core.Path.{◌≡◌, sym, ap, ◌∙◌}
-use Prim.Native.Nat.{ℕ, ◌+◌, ◌*◌, ◌-◌, ◌≤◌}
+use Prim.Native.Nat.{ℕ, ◌+◌, ◌*◌, ◌≤◌}
 use native.Mathlib.Omega.{arith}
 use lib.IntN.{ℤ, pos, ◌+ℤ◌}
-use lib.ListN.{length, get_or}
+use lib.ListN.{get_or}
 use mir.Syntax.{w64}
 use Rattle.whole.specs.Sum.{sum}
 use Rattle.whole.proofs.Lists.{few}

@@ -1,14 +1,8 @@
-use mathlib.Core.Path.{◌≡◌, sym, ap, ◌∙◌}
-use Prim.Native.Nat.{ℕ, ◌+◌, ◌*◌, ◌-◌, ◌≤◌}
-use native.Mathlib.Omega.{arith}
-use lib.IntN.{ℤ, pos, ◌+ℤ◌}
+use mathlib.Core.Path.{◌≡◌}
+use Prim.Native.Nat.{◌*◌, ◌-◌, ◌≤◌}
+use lib.IntN.{pos}
 use lib.ListN.{length, get_or}
-use mir.Syntax.{w64}
 use Rattle.whole.specs.Sum.{sum}
-use Rattle.whole.proofs.Lists.{few}
-use Rattle.whole.proofs.Machine.{nat, fits_le}
-use Rattle.whole.proofs.Sum.{sum_zero, sum_more}
-use Rattle.account.proofs.Reading.{flat_weight}
 use Rattle.account.proofs.working.weight_sum.Given as goal
 
 abbrev pub invariant-loop-k : goal.invariant-loop-k

@@ -14,7 +14,6 @@ use Rattle.account.specs.Measures.{total_of, deviation_of, weight_of, cross_of, 
 use Rattle.account.specs.Answers.{class_row}
 use Rattle.account.specs.declared.ClassRow.{ClassRow}
 use Rattle.account.proofs.Locals.{total_told, spread_told, weight_told, cross_told, squares_told, same_figures}
-use borrow.Author.Rules.{rules}
 use Rattle.account.proofs.working.zone_sums.Goals as goal
 use Rattle.account.proofs.working.zone_sums.Goals.{After-deviations, After-total-total, Start}
 

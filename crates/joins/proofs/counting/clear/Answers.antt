@@ -1,11 +1,8 @@
 -- `clear` meets its contract. The loop's invariant: each entry passed is 0. Assumes nothing.
-use mathlib.Core.Path.{◌≡◌, refl, ◌∙◌}
-use Prim.Native.Nat.{ℕ, ◌-◌, ◌≤◌, ◌<◌}
+use mathlib.Core.Path.{refl, ◌∙◌}
 use native.Mathlib.Omega.{arith}
-use borrow.Author.Rules.{rules}
 use lib.IntN.{pos}
-use lib.ListN.{length, length-set}
-use Rattle.whole.specs.Table.{at}
+use lib.ListN.{length-set}
 use Rattle.whole.proofs.Table.{is_table, stored}
 use Rattle.joins.proofs.counting.clear.Goals as goal
 

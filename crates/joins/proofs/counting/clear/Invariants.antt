@@ -1,11 +1,8 @@
-use mathlib.Core.Path.{◌≡◌, refl, ◌∙◌}
+use mathlib.Core.Path.{◌≡◌}
 use Prim.Native.Nat.{ℕ, ◌-◌, ◌≤◌, ◌<◌}
-use native.Mathlib.Omega.{arith}
-use borrow.Author.Rules.{rules}
 use lib.IntN.{pos}
-use lib.ListN.{length, length-set}
+use lib.ListN.{length}
 use Rattle.whole.specs.Table.{at}
-use Rattle.whole.proofs.Table.{is_table, stored}
 use Rattle.joins.proofs.counting.clear.Given as goal
 
 abbrev pub invariant-loop-k : goal.invariant-loop-k

@@ -1,7 +1,7 @@
 -- `count_joins` meets its contract. The loop's invariant: the weights passed are counted. Assumes nothing.
 use mathlib.Core.Path.{◌≡◌, sym, ap, ◌∙◌, subst}
 use mathlib.Core.List.{List}
-use Prim.Native.Nat.{ℕ, ◌*◌, ◌-◌, ◌/◌, ◌%◌, ◌≤◌, ◌<◌}
+use Prim.Native.Nat.{ℕ, ◌*◌, ◌/◌, ◌%◌, ◌≤◌, ◌<◌}
 use native.Mathlib.Omega.{arith}
 use lib.IntN.{ℤ, pos, ◌+ℤ◌}
 use lib.ListN.{length, get_or}
@@ -75,17 +75,11 @@ module _ (c : In-loop-p) where
 pub loop-p-init : goal.loop-p-init
 loop-p-init c = none_counted _ _ _ _ c.requires.entries_value
 
--- LEFT (no such goal now): div_from : Need-nonzero-div-from
--- div_from c = some_zone c
-
 pub bounds-categories-p : goal.bounds-categories-p
 bounds-categories-p c = omega (arith, (zones ((goal.at.bounds-categories-p c).In-loop-p)).row, (start ((goal.at.bounds-categories-p c).In-loop-p)).requires.categories_len)
 
 pub overflow_cast-from : goal.overflow_cast-from
 overflow_cast-from c = omega (arith, low (start ((goal.at.overflow_cast-from c).In-loop-p)) _ (zones ((goal.at.overflow_cast-from c).In-loop-p)).row)
-
--- LEFT (no such goal now): rem_to : Need-nonzero-rem-to
--- rem_to c = some_zone c.before
 
 pub bounds-categories-p-in-loop-p : goal.bounds-categories-p-in-loop-p
 bounds-categories-p-in-loop-p c = omega (arith, (zones ((goal.at.bounds-categories-p-in-loop-p c).In-loop-p)).column, (start ((goal.at.bounds-categories-p-in-loop-p c).In-loop-p)).requires.categories_len)

@@ -1,9 +1,8 @@
 -- `put_kept` meets its contract. The loop's invariant: the kept zones passed are counted and stand at the front. Assumes nothing.
 use mathlib.Core.Path.{◌≡◌, refl, sym, ap, ◌∙◌}
 use mathlib.Core.Bool.{Bool}
-use mathlib.Core.List.{List, [], ◌∷◌, ◌++◌}
-use mathlib.Core.Logic.{⊎_elim}
-use Prim.Native.Nat.{ℕ, ◌-◌, ◌+◌, ◌≤◌, ◌<◌}
+use mathlib.Core.List.{List, [], ◌∷◌}
+use Prim.Native.Nat.{ℕ, ◌+◌, ◌≤◌}
 use native.Mathlib.Omega.{arith}
 use lib.ListN.{length}
 use lib.Seq.{sets, length-take-le}
@@ -16,7 +15,6 @@ use Rattle.whole.proofs.Table.{table_length, table_front}
 use Rattle.kept.specs.Kept.{passing, keeps, kept_zones, kept_count}
 use Rattle.kept.specs.Steps.{column_mark}
 use Rattle.kept.proofs.Passing.{list_found, list_passed, passing_length}
-use borrow.Author.Rules.{rules}
 use Rattle.kept.proofs.keeping.put_kept.Goals as goal
 use Rattle.kept.proofs.keeping.put_kept.Goals.{then-touches, else-touches}
 use Rattle.kept.proofs.keeping.put_kept.Goals.{At-loop-i, Start}

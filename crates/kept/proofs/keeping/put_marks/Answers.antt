@@ -1,11 +1,10 @@
 -- `put_marks` meets its contract. The loop's invariant: the zones passed have their marks. Assumes nothing.
-use mathlib.Core.Path.{◌≡◌, refl, sym, ap, ◌∙◌}
+use mathlib.Core.Path.{◌≡◌, refl, sym, ◌∙◌}
 use mathlib.Core.Bool.{Bool, cond}
 use mathlib.Core.List.{List}
-use mathlib.Core.Logic.{⊎_elim}
-use Prim.Native.Nat.{ℕ, ◌-◌, ◌+◌, ◌≤◌, ◌<◌}
+use Prim.Native.Nat.{ℕ}
 use native.Mathlib.Omega.{arith}
-use lib.ListN.{length, get_or, length-set}
+use lib.ListN.{length, length-set}
 use lib.Seq.{length-take-le}
 use Rattle.whole.specs.Table.{table}
 use Rattle.whole.proofs.Lists.{front, front_le, front_length}

@@ -1,16 +1,8 @@
-use mathlib.Core.Path.{◌≡◌, refl, sym, ap, ◌∙◌}
-use mathlib.Core.Bool.{Bool, cond}
-use mathlib.Core.List.{List}
-use mathlib.Core.Logic.{⊎_elim}
-use Prim.Native.Nat.{ℕ, ◌-◌, ◌+◌, ◌≤◌, ◌<◌}
-use native.Mathlib.Omega.{arith}
-use lib.ListN.{length, get_or, length-set}
-use lib.Seq.{length-take-le}
-use Rattle.whole.specs.Table.{table}
-use Rattle.whole.proofs.Lists.{front, front_le, front_length}
-use Rattle.whole.proofs.Table.{table_length, table_front, is_table, stored}
+use mathlib.Core.Path.{◌≡◌}
+use mathlib.Core.Bool.{cond}
+use Prim.Native.Nat.{ℕ, ◌-◌, ◌≤◌, ◌<◌}
+use lib.ListN.{length, get_or}
 use Rattle.kept.specs.Kept.{keeps}
-use Rattle.kept.specs.Steps.{column_mark}
 use Rattle.kept.proofs.keeping.put_marks.Given as goal
 
 abbrev pub invariant-loop-i : goal.invariant-loop-i

@@ -1,10 +1,6 @@
-use mathlib.Core.Path.{◌≡◌, sym, ap, ◌∙◌}
-use Prim.Native.Nat.{ℕ, ◌-◌, ◌≤◌}
-use native.Mathlib.Omega.{arith}
-use lib.ListN.{length}
-use Rattle.whole.specs.Search.{some}
+use mathlib.Core.Path.{◌≡◌}
+use Prim.Native.Nat.{◌-◌, ◌≤◌}
 use Rattle.whole.specs.Table.{table}
-use Rattle.whole.proofs.Table.{table_length}
 use Rattle.kept.specs.Steps.{column_mark}
 use Rattle.kept.proofs.marking.mark_columns.Given as goal
 

@@ -1,13 +1,10 @@
 -- `mark_row` meets its contract. The loop's invariant: marked anew are the zones passed. Assumes nothing.
-use mathlib.Core.Path.{◌≡◌, sym, ap, ◌∙◌}
-use mathlib.Core.Logic.{⊎_elim}
-use Prim.Native.Nat.{ℕ, ◌+◌, ◌*◌, ◌-◌, ◌≤◌}
+use mathlib.Core.Path.{sym, ap, ◌∙◌}
 use native.Mathlib.Omega.{arith}
 use lib.ListN.{length}
 use Rattle.whole.specs.Table.{pair_at}
 use Rattle.whole.proofs.Table.{table_length}
-use Rattle.kept.specs.Steps.{column_mark}
-use Rattle.kept.proofs.Marks.{Changed, changed_none, changed_next, changed_all, mark_set, mark_stays, row_end, row_few}
+use Rattle.kept.proofs.Marks.{changed_none, changed_next, changed_all, mark_set, mark_stays, row_end, row_few}
 use Rattle.kept.proofs.marking.mark_row.Goals as goal
 use Rattle.kept.proofs.marking.mark_row.Goals.{then-weights-row-gt0, else-weights-row-gt0}
 

@@ -1,11 +1,10 @@
 -- `touches` meets its contract. Assumes nothing.
-use mathlib.Core.Path.{◌≡◌, sym, ap, ◌∙◌}
+use mathlib.Core.Path.{◌≡◌, ap, ◌∙◌}
 use Prim.Native.Nat.{ℕ, ◌+◌, ◌*◌, ◌-◌}
 use native.Mathlib.Omega.{arith}
 use lib.ListN.{length, take, drop}
 use Rattle.whole.proofs.Table.{table_length, table_held}
 use Rattle.kept.proofs.Marks.{row_end, row_few, by_column, by_row}
-use borrow.Author.Rules.{rules}
 use Rattle.kept.proofs.marking.touches.Goals as goal
 
 pub bounds-marks-i : goal.bounds-marks-i

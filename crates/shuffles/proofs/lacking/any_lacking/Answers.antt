@@ -1,11 +1,10 @@
 -- `any_lacking` meets its contract. The loop's invariant: no row passed lacks a zone number. Assumes nothing.
-use mathlib.Core.Path.{◌≡◌, sym, ◌∙◌}
-use mathlib.Core.Bool.{Bool, false}
+use mathlib.Core.Path.{sym, ◌∙◌}
+use mathlib.Core.Bool.{Bool}
 use mathlib.Core.List.{List}
-use Prim.Native.Nat.{ℕ, ◌-◌, ◌≤◌}
+use Prim.Native.Nat.{ℕ}
 use native.Mathlib.Omega.{arith}
 use Rattle.whole.specs.Order.{lacks}
-use Rattle.whole.specs.Search.{some}
 use Rattle.whole.specs.Table.{pair_at}
 use Rattle.whole.proofs.Search.{some_zero, some_more, some_found, some_done}
 use Rattle.shuffles.proofs.ShuffleList.{row_there}

@@ -1,13 +1,8 @@
 -- `any_unmarked` meets its contract. The loop's invariant: `found` says whether some number passed is not marked. Assumes nothing.
-use mathlib.Core.Path.{◌≡◌, sym, ap, ◌∙◌}
-use mathlib.Core.Logic.{⊎_elim}
-use mathlib.Core.Bool.{Bool}
-use mathlib.Core.List.{List}
-use Prim.Native.Nat.{ℕ, ◌+◌, ◌-◌, ◌≤◌}
+use mathlib.Core.Path.{sym, ap, ◌∙◌}
+use Prim.Native.Nat.{◌+◌}
 use native.Mathlib.Omega.{arith}
 use borrow.Author.Tests.{eq-eqb, ne_eqb}
-use lib.Dec.{eqb}
-use lib.ListN.{length, get_or}
 use Rattle.whole.specs.Search.{some}
 use Rattle.whole.proofs.Search.{some_zero, some_found, some_same}
 use Rattle.shuffles.proofs.lacking.any_unmarked.Invariants.{test}

@@ -1,10 +1,10 @@
 -- `mark` meets its contract. The loop's invariant: marked are the numbers passed. Assumes nothing.
-use mathlib.Core.Path.{◌≡◌, sym, ap, ◌∙◌}
+use mathlib.Core.Path.{sym, ap, ◌∙◌}
 use mathlib.Core.Bool.{Bool}
-use Prim.Native.Nat.{ℕ, ◌+◌, ◌*◌, ◌-◌, ◌≤◌, ◌<◌}
+use Prim.Native.Nat.{ℕ, ◌+◌, ◌*◌}
 use native.Mathlib.Omega.{arith}
 use lib.Dec.{eqb}
-use lib.ListN.{length, get_or, length-set}
+use lib.ListN.{length, length-set}
 use Rattle.whole.specs.Search.{some}
 use Rattle.whole.specs.Table.{pair_at}
 use Rattle.whole.proofs.Search.{some_zero}

@@ -1,15 +1,10 @@
-use mathlib.Core.Path.{◌≡◌, sym, ap, ◌∙◌}
-use mathlib.Core.Bool.{Bool}
-use Prim.Native.Nat.{ℕ, ◌+◌, ◌*◌, ◌-◌, ◌≤◌, ◌<◌}
-use native.Mathlib.Omega.{arith}
+use mathlib.Core.Path.{◌≡◌}
+use Prim.Native.Nat.{ℕ, ◌-◌, ◌≤◌, ◌<◌}
 use lib.Dec.{eqb}
-use lib.ListN.{length, get_or, length-set}
+use lib.ListN.{length, get_or}
 use Rattle.whole.specs.Search.{some}
 use Rattle.whole.specs.Table.{pair_at}
-use Rattle.whole.proofs.Search.{some_zero}
-use Rattle.whole.proofs.Table.{is_table, table_length, table_held}
 use Rattle.shuffles.specs.Steps.{mark_of}
-use Rattle.shuffles.proofs.ShuffleList.{row_end, marked}
 use Rattle.shuffles.proofs.lacking.mark.Given as goal
 
 abbrev pub invariant-loop-i : goal.invariant-loop-i
