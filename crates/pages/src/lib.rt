@@ -4,7 +4,7 @@
 
 ghost use Rattle.std.specs.Prelude.{◌≡◌, [], ◌∷◌, ◌++◌, ◌*◌, ◌≤◌, min, length};
 ghost use Rattle.digits.specs.Digits.{decimal};
-ghost use Rattle.pages.specs.Lines.{field, numbers, bits as Lines·bits};
+ghost use Rattle.pages.specs.Lines.{field, numbers, bits as bits_of};
 ghost use Rattle.pages.specs.Pages.{Puts};
 
 // The lesser of two numbers.
@@ -62,7 +62,7 @@ pub fn put_numbers(page: &mut [u8], at: usize, list: &[i64]) -> usize
 
 // The 64 bits of a float.
 pub fn put_bits(page: &mut [u8], at: usize, bits: u64) -> usize
-    ensures { Puts page.old page.new at result (Lines·bits bits) }
+    ensures { Puts page.old page.new at result (bits_of bits) }
 {
     let mut text: [u8; 16] = [0; 16];
     digits::hexadecimal(bits, &mut text);

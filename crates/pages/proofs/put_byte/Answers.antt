@@ -2,7 +2,6 @@
 use mathlib.Core.Path.{refl, sym}
 use native.Mathlib.Omega.{arith}
 use lib.Seq.{set_out}
-use borrow.Author.Rules.{rules}
 use Rattle.pages.proofs.put_byte.Goals as goal
 
 pub returns-then-at-page : goal.returns-then-at-page

@@ -1,6 +1,5 @@
 -- `put_line` meets its contract: the line feed stands behind the start. Assumes nothing.
 use mathlib.Core.List.{[], ◌∷◌, append_assoc}
-use borrow.Author.Rules.{rules}
 use Rattle.pages.specs.Lines.{numbers}
 use Rattle.pages.proofs.Puts.{puts_as, puts_then}
 use Rattle.pages.proofs.put_line.Goals as goal

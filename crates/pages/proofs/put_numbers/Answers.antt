@@ -1,19 +1,16 @@
 -- `put_numbers` meets its contract. The loop's invariant: the fields of the numbers passed are put from `at` on. Assumes nothing.
 use mathlib.Core.Path.{◌≡◌, ap}
 use mathlib.Core.List.{List}
-use Prim.Native.Nat.{ℕ, ◌+◌, ◌-◌, ◌≤◌, ◌<◌}
+use Prim.Native.Nat.{ℕ, ◌+◌, ◌<◌}
 use native.Mathlib.Decide.{ℕ_discrete}
 use native.Mathlib.Omega.{arith}
-use borrow.Author.Rules.{sfits_of}
+use borrow.Author.Rules.{rules}
 use lib.IntN.{ℤ, pos}
-use lib.ListN.{length, get_or, take}
+use lib.ListN.{get_or}
 use mir.Syntax.{w64}
 use mir.Val.{SFits}
 use mir.ValLaws.{to_z-of_z}
-use Rattle.whole.specs.Table.{each}
-use Rattle.digits.specs.Digits.{decimal}
-use Rattle.pages.specs.Lines.{field, numbers}
-use Rattle.pages.specs.Pages.{Puts}
+use Rattle.pages.specs.Lines.{numbers}
 use Rattle.pages.proofs.Puts.{puts_length, puts_as, puts_each_none, puts_each_next, puts_each_all}
 use Rattle.pages.proofs.Widths.{each_fits, numbers_width}
 use Rattle.pages.proofs.put_numbers.Invariants.{printed}
@@ -56,7 +53,7 @@ loop-i-preserved c =
     let l = b.loop-i in
     let list = b.args.list.now in
     let number = get_or list l.i (pos 0) in
-    let fits : SFits w64 number = sfits_of b.put_number-arg-in-loop-i-1.given in
+    let fits : SFits w64 number = search rules in
     let puts = puts_as b.put_number-place.ensures (ap printed (to_z-of_z w64 number fits)) in
     let all : (k : ℕ) → k < l.i + 1 → SFits w64 (get_or list k (pos 0)) = λ k p. one_more list l.i l.invariant.1.1 fits k p in
     (omega arith, (puts_each_next printed list l.i (pos 0) (omega arith) l.invariant.1.0 puts, all))

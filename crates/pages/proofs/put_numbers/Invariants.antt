@@ -1,20 +1,13 @@
-use mathlib.Core.Path.{◌≡◌, ap}
 use mathlib.Core.List.{List}
-use Prim.Native.Nat.{ℕ, ◌+◌, ◌-◌, ◌≤◌, ◌<◌}
-use native.Mathlib.Decide.{ℕ_discrete}
-use native.Mathlib.Omega.{arith}
-use borrow.Author.Rules.{sfits_of}
+use Prim.Native.Nat.{ℕ, ◌-◌, ◌≤◌, ◌<◌}
 use lib.IntN.{ℤ, pos}
 use lib.ListN.{length, get_or, take}
 use mir.Syntax.{w64}
 use mir.Val.{SFits}
-use mir.ValLaws.{to_z-of_z}
 use Rattle.whole.specs.Table.{each}
 use Rattle.digits.specs.Digits.{decimal}
-use Rattle.pages.specs.Lines.{field, numbers}
+use Rattle.pages.specs.Lines.{field}
 use Rattle.pages.specs.Pages.{Puts}
-use Rattle.pages.proofs.Puts.{puts_length, puts_as, puts_each_none, puts_each_next, puts_each_all}
-use Rattle.pages.proofs.Widths.{each_fits, numbers_width}
 use Rattle.pages.proofs.put_numbers.Given as goal
 
 abbrev pub printed : ℤ → List ℕ

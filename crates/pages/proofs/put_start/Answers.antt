@@ -1,5 +1,4 @@
 -- `put_start` meets its contract: the numbers stand behind the word. Assumes nothing.
-use borrow.Author.Rules.{rules}
 use Rattle.pages.proofs.Puts.{puts_then}
 use Rattle.pages.proofs.put_start.Goals as goal
 
