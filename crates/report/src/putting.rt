@@ -1,7 +1,7 @@
 // Lines of a report into a page that has room for them. Each call is told the place to begin at, and answers the place behind what it has
 // put.
 ghost use Rattle.std.specs.Prelude.{[], ◌∷◌, ◌++◌};
-ghost use Rattle.pages.specs.Lines.{numbers, bits as Lines·bits};
+ghost use Rattle.pages.specs.Lines.{numbers, bits as bits_of};
 ghost use Rattle.report.specs.Lines.{coefficient};
 ghost use Rattle.report.specs.Steps.{Put, Room, Short};
 ghost use Rattle.coefficients.specs.Steps.{Readable, ReadablePair};
@@ -59,7 +59,7 @@ pub(super) fn put_bits_line(
     requires short { Short word.now list.now }
     requires room { Room page.old at 128 }
     ensures { Put page.old page.new at result 128
-        (word.now ++ ((numbers list.now ++ Lines·bits bits) ++ (10 ∷ []))) }
+        (word.now ++ ((numbers list.now ++ bits_of bits) ++ (10 ∷ []))) }
 {
     let place = put_start(page, at, word, list);
     let end = pages::put_bits(page, place, bits);
