@@ -7,7 +7,6 @@ use lib.IntN.{ℤ}
 use lib.ListN.{length, take}
 use lib.Seq.{take_all, length-take-le}
 use Rattle.whole.specs.Rules.{unless_refused}
-use Rattle.whole.specs.Table.{at}
 use Rattle.whole.proofs.Rules.{Sizes, sizes_hold, fits, kept_when_refused}
 use Rattle.account.specs.Refusals.{job_spread}
 use Rattle.account.specs.Classes.{class_locals_of}
@@ -16,7 +15,6 @@ use Rattle.coefficients.specs.Coefficients.{local_figures}
 use Rattle.coefficients.specs.FloatReport.{report_refusal, report_sums, report_whole, report_classes, report_figures, report_parts}
 use Rattle.coefficients.specs.Steps.{rest_refusal}
 use Rattle.coefficients.proofs.Answered.{refused, reports_same, lent_misfits, sizes_number, rest_number}
-use borrow.Author.Rules.{rules}
 use Rattle.coefficients.proofs.float_report.Goals as goal
 use Rattle.coefficients.proofs.float_report.Goals.{After-judge_lent-lent, Else-lent-ne0, Start}
 

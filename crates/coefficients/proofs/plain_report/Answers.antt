@@ -6,12 +6,11 @@ use native.Mathlib.Omega.{arith}
 use lib.IntN.{ℤ}
 use lib.ListN.{length}
 use lib.Seq.{length-take-le}
-use Rattle.whole.proofs.Rules.{Sizes, sizes_hold, fits, kept_when_refused}
+use Rattle.whole.proofs.Rules.{Sizes, sizes_hold, fits}
 use Rattle.coefficients.specs.FloatReport.{plain_refusal, plain_sums, plain_whole, plain_classes}
 use Rattle.coefficients.specs.FloatReport.{plain_rows, plain_locals, plain_figures}
 use Rattle.coefficients.specs.Steps.{rest_refusal}
 use Rattle.coefficients.proofs.Answered.{refused, reports_same, lent_misfits, sizes_number, rest_number}
-use borrow.Author.Rules.{rules}
 use Rattle.coefficients.proofs.plain_report.Goals as goal
 use Rattle.coefficients.proofs.plain_report.Goals.{After-judge_plain-lent, Else-lent-ne0, Start}
 

@@ -8,7 +8,6 @@ use Rattle.account.specs.declared.ClassRow.{ClassRow}
 use Rattle.coefficients.specs.Coefficients.{pair_of}
 use Rattle.coefficients.specs.Steps.{Formable}
 use Rattle.coefficients.proofs.Ratios as ratios
-use borrow.Author.Rules.{rules}
 use Rattle.coefficients.proofs.forming.class_pair.Goals as goal
 use Rattle.coefficients.proofs.forming.class_pair.Goals.{After-squares-1, Start}
 
@@ -24,7 +23,7 @@ module _ (c : After-squares-1) where
   sums = a.requires.formable_rows.each a.args.k a.requires.k_bound
 
   spread_read : r64 a.args.spread ≡ a.args.spread
-  spread_read = to_z-of_z w64 a.args.spread a.fits.spread
+  spread_read = to_z-of_z w64 a.args.spread a.ranges.spread
 
   row_read : ratios.read row ≡ row
   row_read = ratios.row_read a.args.n a.args.spread row sums

@@ -9,7 +9,6 @@ use Rattle.whole.proofs.Machine.{r64}
 use Rattle.account.specs.Classes.{row_at}
 use Rattle.coefficients.specs.Coefficients.{pair_of}
 use Rattle.coefficients.specs.declared.Pair.{Pair}
-use borrow.Author.Rules.{rules}
 use Rattle.coefficients.proofs.forming.class_pairs.Goals as goal
 
 listed :

@@ -14,7 +14,6 @@ use Rattle.coefficients.specs.Coefficients.{coefficient, pair_of}
 use Rattle.coefficients.specs.declared.Pair.{Pair}
 use Rattle.coefficients.specs.declared.Coefficient.TheVariants.{Figure}
 use Rattle.coefficients.proofs.Ratios as ratios
-use borrow.Author.Rules.{rules}
 use Rattle.coefficients.proofs.forming.pair.Goals as goal
 use Rattle.coefficients.proofs.forming.pair.Goals.{Else-weight-eq0}
 

@@ -1,12 +1,11 @@
 -- `put_figures` meets its contract. The loop's invariant: the figures of the numerators passed are stored. Assumes nothing.
 use mathlib.Core.Path.{◌≡◌, ap, ◌∙◌}
-use Prim.Native.Nat.{ℕ, ◌-◌, ◌≤◌, ◌<◌}
+use Prim.Native.Nat.{ℕ, ◌<◌}
 use native.Mathlib.Omega.{arith}
 use lib.Ieee.{binary64, to_bits}
 use lib.IntN.{ℤ}
-use lib.ListN.{length, get_or, length-set}
+use lib.ListN.{length, length-set}
 use mir.Syntax.{w64}
-use mir.Val.{to_z}
 use mir.ValLaws.{to_z-of_z}
 use Rattle.whole.specs.Rules.{ratio_limit}
 use Rattle.whole.specs.Table.{at}
@@ -44,7 +43,7 @@ module _ (c : After-numerator-1) where
   numerator_read = (rd w64 (val numerator ratio_limit ratio.numerator) tt).same
 
   spread_read : r64 a.args.spread ≡ a.args.spread
-  spread_read = to_z-of_z w64 a.args.spread a.fits.spread
+  spread_read = to_z-of_z w64 a.args.spread a.ranges.spread
 
 pub ratio-figure-requires : goal.ratio-figure-requires
 ratio-figure-requires c = ratio_same (numerator_read c) (spread_read c) (ratio c)

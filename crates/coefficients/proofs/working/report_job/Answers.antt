@@ -1,5 +1,5 @@
 -- `report_job` meets its contract: each coefficient is formed from the sums, the rows and the local numerators. Assumes nothing.
-use mathlib.Core.Path.{◌≡◌, refl, sym, ap, ◌∙◌}
+use mathlib.Core.Path.{◌≡◌, refl, sym}
 use mathlib.Core.List.{List}
 use Prim.Native.Nat.{ℕ}
 use lib.IntN.{ℤ}
@@ -9,18 +9,16 @@ use mir.Syntax.{w64}
 use mir.ValLaws.{to_z-of_z}
 use Rattle.whole.specs.Table.{table}
 use Rattle.whole.proofs.Machine.{r64}
-use Rattle.whole.proofs.Table.{table_cong}
 use Rattle.account.specs.Classes.{row_at}
 use Rattle.account.specs.declared.ClassRow.{ClassRow}
 use Rattle.account.specs.declared.Sums.{Sums}
 use Rattle.coefficients.specs.Coefficients.{pair_of, local_figures}
-use Rattle.coefficients.specs.FloatReport.{no_pair}
 use Rattle.coefficients.specs.Steps.{whole_row}
 use Rattle.coefficients.specs.declared.Pair.{Pair}
 use Rattle.coefficients.specs.declared.Report.{Report}
 use Rattle.coefficients.specs.declared.Answer.TheVariants.{Reported}
 use Rattle.coefficients.proofs.Ratios.{read, row_read, formable_same, rows_same, numerators_same, numerators_first}
-use borrow.Author.Rules.{rules, sfits_of}
+use borrow.Author.Rules.{sfits_of}
 use Rattle.coefficients.proofs.working.report_job.Goals as goal
 use Rattle.coefficients.proofs.working.report_job.Goals.{After-put_figures, After-put_figures-2, After-struct_told-2-1, Start}
 

@@ -1,7 +1,7 @@
 -- `report_sized` meets its contract: the class account judges and works, then the figures are formed. Assumes nothing.
 use mathlib.Core.Path.{◌≡◌, sym, ap, ◌∙◌}
 use mathlib.Core.List.{List, []}
-use Prim.Native.Nat.{ℕ, ◌*◌, ◌≤◌}
+use Prim.Native.Nat.{ℕ}
 use native.Mathlib.Omega.{arith}
 use lib.IntN.{ℤ}
 use lib.ListN.{length}
@@ -17,9 +17,8 @@ use Rattle.account.proofs.ClassTheorems.{class_locals_length}
 use Rattle.coefficients.specs.Steps.{Reportable, rest_refusal}
 use Rattle.coefficients.proofs.Answered.{refused, reported, account_number}
 use Rattle.coefficients.proofs.Job.{reportable}
-use borrow.Author.Rules.{rules}
 use Rattle.coefficients.proofs.working.report_sized.Goals as goal
-use Rattle.coefficients.proofs.working.report_sized.Goals.{After-class_account, After-locals-1, In-Accounted-2, In-Refused-2, Start}
+use Rattle.coefficients.proofs.working.report_sized.Goals.{After-class_account, Start}
 
 -- the same by other names
 reportable_same :
@@ -86,16 +85,6 @@ module _ (c : After-class_account) where
     unfolding class_account_own
     locals_left = c.class_account.ensures.own ∙ worked_when_taken _ _ _ none
 
--- the two arms
-abbrev answered : After-locals-1 → After-class_account
-answered c = ((goal.at.After-locals-1 c).After-class_account)
-
-abbrev in_refused : In-Refused-2 → After-class_account
-in_refused c = answered ((goal.at.In-Refused-2 c).After-locals-1)
-
-abbrev in_accounted : In-Accounted-2 → After-class_account
-in_accounted c = answered ((goal.at.In-Accounted-2 c).After-locals-1)
-
 pub class_account-requires : goal.class_account-requires
 class_account-requires c = tt
 
@@ -113,29 +102,25 @@ sums_known b sums e =
 
 pub report_job-requires : goal.report_job-requires
 report_job-requires c =
-    let a = c in
-    let b = in_accounted ((goal.at.report_job-requires c).In-Accounted-2) in
-    let k = sums_known b _ a.sums.given.1 in
+    let b = ((goal.at.report_job-requires c).After-class_account) in
+    let k = sums_known b _ c.in-Accounted.is in
     let z = k.0 in
     let job = reportable (n b) (values b) (weights b) (classes b) [] (taken b z) _ k.1 in record { reportable = reportable_same (rows_left b z) (numerators_left b z) (locals_left b z) job; figures_len = (s b).requires.figures_fit ∙ sym (ap length (locals_left b z) ∙ job_locals_length (n b) (values b) (weights b)); parts_in_bounds = omega (arith, ap length (numerators_left b z), class_locals_length (n b) (values b) (weights b) (classes b), (s b).requires.parts_few) }
 
 pub returns-in-Refused : goal.returns-in-Refused
 returns-in-Refused c =
-    let a = c in
-    let b = in_refused ((goal.at.returns-in-Refused c).In-Refused-2) in
+    let b = ((goal.at.returns-in-Refused c).After-class_account) in
     let k =
     class_refused (n b) (values b) (weights b) (classes b) (rows b) (of_classes b) (own b) _ b.class_account.ensures.number
-    b.class_account.ensures.figures _ a.number.given.1 in
+    b.class_account.ensures.figures _ c.in-Refused.is in
     let some : class_refusal (n b) (values b) (weights b) (classes b) (rows b) (of_classes b) (own b) ≡ 0 → ⊥ = λ z. k.1 (k.0 ∙ z) in
     refused _ _ _ _ _ _ _ _ _ _ _ _ _ c.refused.ensures (k.0 ∙ rest_is b) k.1 (rows_kept b some) (locals_kept b some)
 
 pub returns-in-Accounted : goal.returns-in-Accounted
 returns-in-Accounted c =
-    let done = c in
-    let a = c in
-    let b = in_accounted ((goal.at.returns-in-Accounted c).In-Accounted-2) in
-    let k = sums_known b _ a.sums.given.1 in
+    let b = ((goal.at.returns-in-Accounted c).After-class_account) in
+    let k = sums_known b _ c.in-Accounted.is in
     let z = k.0 in
-    let said = done.report_job.ensures in
+    let said = c.report_job.ensures in
     reported _ _ _ _ _ _ _ _ _ _ _ _ _ _ _ _ (taken b z) k.1 (rows_left b z) (numerators_left b z) (locals_left b z) said.value
     said.figures_after said.parts_after
