@@ -106,7 +106,7 @@ unfoldable pub job_lists : ℕ → List ℤ → List ℕ → List ℕ → Lent
 job_lists n values weights classes = record {
   locals = job_locals n values weights;
   rows = class_sums n values weights classes;
-  class_locals = class_locals n values weights classes;
+  class_locals = class_locals_of n values weights classes;
   own = job_locals n values weights;
   figures = local_figures (job_spread n values weights) (job_locals n values weights);
   parts = local_figures (job_spread n values weights) (class_locals_of n values weights classes);

@@ -17,9 +17,8 @@ use Rattle.agreement.specs.EveryFigure.{Lent, lists, lent_lengths, job_sums, job
 use Rattle.agreement.proofs.Answered.{sums_known}
 use Rattle.agreement.proofs.Fitting.{AllFit, all_fit, fit_alike}
 use Rattle.agreement.proofs.Outcome.{lists_same, refused, worked}
-use borrow.Author.Rules.{rules}
 use Rattle.agreement.proofs.every_figure.Goals as goal
-use Rattle.agreement.proofs.every_figure.Goals.{After-class_account, After-judge_lent-lent, Else-lent-ne0, In-Accounted-2, In-Refused-2, Start}
+use Rattle.agreement.proofs.every_figure.Goals.{After-class_account, After-judge_lent-lent, Else-lent-ne0, Start}
 
 -- ---- what the judge found
 module _ (c : After-judge_lent-lent) where
@@ -87,9 +86,9 @@ module _ (c : After-class_account) where
       ≡ lent b
   unfolding class_account_rows class_account_locals class_account_own
   lists_kept some =
-      let said = (c.class_account.ensures.rows, (c.class_account.ensures.numerators, c.class_account.ensures.own)) in
-      lists_same refl (said.0 ∙ kept_when_refused _ _ _ some) (said.1.0 ∙ kept_when_refused _ _ _ some)
-      (said.1.1 ∙ kept_when_refused _ _ _ some) refl refl refl refl refl
+      let said = c.class_account.ensures in
+      lists_same refl (said.rows ∙ kept_when_refused _ _ _ some) (said.numerators ∙ kept_when_refused _ _ _ some)
+      (said.own ∙ kept_when_refused _ _ _ some) refl refl refl refl refl
 
   -- where it did not, its sums and what it left are the job's
   module _ (sums : Sums) (answered : c.class_account.result ≡ Accounted sums) where
@@ -121,13 +120,6 @@ module _ (c : After-class_account) where
     unfolding class_account_own
     own_left = c.class_account.ensures.own ∙ worked_when_taken _ _ _ known.0
 
--- the two arms
-abbrev in_refused : In-Refused-2 → After-class_account
-in_refused c = ((goal.at.In-Refused-2 c).After-class_account)
-
-abbrev in_accounted : In-Accounted-2 → After-class_account
-in_accounted c = ((goal.at.In-Accounted-2 c).After-class_account)
-
 pub judge_lent-lent-requires : goal.judge_lent-lent-requires
 judge_lent-lent-requires c = tt
 
@@ -147,12 +139,11 @@ refused-requires-in-Refused c = tt
 
 pub work_others-requires : goal.work_others-requires
 work_others-requires c =
-    let a = c in
-    let d = in_accounted ((goal.at.work_others-requires c).In-Accounted-2) in
+    let d = ((goal.at.work_others-requires c).After-class_account) in
     let f = fit d in
     let taken : first_broken (class_rules (n (b d)) (values (b d)) (weights (b d)) (classes (b d)) []) ≡ 0 =
     fit_alike (n (b d)) (values (b d)) (weights (b d)) (classes (b d)) [] (lent_lengths (n (b d)) (lent (b d))) tt f
-    ∙ accepted d _ a.sums.given.1 in record {
+    ∙ accepted d _ c.in-Accounted.is in record {
       callable = record {
         accepted = taken;
         locals_fit = f.0;
@@ -162,25 +153,22 @@ work_others-requires c =
         plain_locals_fit = f.1.1.1.1.1.1.1.0;
         plain_figures_fit = f.1.1.1.1.1.1.1.1.0;
       };
-      sums_value = sums_are d _ a.sums.given.1;
+      sums_value = sums_are d _ c.in-Accounted.is;
     }
 
 pub returns-in-Refused : goal.returns-in-Refused
 returns-in-Refused c =
-    let a = c in
-    let d = in_refused ((goal.at.returns-in-Refused c).In-Refused-2) in
+    let d = ((goal.at.returns-in-Refused c).After-class_account) in
     let k =
     class_refused (n (b d)) (values (b d)) (weights (b d)) (classes (b d)) (lent (b d)).rows (lent (b d)).class_locals
-    (lent (b d)).own _ d.class_account.ensures.number d.class_account.ensures.figures _ a.number.given.1 in let all = refused (n (b d)) (values (b d)) (weights (b d)) (classes (b d)) (lent (b d)) _ _ _ (k.0 ∙ rest_is d) k.1 c.refused-in-Refused.ensures
+    (lent (b d)).own _ d.class_account.ensures.number d.class_account.ensures.figures _ c.in-Refused.is in let all = refused (n (b d)) (values (b d)) (weights (b d)) (classes (b d)) (lent (b d)) _ _ _ (k.0 ∙ rest_is d) k.1 c.refused-in-Refused.ensures
     (lists_kept d (λ z. k.1 (k.0 ∙ z))) in record { answer = all.0; lent = all.1.0; demand3 = all.1.1 }
 
 pub returns-in-Accounted : goal.returns-in-Accounted
 unfolding job_lists
 returns-in-Accounted c =
-    let done = c in
-    let a = c in
-    let d = in_accounted ((goal.at.returns-in-Accounted c).In-Accounted-2) in
-    let said = a.sums.given.1 in
-    let others = done.work_others.ensures.others_left in let all = worked (n (b d)) (values (b d)) (weights (b d)) (classes (b d)) (lent (b d)) _ _ (none d _ said) done.work_others.ensures.value
+    let d = ((goal.at.returns-in-Accounted c).After-class_account) in
+    let said = c.in-Accounted.is in
+    let others = c.work_others.ensures.others_left in let all = worked (n (b d)) (values (b d)) (weights (b d)) (classes (b d)) (lent (b d)) _ _ (none d _ said) c.work_others.ensures.value
     (lists_same others.in_locals (rows_left d _ said) (numerators_left d _ said) (own_left d _ said) others.in_figures
     others.in_parts others.in_plain_rows others.in_plain_locals others.in_plain_figures) in record { answer = all.0; lent = all.1.0; demand3 = all.1.1 }

@@ -13,7 +13,6 @@ use Rattle.coefficients.specs.FloatReport.{plain_refusal, plain_sums, plain_whol
 use Rattle.agreement.specs.EveryFigure.{job_sums, job_report, job_lists}
 use Rattle.agreement.proofs.Answered.{accounted, reported, answers_are}
 use Rattle.agreement.proofs.Fitting.{account_none, report_none, plain_none}
-use borrow.Author.Rules.{rules}
 use Rattle.agreement.proofs.working.work_others.Goals as goal
 use Rattle.agreement.proofs.working.work_others.Goals.{After-account-own, After-float_report-report, After-plain_report-plain, Start}
 
@@ -116,19 +115,20 @@ plain_report-plain-requires c = tt
 pub returns : goal.returns
 unfolding job_lists account_locals report_figures report_parts plain_rows plain_locals plain_figures
 returns c =
-    let third = c in
-    let middle = second ((goal.at.returns c).After-plain_report-plain) in
+    let third = ((goal.at.returns c).After-plain_report-plain) in
+    let middle = second third in
     let start = first middle in
-    let of-report = (middle.float_report-report.ensures.figures, middle.float_report-report.ensures.parts) in
-    let of_plain = (third.plain_report-plain.ensures.rows, (third.plain_report-plain.ensures.locals, third.plain_report-plain.ensures.figures)) in record {
-      value = answers_are (n start) (values start) (weights start) (classes start) (own_is start) (s start).requires.sums_value (report_is middle)
-          (plain_is ((goal.at.returns c).After-plain_report-plain));
+    let of_report = middle.float_report-report.ensures in
+    let of_plain = third.plain_report-plain.ensures in record {
+      value =
+          answers_are (n start) (values start) (weights start) (classes start) (own_is start) (s start).requires.sums_value (report_is middle)
+          (plain_is third);
       others_left = record {
         in_locals = start.account-own.ensures.lent ∙ worked_when_taken _ _ _ (own_none start);
-        in_figures = of-report.0 ∙ worked_when_taken _ _ _ (whole_none middle);
-        in_parts = of-report.1 ∙ worked_when_taken _ _ _ (whole_none middle);
-        in_plain_rows = of_plain.0 ∙ worked_when_taken _ _ _ (plain_taken ((goal.at.returns c).After-plain_report-plain));
-        in_plain_locals = of_plain.1.0 ∙ worked_when_taken _ _ _ (plain_taken ((goal.at.returns c).After-plain_report-plain));
-        in_plain_figures = of_plain.1.1 ∙ worked_when_taken _ _ _ (plain_taken ((goal.at.returns c).After-plain_report-plain));
+        in_figures = of_report.figures ∙ worked_when_taken _ _ _ (whole_none middle);
+        in_parts = of_report.parts ∙ worked_when_taken _ _ _ (whole_none middle);
+        in_plain_rows = of_plain.rows ∙ worked_when_taken _ _ _ (plain_taken third);
+        in_plain_locals = of_plain.locals ∙ worked_when_taken _ _ _ (plain_taken third);
+        in_plain_figures = of_plain.figures ∙ worked_when_taken _ _ _ (plain_taken third);
       };
     }
