@@ -143,7 +143,7 @@ unfolding table
 rises_at n end p join zero r i h = let z : ⊥ = omega arith in absurd z
 rises_at n end p join (suc zero) r i h = let z : ⊥ = omega arith in absurd z
 rises_at n end p join (suc (suc k)) (Rises.more s (Rises.more t r)) zero h = let l = t.low in omega arith
-rises_at n end p join (suc (suc k)) (Rises.more s r) (suc i) h = rises_at n end _ (λ k. join (suc k)) (suc k) r i (omega arith)
+rises_at n end p join (suc (suc k)) (Rises.more s r) (suc i) h = rises_at n end (place n (join 0) + 1) (λ k. join (suc k)) (suc k) r i (omega arith)
 
 module _ (n : ℕ) (weights : List ℕ) (some : 0 < n) (there : length weights ≡ n * n)
     (sound : first_broken (in_turn (weight_rules n weights) (n * n)) ≡ 0)
