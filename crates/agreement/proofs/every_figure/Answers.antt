@@ -128,8 +128,13 @@ refused-requires c = tt
 
 pub returns-then-lent-ne0 : goal.returns-then-lent-ne0
 returns-then-lent-ne0 c =
-    let b = c in
-    let some = c.if-lent-ne0.true in let all = refused (n ((goal.at.returns-then-lent-ne0 c).After-judge_lent-lent)) (values ((goal.at.returns-then-lent-ne0 c).After-judge_lent-lent)) (weights ((goal.at.returns-then-lent-ne0 c).After-judge_lent-lent)) (classes ((goal.at.returns-then-lent-ne0 c).After-judge_lent-lent)) (lent ((goal.at.returns-then-lent-ne0 c).After-judge_lent-lent)) _ _ _ (number_is ((goal.at.returns-then-lent-ne0 c).After-judge_lent-lent) some) some c.refused.ensures refl in record { answer = all.0; lent = all.1.0; demand3 = all.1.1 }
+    let b = (goal.at.returns-then-lent-ne0 c).After-judge_lent-lent in
+    let some = c.if-lent-ne0.true in
+    let all = refused (n b) (values b) (weights b) (classes b) (lent b) _ _ _ (number_is b some) some c.refused.ensures refl in record {
+      answer = all.0;
+      lent = all.1.0;
+      demand3 = all.1.1;
+    }
 
 pub class_account-requires : goal.class_account-requires
 class_account-requires c = tt
@@ -161,7 +166,9 @@ returns-in-Refused c =
     let d = ((goal.at.returns-in-Refused c).After-class_account) in
     let k =
     class_refused (n (b d)) (values (b d)) (weights (b d)) (classes (b d)) (lent (b d)).rows (lent (b d)).class_locals
-    (lent (b d)).own _ d.class_account.ensures.number d.class_account.ensures.figures _ c.in-Refused.is in let all = refused (n (b d)) (values (b d)) (weights (b d)) (classes (b d)) (lent (b d)) _ _ _ (k.0 ∙ rest_is d) k.1 c.refused-in-Refused.ensures
+    (lent (b d)).own _ d.class_account.ensures.number d.class_account.ensures.figures _ c.in-Refused.is in
+    let all =
+    refused (n (b d)) (values (b d)) (weights (b d)) (classes (b d)) (lent (b d)) _ _ _ (k.0 ∙ rest_is d) k.1 c.refused-in-Refused.ensures
     (lists_kept d (λ z. k.1 (k.0 ∙ z))) in record { answer = all.0; lent = all.1.0; demand3 = all.1.1 }
 
 pub returns-in-Accounted : goal.returns-in-Accounted
@@ -169,6 +176,11 @@ unfolding job_lists
 returns-in-Accounted c =
     let d = ((goal.at.returns-in-Accounted c).After-class_account) in
     let said = c.in-Accounted.is in
-    let others = c.work_others.ensures.others_left in let all = worked (n (b d)) (values (b d)) (weights (b d)) (classes (b d)) (lent (b d)) _ _ (none d _ said) c.work_others.ensures.value
+    let others = c.work_others.ensures.others_left in
+    let all = worked (n (b d)) (values (b d)) (weights (b d)) (classes (b d)) (lent (b d)) _ _ (none d _ said) c.work_others.ensures.value
     (lists_same others.in_locals (rows_left d _ said) (numerators_left d _ said) (own_left d _ said) others.in_figures
-    others.in_parts others.in_plain_rows others.in_plain_locals others.in_plain_figures) in record { answer = all.0; lent = all.1.0; demand3 = all.1.1 }
+    others.in_parts others.in_plain_rows others.in_plain_locals others.in_plain_figures) in record {
+      answer = all.0;
+      lent = all.1.0;
+      demand3 = all.1.1;
+    }

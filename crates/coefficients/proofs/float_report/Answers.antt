@@ -91,13 +91,20 @@ refused-requires c = tt
 pub returns-then-lent-ne0 : goal.returns-then-lent-ne0
 unfolding report_sums report_whole report_classes report_figures report_parts
 returns-then-lent-ne0 c =
-    let b = c in
+    let b = (goal.at.returns-then-lent-ne0 c).After-judge_lent-lent in
     let some = c.if-lent-ne0.true in
-    let number = number_is ((goal.at.returns-then-lent-ne0 c).After-judge_lent-lent) some in
-    let kept : refusal ((goal.at.returns-then-lent-ne0 c).After-judge_lent-lent) ≡ 0 → ⊥ = λ z. some (number ∙ z) in
+    let number = number_is b some in
+    let kept : refusal b ≡ 0 → ⊥ = λ z. some (number ∙ z) in
     let p =
-    refused (refusal ((goal.at.returns-then-lent-ne0 c).After-judge_lent-lent)) (n ((goal.at.returns-then-lent-ne0 c).After-judge_lent-lent)) (values ((goal.at.returns-then-lent-ne0 c).After-judge_lent-lent)) (weights ((goal.at.returns-then-lent-ne0 c).After-judge_lent-lent)) (classes ((goal.at.returns-then-lent-ne0 c).After-judge_lent-lent)) [] [] (figures ((goal.at.returns-then-lent-ne0 c).After-judge_lent-lent)) (parts ((goal.at.returns-then-lent-ne0 c).After-judge_lent-lent)) _ _ _ _ c.refused.ensures number some
-    refl refl in record { number = p.number; sums = p.sums; whole = p.whole; pairs = p.pairs; figures = p.in_figures; parts = sym (kept_when_refused _ _ _ kept) }
+    refused (refusal b) (n b) (values b) (weights b) (classes b) [] [] (figures b) (parts b) _ _ _ _ c.refused.ensures number some
+    refl refl in record {
+      number = p.number;
+      sums = p.sums;
+      whole = p.whole;
+      pairs = p.pairs;
+      figures = p.in_figures;
+      parts = sym (kept_when_refused _ _ _ kept);
+    }
 
 -- the local arrays have room for what the work is lent
 room : (c : Else-lent-ne0) → 9 * n ((goal.at.Else-lent-ne0 c).After-judge_lent-lent) ≤ 576
@@ -113,18 +120,17 @@ pub slice_bounds-report_sized-end-2 : goal.slice_bounds-report_sized-end-2
 slice_bounds-report_sized-end-2 c = sym (length-take-le _ _ (room ((goal.at.slice_bounds-report_sized-end-2 c).Else-lent-ne0)))
 
 pub slice_bounds-locals-end : goal.slice_bounds-locals-end
-slice_bounds-locals-end c = let e = c in (sized ((goal.at.slice_bounds-locals-end c).After-judge_lent-lent) e.if-lent-ne0.false).zones
+slice_bounds-locals-end c = (sized ((goal.at.slice_bounds-locals-end c).After-judge_lent-lent) c.if-lent-ne0.false).zones
 
 pub slice_bounds-report_sized-end-3 : goal.slice_bounds-report_sized-end-3
 slice_bounds-report_sized-end-3 c =
-    let e = c in
-    sym (length-take-le _ _ (sized ((goal.at.slice_bounds-report_sized-end-3 c).After-judge_lent-lent) e.if-lent-ne0.false).zones)
+    sym (length-take-le _ _ (sized ((goal.at.slice_bounds-report_sized-end-3 c).After-judge_lent-lent) c.if-lent-ne0.false).zones)
 
 pub report_sized-requires : goal.report_sized-requires
 report_sized-requires c =
-    let e = c in
-    let fit = lists_fit ((goal.at.report_sized-requires c).After-judge_lent-lent) e.if-lent-ne0.false in
-    let zones = (sized ((goal.at.report_sized-requires c).After-judge_lent-lent) e.if-lent-ne0.false).zones in record {
+    let b = (goal.at.report_sized-requires c).After-judge_lent-lent in
+    let fit = lists_fit b c.if-lent-ne0.false in
+    let zones = (sized b c.if-lent-ne0.false).zones in record {
       zones = zones;
       rows_fit = refl;
       class_locals_fit = length-take-le _ _ (room ((goal.at.report_sized-requires c).Else-lent-ne0));
@@ -136,9 +142,14 @@ report_sized-requires c =
 pub returns : goal.returns
 unfolding report_sums report_whole report_classes report_figures
 returns c =
-    let done = c in
-    let e = c in
-    let b = c in
-    let z = e.if-lent-ne0.false in
-    let said = done.report_sized.ensures in
-    let p = reports_same (rest_is ((goal.at.returns c).After-judge_lent-lent) z) said in record { number = p.number; sums = p.sums; whole = p.whole; pairs = p.pairs; figures = p.in_figures; parts = parts_are ((goal.at.returns c).After-judge_lent-lent) z said.in_parts }
+    let b = (goal.at.returns c).After-judge_lent-lent in
+    let z = c.if-lent-ne0.false in
+    let said = c.report_sized.ensures in
+    let p = reports_same (rest_is b z) said in record {
+      number = p.number;
+      sums = p.sums;
+      whole = p.whole;
+      pairs = p.pairs;
+      figures = p.in_figures;
+      parts = parts_are b z said.in_parts;
+    }

@@ -75,11 +75,19 @@ refused-requires c = tt
 pub returns-then-lent-ne0 : goal.returns-then-lent-ne0
 unfolding plain_sums plain_whole plain_classes plain_rows plain_locals plain_figures
 returns-then-lent-ne0 c =
-    let b = c in
+    let b = (goal.at.returns-then-lent-ne0 c).After-judge_plain-lent in
     let some = c.if-lent-ne0.true in
     let p =
-    refused (refusal ((goal.at.returns-then-lent-ne0 c).After-judge_plain-lent)) (n ((goal.at.returns-then-lent-ne0 c).After-judge_plain-lent)) (values ((goal.at.returns-then-lent-ne0 c).After-judge_plain-lent)) (weights ((goal.at.returns-then-lent-ne0 c).After-judge_plain-lent)) (classes ((goal.at.returns-then-lent-ne0 c).After-judge_plain-lent)) (rows ((goal.at.returns-then-lent-ne0 c).After-judge_plain-lent)) (locals ((goal.at.returns-then-lent-ne0 c).After-judge_plain-lent)) (figures ((goal.at.returns-then-lent-ne0 c).After-judge_plain-lent)) [] _ _ _ _ c.refused.ensures
-    (number_is ((goal.at.returns-then-lent-ne0 c).After-judge_plain-lent) some) some refl refl in record { number = p.number; sums = p.sums; whole = p.whole; pairs = p.pairs; rows = p.in_rows; locals = p.in_locals; figures = p.in_figures }
+    refused (refusal b) (n b) (values b) (weights b) (classes b) (rows b) (locals b) (figures b) [] _ _ _ _ c.refused.ensures
+    (number_is b some) some refl refl in record {
+      number = p.number;
+      sums = p.sums;
+      whole = p.whole;
+      pairs = p.pairs;
+      rows = p.in_rows;
+      locals = p.in_locals;
+      figures = p.in_figures;
+    }
 
 -- the local array has room for the local numerators of nine classes
 room : (c : Else-lent-ne0) → 9 * n ((goal.at.Else-lent-ne0 c).After-judge_plain-lent) ≤ 576
@@ -96,9 +104,9 @@ slice_bounds-report_sized-end c = sym (length-take-le _ _ (room ((goal.at.slice_
 
 pub report_sized-requires : goal.report_sized-requires
 report_sized-requires c =
-    let e = c in
-    let fit = lists_fit ((goal.at.report_sized-requires c).After-judge_plain-lent) e.if-lent-ne0.false in record {
-      zones = (sized ((goal.at.report_sized-requires c).After-judge_plain-lent) e.if-lent-ne0.false).zones;
+    let b = (goal.at.report_sized-requires c).After-judge_plain-lent in
+    let fit = lists_fit b c.if-lent-ne0.false in record {
+      zones = (sized b c.if-lent-ne0.false).zones;
       rows_fit = fit.0;
       class_locals_fit = length-take-le _ _ (room ((goal.at.report_sized-requires c).Else-lent-ne0));
       locals_fit = fit.1.0;
@@ -109,6 +117,12 @@ report_sized-requires c =
 pub returns : goal.returns
 unfolding plain_sums plain_whole plain_classes plain_rows plain_locals plain_figures
 returns c =
-    let done = c in
-    let e = c in
-    let p = reports_same (rest_is ((goal.at.returns c).After-judge_plain-lent) e.if-lent-ne0.false) done.report_sized.ensures in record { number = p.number; sums = p.sums; whole = p.whole; pairs = p.pairs; rows = p.in_rows; locals = p.in_locals; figures = p.in_figures }
+    let p = reports_same (rest_is ((goal.at.returns c).After-judge_plain-lent) c.if-lent-ne0.false) c.report_sized.ensures in record {
+      number = p.number;
+      sums = p.sums;
+      whole = p.whole;
+      pairs = p.pairs;
+      rows = p.in_rows;
+      locals = p.in_locals;
+      figures = p.in_figures;
+    }

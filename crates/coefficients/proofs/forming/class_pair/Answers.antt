@@ -33,6 +33,6 @@ pair-requires c = ratios.formable_same (spread_read c) (row_read c) (sums c)
 
 pub returns : goal.returns
 returns c =
-    let b = c in
-    let n = (a ((goal.at.returns c).After-squares-1)).args.n in
-    c.pair.ensures ∙ ap (λ v. pair_of n v (ratios.read (row ((goal.at.returns c).After-squares-1)))) (spread_read ((goal.at.returns c).After-squares-1)) ∙ ap (pair_of n (a ((goal.at.returns c).After-squares-1)).args.spread) (row_read ((goal.at.returns c).After-squares-1))
+    let b = (goal.at.returns c).After-squares-1 in
+    let n = (a b).args.n in
+    c.pair.ensures ∙ ap (λ v. pair_of n v (ratios.read (row b))) (spread_read b) ∙ ap (pair_of n (a b).args.spread) (row_read b)

@@ -19,27 +19,18 @@ listed p a b c d e f g h i e0 e1 e2 e3 e4 e5 e6 e7 e8 = rw (e0, e1, e2, e3, e4, 
 
 pub returns : goal.returns
 returns c =
-    let c8 = c in
-    let c7 = c in
-    let c6 = c in
-    let c5 = c in
-    let c4 = c in
-    let c3 = c in
-    let c2 = c in
-    let c1 = c in
-    let s = c in
-    let n = s.args.n in
-    let rows = s.args.rows.now in
-    let m = s.args.spread in
+    let n = c.args.n in
+    let rows = c.args.rows.now in
+    let m = c.args.spread in
     let read : (k : ℕ) → pair_of n (r64 m) (row_at rows k) ≡ pair_of n m (row_at rows k) =
-    λ k. ap (λ v. pair_of n v (row_at rows k)) (to_z-of_z w64 m s.ranges.spread) in
-    listed (λ k. pair_of n s.args.spread (row_at rows k)) _ _ _ _ _ _ _ _ _
-    (c1.class_pair.ensures ∙ read 0)
-    (c2.class_pair-2.ensures ∙ read 1)
-    (c3.class_pair-3.ensures ∙ read 2)
-    (c4.class_pair-4.ensures ∙ read 3)
-    (c5.class_pair-5.ensures ∙ read 4)
-    (c6.class_pair-6.ensures ∙ read 5)
-    (c7.class_pair-7.ensures ∙ read 6)
-    (c8.class_pair-8.ensures ∙ read 7)
+    λ k. ap (λ v. pair_of n v (row_at rows k)) (to_z-of_z w64 m c.ranges.spread) in
+    listed (λ k. pair_of n c.args.spread (row_at rows k)) _ _ _ _ _ _ _ _ _
+    (c.class_pair.ensures ∙ read 0)
+    (c.class_pair-2.ensures ∙ read 1)
+    (c.class_pair-3.ensures ∙ read 2)
+    (c.class_pair-4.ensures ∙ read 3)
+    (c.class_pair-5.ensures ∙ read 4)
+    (c.class_pair-6.ensures ∙ read 5)
+    (c.class_pair-7.ensures ∙ read 6)
+    (c.class_pair-8.ensures ∙ read 7)
     (c.class_pair-9.ensures ∙ read 8)

@@ -28,52 +28,47 @@ formed n spread row moran geary some e f = rw (some, e, f) refl
 
 -- at the second arm there is weight
 weighty : (c : Else-weight-eq0) → is_zero c.args.row.weight ≡ false
-weighty c = let s = c in zero_no w64 (ratios.weight_val _ _ _ s.requires).same c.if-weight-eq0.false
+weighty c = zero_no w64 (ratios.weight_val _ _ _ c.requires).same c.if-weight-eq0.false
 
 pub returns-then-weight-eq0 : goal.returns-then-weight-eq0
 unfolding pair_of coefficient
 returns-then-weight-eq0 c =
-    let s = c in
-    rw (zero_yes w64 (ratios.weight_val _ _ _ s.requires) tt c.if-weight-eq0.true) refl
+    rw (zero_yes w64 (ratios.weight_val _ _ _ c.requires) tt c.if-weight-eq0.true) refl
 
 pub overflow_mul-weight : goal.overflow_mul-weight
-overflow_mul-weight c = let s = c in fit w64 (ratios.moran_divisor_is _ _ _ s.requires) tt
+overflow_mul-weight c = fit w64 (ratios.moran_divisor_is _ _ _ c.requires) tt
 
 pub ratio-moran-requires : goal.ratio-moran-requires
 ratio-moran-requires c =
-    let s = c in
-    ratios.ratio_same (ratios.cross_is _ _ _ s.requires).same (rd w64 (ratios.moran_divisor_is _ _ _ s.requires) tt).same
-    (ratios.moran_ratio _ _ _ s.requires (weighty c))
+    ratios.ratio_same (ratios.cross_is _ _ _ c.requires).same (rd w64 (ratios.moran_divisor_is _ _ _ c.requires) tt).same
+    (ratios.moran_ratio _ _ _ c.requires (weighty c))
 
 pub overflow_mul-ordered : goal.overflow_mul-ordered
-overflow_mul-ordered c = let s = c in omega (arith, ratios.ordered_le _ s.requires.zones)
+overflow_mul-ordered c = omega (arith, ratios.ordered_le _ c.requires.zones)
 
 pub overflow_cast-ordered : goal.overflow_cast-ordered
-overflow_cast-ordered c = let s = c in fits_le w64 _ 4032 (ratios.ordered_le _ s.requires.zones) tt
+overflow_cast-ordered c = fits_le w64 _ 4032 (ratios.ordered_le _ c.requires.zones) tt
 
 pub overflow_mul-twice : goal.overflow_mul-twice
-overflow_mul-twice c = let s = c in fit w64 (ratios.twice_is _ _ _ s.requires) tt
+overflow_mul-twice c = fit w64 (ratios.twice_is _ _ _ c.requires) tt
 
 pub overflow_mul-ordered-2 : goal.overflow_mul-ordered-2
-overflow_mul-ordered-2 c = let s = c in fit w64 (ratios.geary_numerator_is _ _ _ s.requires) tt
+overflow_mul-ordered-2 c = fit w64 (ratios.geary_numerator_is _ _ _ c.requires) tt
 
 pub overflow_mul-twice-2 : goal.overflow_mul-twice-2
-overflow_mul-twice-2 c = let s = c in fit w64 (ratios.geary_divisor_is _ _ _ s.requires) tt
+overflow_mul-twice-2 c = fit w64 (ratios.geary_divisor_is _ _ _ c.requires) tt
 
 pub ratio-geary-requires : goal.ratio-geary-requires
 ratio-geary-requires c =
-    let s = c in
-    let numerator = (rd w64 (ratios.geary_numerator_is _ _ _ s.requires) tt).same in
-    let divisor = (rd w64 (ratios.geary_divisor_is _ _ _ s.requires) tt).same in
-    ratios.ratio_same numerator divisor (ratios.geary_ratio _ _ _ s.requires (weighty ((goal.at.ratio-geary-requires c).Else-weight-eq0)))
+    let numerator = (rd w64 (ratios.geary_numerator_is _ _ _ c.requires) tt).same in
+    let divisor = (rd w64 (ratios.geary_divisor_is _ _ _ c.requires) tt).same in
+    ratios.ratio_same numerator divisor (ratios.geary_ratio _ _ _ c.requires (weighty ((goal.at.ratio-geary-requires c).Else-weight-eq0)))
 
 pub returns : goal.returns
 returns c =
-    let e = c in
-    let s = c in
-    let moran = (rd w64 (ratios.moran_divisor_is _ _ _ s.requires) tt).same in
-    let numerator = (rd w64 (ratios.geary_numerator_is _ _ _ s.requires) tt).same in
-    let divisor = (rd w64 (ratios.geary_divisor_is _ _ _ s.requires) tt).same in
+    let moran = (rd w64 (ratios.moran_divisor_is _ _ _ c.requires) tt).same in
+    let numerator = (rd w64 (ratios.geary_numerator_is _ _ _ c.requires) tt).same in
+    let divisor = (rd w64 (ratios.geary_divisor_is _ _ _ c.requires) tt).same in
     formed _ _ _ _ _ (weighty ((goal.at.returns c).Else-weight-eq0))
-    (c.ratio-moran.ensures ∙ ratios.nearest_same (ratios.cross_is _ _ _ s.requires).same moran)
+    (c.ratio-moran.ensures ∙ ratios.nearest_same (ratios.cross_is _ _ _ c.requires).same moran)
     (c.ratio-geary.ensures ∙ ratios.nearest_same numerator divisor)

@@ -23,7 +23,7 @@ pub loop-i-init : goal.loop-i-init
 loop-i-init c = (omega arith, (c.requires.figures_len, λ k p. let z : ⊥ = omega arith in absurd z))
 
 pub offset_bounds-numerators-i : goal.offset_bounds-numerators-i
-offset_bounds-numerators-i c = let a = c in omega (arith, c.loop-i-test.true, a.requires.numerators.few)
+offset_bounds-numerators-i c = omega (arith, c.loop-i-test.true, c.requires.numerators.few)
 
 pub bounds-numerators-i : goal.bounds-numerators-i
 bounds-numerators-i c = omega arith
@@ -51,20 +51,25 @@ ratio-figure-requires c = ratio_same (numerator_read c) (spread_read c) (ratio c
 -- the nearest float is no NaN, so that its bits are its own
 figure_is :
     (c : After-ratio-figure) →
-    c.ratio-figure.result ≡ nearest_float (numerator ((goal.at.After-ratio-figure c).After-numerator-1)) (r64 (a ((goal.at.After-ratio-figure c).After-numerator-1)).args.spread)
-figure_is c = c.ratio-figure.ensures ∙ ap (λ v. nearest_float v (r64 (a ((goal.at.After-ratio-figure c).After-numerator-1)).args.spread)) (numerator_read ((goal.at.After-ratio-figure c).After-numerator-1))
+    let b = (goal.at.After-ratio-figure c).After-numerator-1 in
+    c.ratio-figure.result ≡ nearest_float (numerator b) (r64 (a b).args.spread)
+figure_is c =
+    let b = (goal.at.After-ratio-figure c).After-numerator-1 in
+    c.ratio-figure.ensures ∙ ap (λ v. nearest_float v (r64 (a b).args.spread)) (numerator_read b)
 
 pub float_to_bits-figures : goal.float_to_bits-figures
-float_to_bits-figures c = rw (figure_is c) (not_nan (numerator ((goal.at.float_to_bits-figures c).After-numerator-1)) (r64 (a ((goal.at.float_to_bits-figures c).After-numerator-1)).args.spread))
+float_to_bits-figures c =
+    let b = (goal.at.float_to_bits-figures c).After-numerator-1 in
+    rw (figure_is c) (not_nan (numerator b) (r64 (a b).args.spread))
 
 pub offset_bounds-figures-i : goal.offset_bounds-figures-i
-offset_bounds-figures-i c = let a = c in omega (arith, c.loop-i-test.true, a.requires.numerators.few)
+offset_bounds-figures-i c = omega (arith, c.loop-i-test.true, c.requires.numerators.few)
 
 pub bounds-figures-i : goal.bounds-figures-i
 bounds-figures-i c = omega (arith, c.loop-i-test.true)
 
 pub overflow_add-i : goal.overflow_add-i
-overflow_add-i c = let a = c in omega (arith, c.loop-i-test.true, a.requires.numerators.few)
+overflow_add-i c = omega (arith, c.loop-i-test.true, c.requires.numerators.few)
 
 pub loop-i-smaller : goal.loop-i-smaller
 loop-i-smaller c = omega (arith, c.loop-i-test.true)
@@ -83,14 +88,13 @@ loop-i-preserved c =
     )
 
 pub shape_of-figures : goal.shape_of-figures
-shape_of-figures c = let a = c in omega (arith, c.loop-i.invariant.1.0, a.requires.figures_len)
+shape_of-figures c = omega (arith, c.loop-i.invariant.1.0, c.requires.figures_len)
 
 pub returns : goal.returns
 unfolding local_figures
 returns c =
     let b = c.loop-i in
-    let s = c in
-    let spread = to_z-of_z w64 s.args.spread s.ranges.spread in
-    let l = s.args.numerators.now in
-    is_table (λ k. nearest_bits (at l k) s.args.spread) (length l) 0 b.figures b.invariant.1.0
+    let spread = to_z-of_z w64 c.args.spread c.ranges.spread in
+    let l = c.args.numerators.now in
+    is_table (λ k. nearest_bits (at l k) c.args.spread) (length l) 0 b.figures b.invariant.1.0
     (λ k p. b.invariant.1.1 k (omega arith) ∙ ap (nearest_bits (at l k)) spread)

@@ -17,20 +17,18 @@ overflow_mul-n c = omega (arith, c.if-n-gt64.false)
 
 pub returns-then-parts-n : goal.returns-then-parts-n
 returns-then-parts-n c =
-    let b = c in
     simp (
-      le-ltb _ _ b.if-n-lt2.false,
-      le-ltb _ _ b.if-n-gt64.false,
-      eq-eqb _ _ b.if-figures-n.false,
+      le-ltb _ _ c.if-n-lt2.false,
+      le-ltb _ _ c.if-n-gt64.false,
+      eq-eqb _ _ c.if-figures-n.false,
       ne_eqb _ _ c.if-parts-n.true,
     )
 
 pub returns : goal.returns
 returns c =
-    let b = c in
     simp (
-      le-ltb _ _ b.if-n-lt2.false,
-      le-ltb _ _ b.if-n-gt64.false,
-      eq-eqb _ _ b.if-figures-n.false,
+      le-ltb _ _ c.if-n-lt2.false,
+      le-ltb _ _ c.if-n-gt64.false,
+      eq-eqb _ _ c.if-figures-n.false,
       eq-eqb _ _ c.if-parts-n.false,
     )

@@ -13,32 +13,29 @@ returns-then-rows-ne27 c = simp (le-ltb _ _ c.if-n-lt2.false, le-ltb _ _ c.if-n-
 
 pub returns-then-locals-n : goal.returns-then-locals-n
 returns-then-locals-n c =
-    let b = c in
     simp (
-      le-ltb _ _ b.if-n-lt2.false,
-      le-ltb _ _ b.if-n-gt64.false,
-      eq-eqb _ _ b.if-rows-ne27.false,
+      le-ltb _ _ c.if-n-lt2.false,
+      le-ltb _ _ c.if-n-gt64.false,
+      eq-eqb _ _ c.if-rows-ne27.false,
       ne_eqb _ _ c.if-locals-n.true,
     )
 
 pub returns-then-figures-n : goal.returns-then-figures-n
 returns-then-figures-n c =
-    let b = c in
     simp (
-      le-ltb _ _ b.if-n-lt2.false,
-      le-ltb _ _ b.if-n-gt64.false,
-      eq-eqb _ _ b.if-rows-ne27.false,
+      le-ltb _ _ c.if-n-lt2.false,
+      le-ltb _ _ c.if-n-gt64.false,
+      eq-eqb _ _ c.if-rows-ne27.false,
       eq-eqb _ _ c.if-locals-n.false,
       ne_eqb _ _ c.if-figures-n.true,
     )
 
 pub returns : goal.returns
 returns c =
-    let b = c in
     simp (
-      le-ltb _ _ b.if-n-lt2.false,
-      le-ltb _ _ b.if-n-gt64.false,
-      eq-eqb _ _ b.if-rows-ne27.false,
+      le-ltb _ _ c.if-n-lt2.false,
+      le-ltb _ _ c.if-n-gt64.false,
+      eq-eqb _ _ c.if-rows-ne27.false,
       eq-eqb _ _ c.if-locals-n.false,
       eq-eqb _ _ c.if-figures-n.false,
     )

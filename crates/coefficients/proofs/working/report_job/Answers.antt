@@ -47,13 +47,23 @@ abbrev second_put : After-put_figures-2 → After-put_figures
 second_put c = ((goal.at.After-put_figures-2 c).After-put_figures)
 
 pub put_figures-requires : goal.put_figures-requires
-put_figures-requires c = let b = c in record { numerators = numerators_same (spread_read ((goal.at.put_figures-requires c).After-struct_told-2-1)) refl (s ((goal.at.put_figures-requires c).After-struct_told-2-1)).requires.reportable.numerators; figures_len = (s ((goal.at.put_figures-requires c).After-struct_told-2-1)).requires.figures_len }
+put_figures-requires c =
+    let b = (goal.at.put_figures-requires c).After-struct_told-2-1 in record {
+      numerators = numerators_same (spread_read b) refl (s b).requires.reportable.numerators;
+      figures_len = (s b).requires.figures_len;
+    }
 
 pub slice_bounds-put_figures-end : goal.slice_bounds-put_figures-end
-slice_bounds-put_figures-end c = let b = first_put ((goal.at.slice_bounds-put_figures-end c).After-put_figures) in sym (length-take-le _ _ (s b).requires.parts_in_bounds)
+slice_bounds-put_figures-end c =
+    let b = first_put ((goal.at.slice_bounds-put_figures-end c).After-put_figures) in
+    sym (length-take-le _ _ (s b).requires.parts_in_bounds)
 
 pub put_figures-requires-2 : goal.put_figures-requires-2
-put_figures-requires-2 c = let b = first_put ((goal.at.put_figures-requires-2 c).After-put_figures) in record { numerators = numerators_same (spread_read b) refl (numerators_first _ (s b).requires.parts_in_bounds (s b).requires.reportable.class_numerators); figures_len = sym (length-take-le _ _ (s b).requires.parts_in_bounds) }
+put_figures-requires-2 c =
+    let b = first_put ((goal.at.put_figures-requires-2 c).After-put_figures) in record {
+      numerators = numerators_same (spread_read b) refl (numerators_first _ (s b).requires.parts_in_bounds (s b).requires.reportable.class_numerators);
+      figures_len = sym (length-take-le _ _ (s b).requires.parts_in_bounds);
+    }
 
 pub pair-pair-requires : goal.pair-pair-requires
 pair-pair-requires c =
@@ -84,11 +94,10 @@ figures_same l e h = rw (← e) h
 
 pub returns : goal.returns
 returns c =
-    let second = c in
     let first = second_put ((goal.at.returns c).After-put_figures-2) in
     let b = first_put first in record {
       value = both refl (pair_same (n b) (spread_read b) (row_is b) c.pair-pair.ensures)
           (pairs_same (n b) (s b).args.rows.now (spread_read b) c.class_pairs.ensures);
       figures_after = figures_same (s b).args.locals.now (spread_read b) first.put_figures.ensures;
-      parts_after = figures_same (take (length (s b).args.parts.now) (s b).args.class_locals.now) (spread_read b) second.put_figures-2.ensures;
+      parts_after = figures_same (take (length (s b).args.parts.now) (s b).args.class_locals.now) (spread_read b) c.put_figures-2.ensures;
     }
