@@ -5,7 +5,6 @@ use Prim.Native.Nat.{◌≤◌}
 use lib.Seq.{length-take-le}
 use Rattle.account.proofs.Theorems.{sizes_refusal, refusal_by_sizes, sizes_fit}
 use Rattle.hot_list.proofs.Answered.{refused, by_refusal, by_sums}
-use borrow.Author.Rules.{rules}
 use Rattle.hot_list.proofs.hot_list.Goals as goal
 use Rattle.hot_list.proofs.hot_list.Goals.{Else-sizes-ne0}
 
@@ -32,13 +31,16 @@ slice_bounds-locals-end c = sym (length-take-le _ _ (fit ((goal.at.slice_bounds-
 
 pub returns-in-Refused : goal.returns-in-Refused
 returns-in-Refused c =
-    let b = c in
-    let e = c in let all = by_refusal _ _ _ _ (good ((goal.at.returns-in-Refused c).Else-sizes-ne0)) _ (length-take-le _ _ (fit ((goal.at.returns-in-Refused c).Else-sizes-ne0))) _ b.account.ensures.number b.account.ensures.figures _
-    c.number-1.given.1 in record { number = all.0; lent = all.1 }
+    let e = (goal.at.returns-in-Refused c).Else-sizes-ne0 in
+    let told = c.account.ensures in
+    let all = by_refusal _ _ _ _ (good e) _ (length-take-le _ _ (fit e)) _ told.number told.figures _ c.in-Refused.is in
+    record { number = all.0; lent = all.1 }
 
 pub returns-in-Accounted : goal.returns-in-Accounted
 returns-in-Accounted c =
-    let p = c in
-    let b = c in
-    let e = c in let all = by_sums _ _ _ _ (good ((goal.at.returns-in-Accounted c).Else-sizes-ne0)) _ (length-take-le _ _ (fit ((goal.at.returns-in-Accounted c).Else-sizes-ne0))) _ b.account.ensures.number b.account.ensures.figures _ _ _ _
-    p.enum_told.given.1 b.account.ensures.lent p.order.ensures.number p.order.ensures.lent in record { number = all.0; lent = all.1 }
+    let e = (goal.at.returns-in-Accounted c).Else-sizes-ne0 in
+    let told = c.account.ensures in
+    let put = c.order.ensures in
+    let by = by_sums _ _ _ _ (good e) _ (length-take-le _ _ (fit e)) _ told.number told.figures in
+    let all = by _ _ _ _ c.in-Accounted.is told.lent put.number put.lent in
+    record { number = all.0; lent = all.1 }
