@@ -30,7 +30,7 @@ module _ {n end : ℕ} where
   unfolding table
   last_sits join zero (Rises.more s r) = s
   last_sits {p} join (suc k) (Rises.more s r) =
-      let last = last_sits (λ i. join (suc i)) k r in
+      let last = last_sits {p = place n (join 0) + 1} (λ i. join (suc i)) k r in
       sits_from p (omega arith) last
 
   -- so that no other has its place
@@ -39,10 +39,10 @@ module _ {n end : ℕ} where
       weight_at n (table join (suc k)) (place n (join k)) ≡ (join k).weight
   unfolding table
   last_here join zero (Rises.more s r) = weight_here n (place n (join 0)) (join 0) [] s.column refl
-  last_here join (suc k) (Rises.more s r) =
-      let last = last_sits (λ i. join (suc i)) k r in
+  last_here {p = p} join (suc k) (Rises.more s r) =
+      let last = last_sits {p = place n (join 0) + 1} (λ i. join (suc i)) k r in
       weight_past n (place n (join (suc k))) (join 0) (table (λ i. join (suc i)) (suc k)) (λ e. omega arith)
-      ∙ last_here (λ i. join (suc i)) k r
+      ∙ last_here {p = place n (join 0) + 1} (λ i. join (suc i)) k r
 
 -- every other place has what it had
 last_past :

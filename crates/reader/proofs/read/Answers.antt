@@ -53,6 +53,5 @@ pub returns : goal.returns
 returns c =
     let stored = c in
     let e = before_store ((goal.at.returns c).After-store) in
-    let j = e.before in
-    let b = j.before.before in let all = taken (image b) (lent b) _ (sized b) j.if-lengths-ne0.false j.judge-layout.result c.counts.result _ (storable e) c.counts.ensures
+    let b = ((goal.at.Else-number-ne0 e).After-judge_lengths-lengths) in let all = taken (image b) (lent b) _ (sized b) e.if-lengths-ne0.false e.judge-layout.result c.counts.result _ (storable e) c.counts.ensures
     stored.store.ensures in record { number = all.0; counts = all.1.0; lent = all.1.1 }

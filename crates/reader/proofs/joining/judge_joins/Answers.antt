@@ -42,7 +42,8 @@ module _ (c : After-judge_join-number) where
   abbrev join : ℕ → Join
   join = join_in (drop start.args.at image)
 
-  passed : invariant_loop image start.args.at start.args.k n 0 0 at_loop.loop-i.next i
+  passed :
+      (i ≤ start.args.k) × (first_broken (in_turn (join_rules n join) i) ≡ 0) × (at_loop.loop-i.next ≡ next_place n join i)
   passed = at_loop.loop-i.invariant
 
   number_is : c.judge_join-number.result ≡ first_broken (join_rules n join i)

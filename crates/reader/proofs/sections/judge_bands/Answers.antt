@@ -35,7 +35,7 @@ searched c =
     let s = c in
     let space = c in
     let a = space.args in
-    let read = read_from (λ b i. word_at b (4 * i)) a.image.now a.at a.k _ (sym (slice_aggregate_bands ((goal.at.After-any_misplaced c).After-shared_slice_known-1))) in
+    let read = read_from (λ b i. word_at b (4 * i)) a.image.now a.at a.k _ (length-take-le _ _ (omega arith)) in
     sym (c.any_misplaced.ensures ∙ ap any_misplaced (s.words_in.ensures ∙ read))
 
 pub returns-then-any_misplaced : goal.returns-then-any_misplaced

@@ -20,7 +20,7 @@ pub slice_bounds-space-end : goal.slice_bounds-space-end
 slice_bounds-space-end c = omega arith
 
 pub slice_bounds-places-end : goal.slice_bounds-places-end
-slice_bounds-places-end c = sym (length-take-le _ _ (array_borrow_prefix_space ((goal.at.slice_bounds-places-end c).After-shared_slice_known-1)))
+slice_bounds-places-end c = sym (length-take-le _ _ (omega arith))
 
 pub slice_bounds-signed_words_in-count : goal.slice_bounds-signed_words_in-count
 slice_bounds-signed_words_in-count c = omega arith
@@ -36,5 +36,5 @@ returns c =
     let s = c in
     let space = c in
     let a = space.args in
-    let read = read_from (λ b i. to_z w32 (word_at b (4 * i))) a.image.now a.at (2 * a.k) _ (sym (slice_aggregate_places ((goal.at.returns c).After-shared_slice_known-1))) in
+    let read = read_from (λ b i. to_z w32 (word_at b (4 * i))) a.image.now a.at (2 * a.k) _ (length-take-le _ _ (omega arith)) in
     c.judge_in_turn.ensures ∙ ap (λ places. first_broken (places_in_turn places)) (s.signed_words_in.ensures ∙ read)

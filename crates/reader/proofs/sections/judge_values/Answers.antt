@@ -37,7 +37,7 @@ searched c =
     let s = c in
     let space = c in
     let a = space.args in
-    let read = read_from (λ b i. to_z w32 (word_at b (4 * i))) a.image.now a.at a.k _ (sym (slice_aggregate_values ((goal.at.After-any_beyond c).After-shared_slice_known-1))) in
+    let read = read_from (λ b i. to_z w32 (word_at b (4 * i))) a.image.now a.at a.k _ (length-take-le _ _ (omega arith)) in
     sym (c.any_beyond.ensures ∙ ap (any_beyond 100000) (s.signed_words_in.ensures ∙ read))
 
 pub returns-then-any_beyond : goal.returns-then-any_beyond

@@ -57,25 +57,25 @@ pub store_weights-requires : goal.store_weights-requires
 store_weights-requires c = let r = has_room (from_second ((goal.at.store_weights-requires c).After-store_bytes)) in record { joinable = r.joins_there; n_in_bounds = r.weights_room }
 
 pub overflow_add-layout-3 : goal.overflow_add-layout-3
-overflow_add-layout-3 c = let a = from_third ((goal.at.overflow_add-layout-3 c).After-store_weights) in omega (arith, a.good.0, (has_room a).places_there)
+overflow_add-layout-3 c = let a = from_third ((goal.at.overflow_add-layout-3 c).After-store_weights) in omega (arith, a.well_formed, (has_room a).places_there)
 
 pub overflow_mul-layout : goal.overflow_mul-layout
-overflow_mul-layout c = let a = from_third ((goal.at.overflow_mul-layout c).After-store_weights) in omega (arith, a.good, (has_room a).places_room)
+overflow_mul-layout c = let a = from_third ((goal.at.overflow_mul-layout c).After-store_weights) in omega (arith, a.well_formed, (has_room a).places_room)
 
 pub store_signed-requires-2 : goal.store_signed-requires-2
 store_signed-requires-2 c = let r = has_room (from_third ((goal.at.store_signed-requires-2 c).After-store_weights)) in record { at_in_bounds = r.places_there; k_in_bounds = r.places_room }
 
 pub overflow_add-layout-4 : goal.overflow_add-layout-4
-overflow_add-layout-4 c = let a = from_fourth ((goal.at.overflow_add-layout-4 c).After-store_signed-2) in omega (arith, a.good.0, (has_room a).bands_there)
+overflow_add-layout-4 c = let a = from_fourth ((goal.at.overflow_add-layout-4 c).After-store_signed-2) in omega (arith, a.well_formed, (has_room a).bands_there)
 
 pub store_words-requires : goal.store_words-requires
 store_words-requires c = let r = has_room (from_fourth ((goal.at.store_words-requires c).After-store_signed-2)) in record { at_in_bounds = r.bands_there; k_in_bounds = r.bands_room }
 
 pub overflow_add-layout-5 : goal.overflow_add-layout-5
-overflow_add-layout-5 c = let a = from_fifth ((goal.at.overflow_add-layout-5 c).After-store_words) in omega (arith, a.good.0, (has_room a).shuffles_there)
+overflow_add-layout-5 c = let a = from_fifth ((goal.at.overflow_add-layout-5 c).After-store_words) in omega (arith, a.well_formed, (has_room a).shuffles_there)
 
 pub overflow_mul-layout-2 : goal.overflow_mul-layout-2
-overflow_mul-layout-2 c = let a = from_fifth ((goal.at.overflow_mul-layout-2 c).After-store_words) in omega (arith, a.good, (has_room a).shuffles_room)
+overflow_mul-layout-2 c = let a = from_fifth ((goal.at.overflow_mul-layout-2 c).After-store_words) in omega (arith, a.well_formed, (has_room a).shuffles_room)
 
 pub store_bytes-requires-2 : goal.store_bytes-requires-2
 store_bytes-requires-2 c = let r = has_room (from_fifth ((goal.at.store_bytes-requires-2 c).After-store_words)) in record { k_in_bounds = r.shuffles_there; k_in_bounds_2 = r.shuffles_room }
@@ -84,7 +84,7 @@ pub shape_of-values : goal.shape_of-values
 shape_of-values c = (first (second (third (fourth (fifth ((goal.at.shape_of-values c).After-store_bytes-2)))))).store_signed.auto.buffer
 
 pub shape_of-categories : goal.shape_of-categories
-shape_of-categories c = (second (third (fourth (fifth ((goal.at.shape_of-categories c).After-store_bytes-2))))).store_Bytes.auto.1.1.1.0
+shape_of-categories c = (second (third (fourth (fifth ((goal.at.shape_of-categories c).After-store_bytes-2))))).store_bytes.auto.buffer
 
 pub returns : goal.returns
 returns c =
@@ -96,5 +96,5 @@ returns c =
     let c1 = first c2 in
     let a = from_first c1 in
     stored a.args.image.now a.args.layout (lent a) a.requires.laid _ _ _ _ _ _ c1.store_signed.ensures
-    c2.store_Bytes.ensures c3.store_weights.ensures c4.store_signed-2.ensures c5.store_words_lem.ensures
+    c2.store_bytes.ensures c3.store_weights.ensures c4.store_signed-2.ensures c5.store_words.ensures
     c6.store_bytes-2.ensures

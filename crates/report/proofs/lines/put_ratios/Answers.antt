@@ -38,18 +38,6 @@ overflow_mul-of_geary-2 c = fit w64 (moran_divisor_is (sums c) (reads c) (start 
 pub overflow_mul-of_geary-4 : goal.overflow_mul-of_geary-4
 overflow_mul-of_geary-4 c = omega (arith, ordered_le (n c) (start c).requires.within.zones)
 
--- LEFT (no such goal now): cast_t17 : Need-overflow-cast-t17
--- cast_t17 c = fits_le w64 (pos _) 4032 (ordered_le (n c) (start c).requires.0.zones) tt
-
--- LEFT (no such goal now): mul_t20 : Need-overflow-mul-t20
--- mul_t20 c = let t = c.before.before in fit w64 (geary_numerator_is (sums t) (reads t) (start t).requires.0) tt
-
--- LEFT (no such goal now): mul_t21 : Need-overflow-mul-t21
--- mul_t21 c = let t = c.before.before.before.before in fit w64 (twice_is (sums t) (reads t) (start t).requires.0) tt
-
--- LEFT (no such goal now): mul_t22 : Need-overflow-mul-t22
--- mul_t22 c = let t = told c in fit w64 (geary_divisor_is (sums t) (reads t) (start t).pre.0) tt
-
 pub put_figure_line-place-requires : goal.put_figure_line-place-requires
 put_figure_line-place-requires c = let s = start (told ((goal.at.put_figure_line-place-requires c).After-struct_told-5-1)) in record { short = record { letters = omega arith; items = omega arith }; readable = s.requires.readable_pair.of_moran; room = omega (arith, s.requires.room) }
 

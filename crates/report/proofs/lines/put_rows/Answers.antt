@@ -30,47 +30,8 @@ offset_bounds-pairs-k c = omega arith
 pub bounds-pairs-k : goal.bounds-pairs-k
 bounds-pairs-k c = omega arith
 
--- LEFT (no such goal now): cast_t17 : Need-overflow-cast-t17
--- cast_t17 c = fits_le w64 (pos _) 8 (omega arith) tt
-
--- LEFT (no such goal now): mul_t13 : Need-overflow-mul-t13
--- mul_t13 c = omega arith
-
--- LEFT (no such goal now): mul_t18 : Need-overflow-mul-t18
--- mul_t18 c = omega arith
-
--- LEFT (no such goal now): shared_slice_copy_out_t20 : Need-shared-slice-copy-out-t20
--- shared_slice_copy_out_t20 c = omega arith
-
--- LEFT (no such goal now): mul_t21 : Need-overflow-mul-t21
--- mul_t21 c = omega arith
-
--- LEFT (no such goal now): add_t22 : Need-overflow-add-t22
--- add_t22 c = omega arith
-
--- LEFT (no such goal now): mul_t23 : Need-overflow-mul-t23
--- mul_t23 c = omega arith
-
--- LEFT (no such goal now): shared_slice_copy_out_t25 : Need-shared-slice-copy-out-t25
--- shared_slice_copy_out_t25 c = omega arith
-
--- LEFT (no such goal now): mul_t26 : Need-overflow-mul-t26
--- mul_t26 c = omega arith
-
--- LEFT (no such goal now): add_t27 : Need-overflow-add-t27
--- add_t27 c = omega arith
-
--- LEFT (no such goal now): mul_t28 : Need-overflow-mul-t28
--- mul_t28 c = omega arith
-
--- LEFT (no such goal now): shared_slice_copy_out_t30 : Need-shared-slice-copy-out-t30
--- shared_slice_copy_out_t30 c = omega arith
-
 pub slice_bounds-put_pair_line-end-in-loop-k : goal.slice_bounds-put_pair_line-end-in-loop-k
 slice_bounds-put_pair_line-end-in-loop-k c = refl
-
--- LEFT (no such goal now): slice_aggregate_put_pair_line_2 : Need-slice-aggregate-put-pair-line-2
--- slice_aggregate_put_pair_line_2 c = refl
 
 pub put_pair_line-place-requires : goal.put_pair_line-place-requires
 put_pair_line-place-requires c =

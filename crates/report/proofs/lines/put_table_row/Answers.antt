@@ -35,14 +35,8 @@ bounds-table-r c = omega arith
 pub overflow_cast-list-then-joins-gt0 : goal.overflow_cast-list-then-joins-gt0
 overflow_cast-list-then-joins-gt0 c = fits_le w64 (pos _) 8 (omega arith) tt
 
--- LEFT (no such goal now): cast_t17 : Need-overflow-cast-t17
--- cast_t17 c = fits_le w64 (pos _) 8 (omega arith) tt
-
 pub slice_bounds-put_line-end-then-joins-gt0 : goal.slice_bounds-put_line-end-then-joins-gt0
 slice_bounds-put_line-end-then-joins-gt0 c = refl
-
--- LEFT (no such goal now): slice_aggregate_put_line_2 : Need-slice-aggregate-put-line-2
--- slice_aggregate_put_line_2 c = refl
 
 pub put_line-place-requires : goal.put_line-place-requires
 put_line-place-requires c = let l = c in record { short = record { letters = omega arith; items = omega arith }; room = omega (arith, put_length l.loop-s.invariant.1) }

@@ -36,21 +36,8 @@ bounds-zones-i c = omega arith
 pub overflow_cast-zone : goal.overflow_cast-zone
 overflow_cast-zone c = omega (arith, c.shared_slice_known-in-loop-i-1.given c.loop-i.i)
 
--- LEFT (no such goal now): cast_t16 : Need-overflow-cast-t16
--- cast_t16 c =
---     fits_le w64 (pos _) 255 (omega (arith, c.shared-slice-known3.given c.before.before.loop.i)) tt
-
--- LEFT (no such goal now): mul_t12 : Need-overflow-mul-t12
--- mul_t12 c = omega (arith, c.shared-slice-known3.given c.before.before.loop.i)
-
--- LEFT (no such goal now): shared_slice_copy_out_t18 : Need-shared-slice-copy-out-t18
--- shared_slice_copy_out_t18 c = (start c.before).pre.0.there c.before.before.loop.i (omega arith)
-
 pub slice_bounds-put_bits_line-end-in-loop-i : goal.slice_bounds-put_bits_line-end-in-loop-i
 slice_bounds-put_bits_line-end-in-loop-i c = refl
-
--- LEFT (no such goal now): slice_aggregate_put_bits_line_2 : Need-slice-aggregate-put-bits-line-2
--- slice_aggregate_put_bits_line_2 c = refl
 
 pub offset_bounds-figures-zone : goal.offset_bounds-figures-zone
 offset_bounds-figures-zone c = let l = c in omega (arith, l.shared_slice_known-in-loop-i-1.given l.loop-i.i)

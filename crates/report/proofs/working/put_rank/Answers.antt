@@ -39,9 +39,6 @@ overflow_cast-list-in-Counted c = fits_le w64 _ 499 (omega (arith, few ((goal.at
 pub overflow_cast-list-in-Counted-2 : goal.overflow_cast-list-in-Counted-2
 overflow_cast-list-in-Counted-2 c = fits_le w64 _ 499 (omega (arith, few ((goal.at.overflow_cast-list-in-Counted-2 c).In-Counted-2))) tt
 
--- LEFT (no such goal now): cast_t16 : Need-overflow-cast-t16
--- cast_t16 c = fits_le w64 _ 499 (omega (arith, few c.before.before.before.before)) tt
-
 pub returns-in-Refused : goal.returns-in-Refused
 returns-in-Refused c =
     let b = c in
