@@ -32,11 +32,29 @@ module _ (c : After-struct_told-2-1) where
       let f = c.struct_told-2-1.given in
       read sums f.0.1 f.1.0.1 f.1.1.0.1 f.1.1.1.0.1 f.1.1.1.1.0.1
 
+pub overflow_mul-of_moran : goal.overflow_mul-of_moran
+overflow_mul-of_moran c = fit w64 (moran_divisor_is (sums c) (reads c) (start c).requires.within) tt
+
+pub overflow_mul-of_geary : goal.overflow_mul-of_geary
+overflow_mul-of_geary c = omega (arith, ordered_le (n c) (start c).requires.within.zones)
+
+pub overflow_cast-of_geary : goal.overflow_cast-of_geary
+overflow_cast-of_geary c = fits_le w64 (pos _) 4032 (ordered_le (n c) (start c).requires.within.zones) tt
+
 pub overflow_mul-of_geary-2 : goal.overflow_mul-of_geary-2
-overflow_mul-of_geary-2 c = fit w64 (moran_divisor_is (sums c) (reads c) (start c).requires.within) tt
+overflow_mul-of_geary-2 c =
+    let t = ((goal.at.overflow_mul-of_geary-2 c).After-struct_told-2-1) in
+    fit w64 (geary_numerator_is (sums t) (reads t) (start t).requires.within) tt
+
+pub overflow_mul-of_geary-3 : goal.overflow_mul-of_geary-3
+overflow_mul-of_geary-3 c =
+    let t = ((goal.at.overflow_mul-of_geary-3 c).After-struct_told-2-1) in
+    fit w64 (twice_is (sums t) (reads t) (start t).requires.within) tt
 
 pub overflow_mul-of_geary-4 : goal.overflow_mul-of_geary-4
-overflow_mul-of_geary-4 c = omega (arith, ordered_le (n c) (start c).requires.within.zones)
+overflow_mul-of_geary-4 c =
+    let t = told c in
+    fit w64 (geary_divisor_is (sums t) (reads t) (start t).requires.within) tt
 
 pub put_figure_line-place-requires : goal.put_figure_line-place-requires
 put_figure_line-place-requires c = let s = start (told ((goal.at.put_figure_line-place-requires c).After-struct_told-5-1)) in record { short = record { letters = omega arith; items = omega arith }; readable = s.requires.readable_pair.of_moran; room = omega (arith, s.requires.room) }

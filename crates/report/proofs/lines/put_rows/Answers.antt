@@ -18,7 +18,7 @@ use Rattle.report.proofs.lines.put_rows.Goals as goal
 use Rattle.report.proofs.lines.put_rows.Goals.{In-loop-k}
 
 -- the pair of a turn is there
-known : (c : In-loop-k) → c.loop-k.k < length c.args.t4
+known : (c : In-loop-k) → c.loop-k.k < length c.args.pairs
 known c = omega (arith, c.well_formed.1.1.1.0.1.0.1)
 
 pub loop-k-init : goal.loop-k-init
@@ -38,7 +38,7 @@ put_pair_line-place-requires c =
     let t = c in
     let l = c in
     let s = c in
-    let k = l.loop-k.k in record { short = record { letters = omega arith; items = omega arith }; readable_pair = rw (there s.args.t4 k _ no_pair (known ((goal.at.put_pair_line-place-requires c).In-loop-k))) (s.requires.readable_pairs k (known ((goal.at.put_pair_line-place-requires c).In-loop-k))); room = omega (arith, put_length l.loop-k.invariant.1) }
+    let k = l.loop-k.k in record { short = record { letters = omega arith; items = omega arith }; readable_pair = rw (there s.args.pairs k _ no_pair (known ((goal.at.put_pair_line-place-requires c).In-loop-k))) (s.requires.readable_pairs k (known ((goal.at.put_pair_line-place-requires c).In-loop-k))); room = omega (arith, put_length l.loop-k.invariant.1) }
 
 pub overflow_add-k : goal.overflow_add-k
 overflow_add-k c = omega arith
@@ -55,11 +55,11 @@ loop-k-preserved c =
     let rows = s.args.rows.now in
     let k = l.loop-k.k in
     let class = (nat w64 k 8 (omega arith) tt).same in
-    let weight = to_z-of_z w64 (get_or rows (k * 3) (pos 0)) (sfits_of t.t20.given) in
-    let cross = to_z-of_z w64 (get_or rows (k * 3 + 1) (pos 0)) (sfits_of t.t25.given) in
-    let squares = to_z-of_z w64 (get_or rows (k * 3 + 2) (pos 0)) (sfits_of t.t30.given) in
-    let pair = there s.args.t4 k _ _ (known ((goal.at.loop-k-preserved c).In-loop-k)) in
-    let put = put_as b.put_pair_line-place.ensures (row_text rows s.args.t4 k class weight cross squares pair) in
+    let weight = to_z-of_z w64 (get_or rows (k * 3) (pos 0)) (sfits_of t.list-1.given) in
+    let cross = to_z-of_z w64 (get_or rows (k * 3 + 1) (pos 0)) (sfits_of t.list-in-loop-k-1.given) in
+    let squares = to_z-of_z w64 (get_or rows (k * 3 + 2) (pos 0)) (sfits_of t.list-in-loop-k-2-1.given) in
+    let pair = there s.args.pairs k _ _ (known ((goal.at.loop-k-preserved c).In-loop-k)) in
+    let put = put_as b.put_pair_line-place.ensures (row_text rows s.args.pairs k class weight cross squares pair) in
     (omega arith, put_numbered_next (row_line _ _) {size = 128} (suc s.args.last) k (omega arith) l.loop-k.invariant.1 put)
 
 pub shape_of-page : goal.shape_of-page

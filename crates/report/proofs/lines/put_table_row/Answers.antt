@@ -15,6 +15,7 @@ use Rattle.report.specs.Text.{numbered}
 use Rattle.report.proofs.Puts.{put_none, put_length, put_as, put_each_none, put_numbered_next, put_numbered_all}
 use Rattle.report.proofs.LineLaws.{table_text, no_table_text}
 use Rattle.report.proofs.lines.put_table_row.Goals as goal
+use Rattle.report.proofs.lines.put_table_row.Goals.{then-joins-gt0, else-joins-gt0}
 use Rattle.report.proofs.lines.put_table_row.Goals.{Joined-joins-gt0}
 
 pub loop-s-init : goal.loop-s-init
@@ -61,8 +62,7 @@ turn c =
     let row = (nat w64 a.r 8 (omega arith) tt).same in
     let column = (nat w64 s 8 (omega arith) tt).same in
     let joins = to_z-of_z w64 (get_or table (a.r * 8 + s) (pos 0)) (sfits_of c.joins-1.given) in
-    ⊎_elim (λ u. rw (u.7, u.8) (put_as u.4.ensures (table_text table a.r s row column joins u.0.taken)))
-    (λ u. rw (u.1, u.2) (put_as put_none (no_table_text table a.r s joins u.0.left))) c.if-joins-gt0.branch
+    elim c.if-joins-gt0.branch [ then-joins-gt0 w ↦ rw (w.page-is, w.place-is) (put_as w.put_line-place.ensures (table_text table a.r s row column joins w.if-joins-gt0.true)) | else-joins-gt0 w ↦ rw (w.page-is, w.place-is) (put_as put_none (no_table_text table a.r s joins w.if-joins-gt0.false)) ]
 
 pub loop-s-preserved : goal.loop-s-preserved
 loop-s-preserved c =

@@ -36,6 +36,15 @@ bounds-zones-i c = omega arith
 pub overflow_cast-zone : goal.overflow_cast-zone
 overflow_cast-zone c = omega (arith, c.shared_slice_known-in-loop-i-1.given c.loop-i.i)
 
+pub overflow_cast-list : goal.overflow_cast-list
+overflow_cast-list c = fits_le w64 (pos _) 255 (omega (arith, c.shared_slice_known-in-loop-i-1.given c.loop-i.i)) tt
+
+pub offset_bounds-locals-zone : goal.offset_bounds-locals-zone
+offset_bounds-locals-zone c = omega (arith, c.shared_slice_known-in-loop-i-1.given c.loop-i.i)
+
+pub bounds-locals-zone : goal.bounds-locals-zone
+bounds-locals-zone c = (start ((goal.at.bounds-locals-zone c).In-loop-i)).requires.listed.there c.loop-i.i (omega arith)
+
 pub slice_bounds-put_bits_line-end-in-loop-i : goal.slice_bounds-put_bits_line-end-in-loop-i
 slice_bounds-put_bits_line-end-in-loop-i c = refl
 
@@ -62,7 +71,7 @@ loop-i-preserved c =
     let l = t.loop-i in
     let a = (start ((goal.at.loop-i-preserved c).In-loop-i)).args in
     let number = (nat w64 (zone ((goal.at.loop-i-preserved c).In-loop-i)) 255 (omega (arith, k.shared_slice_known-in-loop-i-1.given l.i)) tt).same in
-    let fits = b.t18.given in
+    let fits = b.list-1.given in
     let numerator = to_z-of_z w64 (get_or a.locals.now (zone ((goal.at.loop-i-preserved c).In-loop-i)) (pos 0)) (sfits_of fits) in
     let put = put_as b.put_bits_line-place.ensures (zone_text a.locals.now a.figures.now _ (zone ((goal.at.loop-i-preserved c).In-loop-i)) number numerator refl) in
     let here = t.loop-i-test.true in

@@ -16,7 +16,7 @@ use Rattle.report.proofs.lines.put_zones.Given as goal
 
 abbrev pub invariant-loop-i : goal.invariant-loop-i
 invariant-loop-i l =
-    (i ≤ length l.zones) × Put l.initial.page l.place l.at l.i (128 * i) (each (zone_line l.locals l.figures (to_z w64 l.spread)) (take i l.zones))
+    (l.i ≤ length l.zones) × Put l.initial.page l.page l.at l.place (128 * l.i) (each (zone_line l.locals l.figures l.spread) (take l.i l.zones))
 
 abbrev pub decreases-loop-i : goal.decreases-loop-i
-decreases-loop-i l = length l.zones - i
+decreases-loop-i l = length l.zones - l.i

@@ -12,7 +12,7 @@ use Rattle.report.proofs.putting.put_coefficient.Goals as goal
 pub float_to_bits-x : goal.float_to_bits-x
 float_to_bits-x c =
     let b = c in
-    subst Readable b.figure.given.1 b.requires.readable
+    subst Readable b.in-Figure.is b.requires.readable
 
 pub put_bits-requires : goal.put_bits-requires
 put_bits-requires c = tt
@@ -26,7 +26,7 @@ returns-in-Figure c =
     let b = c in
     let f = c in
     let room = f.requires.room in
-    put_as (put_of 17 b.put_bits.ensures (N.le_of_eq (bits_width _)) room) (ap coefficient (sym f.figure.given.1))
+    put_as (put_of 17 b.put_bits.ensures (N.le_of_eq (bits_width _)) room) (ap coefficient (sym f.in-Figure.is))
 
 pub returns-in-Weightless : goal.returns-in-Weightless
 unfolding coefficient
@@ -34,4 +34,4 @@ returns-in-Weightless c =
     let b = c in
     let f = c in
     let room = f.requires.room in
-    put_as (put_of 17 b.put.ensures (omega arith) room) (ap coefficient (sym f.enum_told.given.1))
+    put_as (put_of 17 b.put.ensures (omega arith) room) (ap coefficient (sym f.in-Weightless.is))
