@@ -1,6 +1,5 @@
 -- `pack_rows` meets its contract: the nine rows are the nine that `row_of` answers. Assumes nothing.
 use mathlib.Core.Path.{refl}
-use borrow.Author.Rules.{rules}
 use Rattle.whole.specs.Table.{table}
 use Rattle.class_rows.proofs.rows.pack_rows.Goals as goal
 

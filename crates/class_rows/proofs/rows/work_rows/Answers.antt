@@ -3,7 +3,6 @@
 use mathlib.Core.Path.{◌≡◌, refl, sym, ap, ◌∙◌}
 use mathlib.Core.List.{List}
 use Prim.Native.Nat.{ℕ, ◌≤◌}
-use borrow.Author.Rules.{rules}
 use lib.IntN.{ℤ}
 use lib.ListN.{length}
 use lib.Seq.{length-take-le}
@@ -84,11 +83,10 @@ slice_bounds-class_account-end-2 c = sym (length-take-le _ _ (fit ((goal.at.slic
 pub returns-in-Refused : goal.returns-in-Refused
 unfolding number_of
 returns-in-Refused c =
-    let w = c in
     let f = fit ((goal.at.returns-in-Refused c).Else-sizes-ne0) in
-    let told = w.class_account.ensures in
+    let told = c.class_account.ensures in
     answered _ _ _ _ _ _ _ _ _ (by_account _ _ _ _ _ _ _ _ refl (length-take-le _ _ f.0) f.1) _ _ _
-    (sym (ap number_of c.number-1.given.1) ∙ told.number)
+    (sym (ap number_of c.in-Refused.is) ∙ told.number)
     told.rows
     told.numerators
     c.pack_rows-in-Refused.ensures.0
@@ -97,11 +95,10 @@ returns-in-Refused c =
 pub returns-in-Accounted : goal.returns-in-Accounted
 unfolding number_of
 returns-in-Accounted c =
-    let w = c in
     let f = fit ((goal.at.returns-in-Accounted c).Else-sizes-ne0) in
-    let told = w.class_account.ensures in
+    let told = c.class_account.ensures in
     answered _ _ _ _ _ _ _ _ _ (by_account _ _ _ _ _ _ _ _ refl (length-take-le _ _ f.0) f.1) _ _ _
-    (sym (ap number_of c.enum_told-1.given.1) ∙ told.number)
+    (sym (ap number_of c.in-Accounted.is) ∙ told.number)
     told.rows
     told.numerators
     c.pack_rows-in-Accounted.ensures.0
