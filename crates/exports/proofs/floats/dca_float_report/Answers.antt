@@ -12,7 +12,7 @@ use Rattle.exports.proofs.FloatAnswers.{report_by_sizes, report_by_pairs, report
 use Rattle.exports.proofs.FloatAnswers.{pair_readable, pairs_readable}
 use borrow.Author.Rules.{rules}
 use Rattle.exports.proofs.floats.dca_float_report.Goals as goal
-use Rattle.exports.proofs.floats.dca_float_report.Goals.{After-judge_sizes-sizes, After-plain_report-report, Else-has_pair-ne9, Else-sizes-ne0, In-Refused-2, In-Reported-2, Start}
+use Rattle.exports.proofs.floats.dca_float_report.Goals.{After-judge_sizes-sizes, After-plain_report-report, Else-has_pair-ne9, Else-sizes-ne0, In-Refused, In-Reported, Start}
 
 abbrev start : After-judge_sizes-sizes → Start
 start b = ((goal.at.After-judge_sizes-sizes b).Start)
@@ -63,11 +63,11 @@ pub plain_report-report-requires : goal.plain_report-report-requires
 plain_report-report-requires c = tt
 
 -- back from the two answers to the call
-abbrev in_refused : In-Refused-2 → After-plain_report-report
-in_refused c = ((goal.at.In-Refused-2 c).After-plain_report-report)
+abbrev in_refused : In-Refused → After-plain_report-report
+in_refused c = ((goal.at.In-Refused c).After-plain_report-report)
 
-abbrev in_reported : In-Reported-2 → After-plain_report-report
-in_reported c = ((goal.at.In-Reported-2 c).After-plain_report-report)
+abbrev in_reported : In-Reported → After-plain_report-report
+in_reported c = ((goal.at.In-Reported c).After-plain_report-report)
 
 -- and from the call to the tests
 abbrev tested : After-plain_report-report → Else-has_pair-ne9
@@ -76,47 +76,47 @@ tested b = ((goal.at.After-plain_report-report b).Else-has_pair-ne9)
 pub put_pair-requires : goal.put_pair-requires
 put_pair-requires c =
     let w = c in
-    let b = in_reported ((goal.at.put_pair-requires c).In-Reported-2) in
+    let b = in_reported ((goal.at.put_pair-requires c).In-Reported) in
     let e = tested b in
-    let a = (start e.before.before.before).args in
+    let a = (start ((goal.at.Else-has_pair-ne9 e).After-judge_sizes-sizes)).args in
     let said = b.plain_report-report.ensures in record {
       k_bound = omega arith;
-      k_in_bounds = omega (arith, own_fits a.n a.values.now a.weights.now (length a.globals.now) 2 (fit e.before.before));
+      k_in_bounds = omega (arith, own_fits a.n a.values.now a.weights.now (length a.globals.now) 2 (fit ((goal.at.Else-has_pair-ne9 e).Else-sizes-ne0)));
       readable_pair = pair_readable a.n a.values.now a.weights.now a.classes.now a.globals.now a.locals.now a.pairs.now
-          a.has_pair.now (fit e.before.before) e.if-pairs-ne18.false e.if-has_pair-ne9.false _ _ refl
-          (length-take-le _ _ (zones e.before.before))
+          a.has_pair.now (fit ((goal.at.Else-has_pair-ne9 e).Else-sizes-ne0)) e.if-pairs-ne18.false e.if-has_pair-ne9.false _ _ refl
+          (length-take-le _ _ (zones ((goal.at.Else-has_pair-ne9 e).Else-sizes-ne0)))
           _ _ _ said.number said.whole said.pairs said.figures _ w.answer-in-Reported-1.given.1;
     }
 
 pub put_pairs-requires : goal.put_pairs-requires
 put_pairs-requires c =
     let w = c in
-    let b = in_reported ((goal.at.put_pairs-requires c).In-Reported-2) in
+    let b = in_reported ((goal.at.put_pairs-requires c).In-Reported) in
     let e = tested b in
-    let a = (start e.before.before.before).args in
+    let a = (start ((goal.at.Else-has_pair-ne9 e).After-judge_sizes-sizes)).args in
     let said = b.plain_report-report.ensures in record {
       figures_len = e.if-pairs-ne18.false;
       readable_pairs = pairs_readable a.n a.values.now a.weights.now a.classes.now a.globals.now a.locals.now a.pairs.now
-          a.has_pair.now (fit e.before.before) e.if-pairs-ne18.false e.if-has_pair-ne9.false _ _ refl
-          (length-take-le _ _ (zones e.before.before))
+          a.has_pair.now (fit ((goal.at.Else-has_pair-ne9 e).Else-sizes-ne0)) e.if-pairs-ne18.false e.if-has_pair-ne9.false _ _ refl
+          (length-take-le _ _ (zones ((goal.at.Else-has_pair-ne9 e).Else-sizes-ne0)))
           _ _ _ said.number said.whole said.pairs said.figures _ w.answer-in-Reported-1.given.1;
     }
 
 pub returns-in-Refused : goal.returns-in-Refused
 returns-in-Refused c =
     let w = c in
-    let b = in_refused ((goal.at.returns-in-Refused c).In-Refused-2) in
+    let b = in_refused ((goal.at.returns-in-Refused c).In-Refused) in
     let e = tested b in
-    let a = (start e.before.before.before).args in
+    let a = (start ((goal.at.Else-has_pair-ne9 e).After-judge_sizes-sizes)).args in
     let said = b.plain_report-report.ensures in let all = report_by_refusal a.n a.values.now a.weights.now a.classes.now a.globals.now a.locals.now a.pairs.now
     a.has_pair.now
-    (fit e.before.before)
+    (fit ((goal.at.Else-has_pair-ne9 e).Else-sizes-ne0))
     e.if-pairs-ne18.false
     e.if-has_pair-ne9.false
     _
     _
     refl
-    (length-take-le _ _ (zones e.before.before))
+    (length-take-le _ _ (zones ((goal.at.Else-has_pair-ne9 e).Else-sizes-ne0)))
     _
     _
     _
@@ -133,18 +133,18 @@ returns-in-Reported c =
     let pairs = c in
     let pair = c in
     let w = c in
-    let b = in_reported ((goal.at.returns-in-Reported c).In-Reported-2) in
+    let b = in_reported ((goal.at.returns-in-Reported c).In-Reported) in
     let e = tested b in
-    let a = (start e.before.before.before).args in
+    let a = (start ((goal.at.Else-has_pair-ne9 e).After-judge_sizes-sizes)).args in
     let said = b.plain_report-report.ensures in let all = report_by_pair a.n a.values.now a.weights.now a.classes.now a.globals.now a.locals.now a.pairs.now
     a.has_pair.now
-    (fit e.before.before)
+    (fit ((goal.at.Else-has_pair-ne9 e).Else-sizes-ne0))
     e.if-pairs-ne18.false
     e.if-has_pair-ne9.false
     _
     _
     refl
-    (length-take-le _ _ (zones e.before.before))
+    (length-take-le _ _ (zones ((goal.at.Else-has_pair-ne9 e).Else-sizes-ne0)))
     _
     _
     _
