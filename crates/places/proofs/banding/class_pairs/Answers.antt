@@ -2,8 +2,7 @@
 use mathlib.Core.Path.{◌≡◌, ap, ◌∙◌}
 use mathlib.Core.Bool.{false}
 use mathlib.Core.List.{List}
-use mathlib.Core.Logic.{⊎_elim}
-use Prim.Native.Nat.{ℕ, ◌+◌, ◌*◌, ◌-◌, ◌/◌, ◌%◌}
+use Prim.Native.Nat.{ℕ, ◌+◌, ◌*◌, ◌/◌, ◌%◌}
 use native.Mathlib.Omega.{arith}
 use lib.IntN.{ℤ}
 use lib.ListN.{length, set}
@@ -15,7 +14,7 @@ use Rattle.places.specs.Bands.{band_class, pair_class, band_classes}
 use Rattle.places.proofs.Classes.{pair_itself, pair_apart}
 use Rattle.places.proofs.Distance.{distance_read}
 use Rattle.places.proofs.banding.class_pairs.Goals as goal
-use Rattle.places.proofs.banding.class_pairs.Goals.{In-loop-p, Start}
+use Rattle.places.proofs.banding.class_pairs.Goals.{In-loop-p, Start, then-a-b, else-a-b}
 
 -- the pair that a turn looks at
 abbrev start : In-loop-p → Start
@@ -37,19 +36,22 @@ module _ (n : ℕ) (places : List ℤ) (bands : List ℕ) (p : ℕ) (s : Split n
       ∙ pair_apart bands (squared_distance places) a b apart
 
 pub loop-p-init : goal.loop-p-init
-loop-p-init c = let s = c in filled_none _ _ _ 0 _ s.requires.classes_len
-
--- LEFT (no such goal now): div_a : Need-nonzero-div-a
--- div_a c = omega (arith, (inside c).column)
-
--- LEFT (no such goal now): rem_b : Need-nonzero-rem-b
--- rem_b c = omega (arith, (inside c).column)
+loop-p-init c =
+    filled_none _ _ _ 0 _ c.requires.classes_len
 
 pub bounds-classes-p : goal.bounds-classes-p
 bounds-classes-p c = omega arith
 
 pub squared_distance-requires : goal.squared_distance-requires
-squared_distance-requires c = let s = inside ((goal.at.squared_distance-requires c).In-loop-p) in record { places_len_bound = omega arith; places_value = (start ((goal.at.squared_distance-requires c).In-loop-p)).requires.places_value; a_in_bounds = omega (arith, s.row); b_in_bounds = omega (arith, s.column) }
+squared_distance-requires c =
+    let t = (goal.at.squared_distance-requires c).In-loop-p in
+    let s = inside t in
+    record {
+      places_len_bound = omega arith;
+      places_value = c.requires.places_value;
+      a_in_bounds = omega (arith, s.row);
+      b_in_bounds = omega (arith, s.column);
+    }
 
 pub band_class-requires : goal.band_class-requires
 band_class-requires c = omega arith
@@ -65,16 +67,18 @@ loop-p-smaller c = omega arith
 
 pub loop-p-preserved : goal.loop-p-preserved
 loop-p-preserved c =
-    let b = c in
-    let a = (start ((goal.at.loop-p-preserved c).In-loop-p)).args in
-    let pre = ((start ((goal.at.loop-p-preserved c).In-loop-p)).requires.n_bound, ((start ((goal.at.loop-p-preserved c).In-loop-p)).requires.places_len, ((start ((goal.at.loop-p-preserved c).In-loop-p)).requires.places_value, ((start ((goal.at.loop-p-preserved c).In-loop-p)).requires.bands_len_bound, (start ((goal.at.loop-p-preserved c).In-loop-p)).requires.classes_len)))) in
+    let a = c.args in
+    let p = c.loop-p.p in
+    let t = (goal.at.loop-p-preserved c).In-loop-p in
     let f = pair_class a.bands.now (squared_distance a.places.now) in
-    let far = two_zones a.n a.places.now a.bands.now b.loop-p.p (inside ((goal.at.loop-p-preserved c).In-loop-p)) pre.1.0 pre.1.1.0 in
-    let next : (v : ℕ) → v ≡ f (b.loop-p.p / a.n) (b.loop-p.p % a.n) → c.if-a-b.classes ≡ set b.loop-p.classes b.loop-p.p v →
-    Filled f a.n a.n 0 c.if-a-b.classes (b.loop-p.p + 1) =
-    λ v e h. rw h (filled_next f a.n a.n 0 b.loop-p.classes b.loop-p.p v b.loop-p.invariant (omega arith) e) in
-    ⊎_elim (λ u. next _ (pair_itself a.bands.now (squared_distance a.places.now) _ _ u.0.taken) u.1)
-    (λ u. next _ (far _ _ u.1.ensures u.2.ensures u.0.left) u.3) c.if-a-b.branch
+    let far = two_zones a.n a.places.now a.bands.now p (inside t) c.requires.places_len c.requires.places_value in
+    let next : (v : ℕ) → v ≡ f (p / a.n) (p % a.n) → c.if-a-b.classes ≡ set c.loop-p.classes p v →
+    Filled f a.n a.n 0 c.if-a-b.classes (p + 1) =
+    λ v e h. rw h (filled_next f a.n a.n 0 c.loop-p.classes p v c.loop-p.invariant (omega arith) e) in
+    elim c.if-a-b.branch [
+      | then-a-b w ↦ next _ (pair_itself a.bands.now (squared_distance a.places.now) _ _ w.if-a-b.true) w.classes-is
+      | else-a-b w ↦ next _ (far _ _ w.squared_distance.ensures w.band_class.ensures w.if-a-b.false) w.classes-is
+    ]
 
 pub shape_of-classes : goal.shape_of-classes
 shape_of-classes c = omega arith
@@ -82,5 +86,4 @@ shape_of-classes c = omega arith
 pub returns : goal.returns
 unfolding band_classes
 returns c =
-    let b = c in
-    filled_all _ _ _ 0 _ b.loop-p.p b.loop-p.invariant (omega arith)
+    filled_all _ _ _ 0 _ c.loop-p.p c.loop-p.invariant (omega arith)

@@ -78,7 +78,9 @@ pub bounds-places-a : goal.bounds-places-a
 bounds-places-a c = omega arith
 
 pub overflow_cast-across : goal.overflow_cast-across
-overflow_cast-across c = let s = c in fit w64 (coordinate (places ((goal.at.overflow_cast-across c).Start)) (near ((goal.at.overflow_cast-across c).Start)) (2 * a ((goal.at.overflow_cast-across c).Start)) (across_a ((goal.at.overflow_cast-across c).Start))) tt
+overflow_cast-across c =
+    let t = (goal.at.overflow_cast-across c).Start in
+    fit w64 (coordinate (places t) (near t) (2 * a t) (across_a t)) tt
 
 pub overflow_mul-across-2 : goal.overflow_mul-across-2
 overflow_mul-across-2 c = omega arith
@@ -90,10 +92,14 @@ pub bounds-places-b : goal.bounds-places-b
 bounds-places-b c = omega arith
 
 pub overflow_cast-across-2 : goal.overflow_cast-across-2
-overflow_cast-across-2 c = let s = c in fit w64 (coordinate (places ((goal.at.overflow_cast-across-2 c).Start)) (near ((goal.at.overflow_cast-across-2 c).Start)) (2 * b ((goal.at.overflow_cast-across-2 c).Start)) (across_b ((goal.at.overflow_cast-across-2 c).Start))) tt
+overflow_cast-across-2 c =
+    let t = (goal.at.overflow_cast-across-2 c).Start in
+    fit w64 (coordinate (places t) (near t) (2 * b t) (across_b t)) tt
 
 pub overflow_sub-across : goal.overflow_sub-across
-overflow_sub-across c = let s = c in fit w64 (difference (places ((goal.at.overflow_sub-across c).Start)) (near ((goal.at.overflow_sub-across c).Start)) (2 * a ((goal.at.overflow_sub-across c).Start)) (2 * b ((goal.at.overflow_sub-across c).Start)) (across_a ((goal.at.overflow_sub-across c).Start)) (across_b ((goal.at.overflow_sub-across c).Start))) tt
+overflow_sub-across c =
+    let t = (goal.at.overflow_sub-across c).Start in
+    fit w64 (difference (places t) (near t) (2 * a t) (2 * b t) (across_a t) (across_b t)) tt
 
 pub overflow_mul-up : goal.overflow_mul-up
 overflow_mul-up c = omega arith
@@ -108,7 +114,9 @@ pub bounds-places-a-2 : goal.bounds-places-a-2
 bounds-places-a-2 c = omega arith
 
 pub overflow_cast-up : goal.overflow_cast-up
-overflow_cast-up c = let s = c in fit w64 (coordinate (places ((goal.at.overflow_cast-up c).Start)) (near ((goal.at.overflow_cast-up c).Start)) (2 * a ((goal.at.overflow_cast-up c).Start) + 1) (up_a ((goal.at.overflow_cast-up c).Start))) tt
+overflow_cast-up c =
+    let t = (goal.at.overflow_cast-up c).Start in
+    fit w64 (coordinate (places t) (near t) (2 * a t + 1) (up_a t)) tt
 
 pub overflow_mul-up-2 : goal.overflow_mul-up-2
 overflow_mul-up-2 c = omega arith
@@ -123,25 +131,27 @@ pub bounds-places-b-2 : goal.bounds-places-b-2
 bounds-places-b-2 c = omega arith
 
 pub overflow_cast-up-2 : goal.overflow_cast-up-2
-overflow_cast-up-2 c = let s = c in fit w64 (coordinate (places ((goal.at.overflow_cast-up-2 c).Start)) (near ((goal.at.overflow_cast-up-2 c).Start)) (2 * b ((goal.at.overflow_cast-up-2 c).Start) + 1) (up_b ((goal.at.overflow_cast-up-2 c).Start))) tt
+overflow_cast-up-2 c =
+    let t = (goal.at.overflow_cast-up-2 c).Start in
+    fit w64 (coordinate (places t) (near t) (2 * b t + 1) (up_b t)) tt
 
 pub overflow_sub-up : goal.overflow_sub-up
 overflow_sub-up c =
-    let s = c in
-    fit w64 (difference (places ((goal.at.overflow_sub-up c).Start)) (near ((goal.at.overflow_sub-up c).Start)) (2 * a ((goal.at.overflow_sub-up c).Start) + 1) (2 * b ((goal.at.overflow_sub-up c).Start) + 1) (up_a ((goal.at.overflow_sub-up c).Start)) (up_b ((goal.at.overflow_sub-up c).Start))) tt
+    let t = (goal.at.overflow_sub-up c).Start in
+    fit w64 (difference (places t) (near t) (2 * a t + 1) (2 * b t + 1) (up_a t) (up_b t)) tt
 
 pub overflow_mul-result : goal.overflow_mul-result
 overflow_mul-result c =
-    let s = c in
-    fit w64 (squared (places ((goal.at.overflow_mul-result c).Start)) (near ((goal.at.overflow_mul-result c).Start)) (2 * a ((goal.at.overflow_mul-result c).Start)) (2 * b ((goal.at.overflow_mul-result c).Start)) (across_a ((goal.at.overflow_mul-result c).Start)) (across_b ((goal.at.overflow_mul-result c).Start))) tt
+    let t = (goal.at.overflow_mul-result c).Start in
+    fit w64 (squared (places t) (near t) (2 * a t) (2 * b t) (across_a t) (across_b t)) tt
 
 pub overflow_mul-result-2 : goal.overflow_mul-result-2
 overflow_mul-result-2 c =
-    let s = c in
-    fit w64 (squared (places ((goal.at.overflow_mul-result-2 c).Start)) (near ((goal.at.overflow_mul-result-2 c).Start)) (2 * a ((goal.at.overflow_mul-result-2 c).Start) + 1) (2 * b ((goal.at.overflow_mul-result-2 c).Start) + 1) (up_a ((goal.at.overflow_mul-result-2 c).Start)) (up_b ((goal.at.overflow_mul-result-2 c).Start))) tt
+    let t = (goal.at.overflow_mul-result-2 c).Start in
+    fit w64 (squared (places t) (near t) (2 * a t + 1) (2 * b t + 1) (up_a t) (up_b t)) tt
 
 pub overflow_add-result : goal.overflow_add-result
-overflow_add-result c = let s = c in fit w64 (distance ((goal.at.overflow_add-result c).Start)) tt
+overflow_add-result c = fit w64 (distance ((goal.at.overflow_add-result c).Start)) tt
 
 pub returns : goal.returns
 returns c = (rd w64 (distance ((goal.at.returns c).Start)) tt).same

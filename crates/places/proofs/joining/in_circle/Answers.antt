@@ -11,10 +11,22 @@ use Rattle.places.proofs.joining.in_circle.Goals as goal
 use Rattle.places.proofs.joining.in_circle.Goals.{After-squared_distance-2, Start}
 
 pub squared_distance-requires : goal.squared_distance-requires
-squared_distance-requires c = record { places_len_bound = omega arith; places_value = c.requires.places_value; a_in_bounds = omega arith; b_in_bounds = omega arith }
+squared_distance-requires c =
+    record {
+      places_len_bound = omega arith;
+      places_value = c.requires.places_value;
+      a_in_bounds = omega arith;
+      b_in_bounds = omega arith;
+    }
 
 pub squared_distance-requires-2 : goal.squared_distance-requires-2
-squared_distance-requires-2 c = record { places_len_bound = omega arith; places_value = c.requires.places_value; a_in_bounds = omega arith; b_in_bounds = omega arith }
+squared_distance-requires-2 c =
+    record {
+      places_len_bound = omega arith;
+      places_value = c.requires.places_value;
+      a_in_bounds = omega arith;
+      b_in_bounds = omega arith;
+    }
 
 -- the distance that is given, and the sum of the two that are asked for
 module _ (c : After-squared_distance-2) where

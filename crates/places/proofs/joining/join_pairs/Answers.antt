@@ -1,12 +1,14 @@
--- `join_pairs` meets its contract. The invariant of 'pair: each entry passed is the weight of its pair. That of 'third: the pair is the
--- same, and no third zone passed is in its circle. Assumes nothing.
-use mathlib.Core.Path.{◌≡◌, refl, sym, ap, ◌∙◌}
+-- `join_pairs` meets its contract. The invariant of 'pair: each entry passed is the weight of its pair. That of 'third: no third zone
+-- passed is in the pair's circle. Assumes nothing.
+use mathlib.Core.Path.{◌≡◌, sym, ap, ◌∙◌}
 use mathlib.Core.Bool.{Bool, false}
 use mathlib.Core.List.{List}
 use mathlib.Core.Logic.{⊎_elim}
-use Prim.Native.Nat.{ℕ, ◌+◌, ◌*◌, ◌-◌, ◌/◌, ◌%◌, ◌≤◌, ◌<◌}
+use Prim.Native.Nat.{ℕ, ◌+◌, ◌*◌, ◌/◌, ◌%◌, ◌≤◌, ◌<◌}
 use native.Mathlib.Nat as N
 use native.Mathlib.Omega.{arith}
+use borrow.Author.Rules.{rules}
+use borrow.Author.Tests.{eq-eqb, ne_eqb}
 use lib.IntN.{ℤ}
 use lib.ListN.{length, set, length-set}
 use lib.Seq.{set-set}
@@ -24,11 +26,11 @@ use Rattle.places.proofs.joining.join_pairs.Goals.{After-in_circle, In-pair, In-
 
 -- one entry more: v is stored at p, the next place, at once or over 0
 module _ (f : ℕ → ℕ → ℕ) (n p : ℕ) (weights : List ℕ) (so_far : Filled f n n 0 weights p) (room : p < n * n) where
-  entry_written : (k v : ℕ) → k ≡ p → v ≡ f (p / n) (p % n) → Filled f n n 0 (set weights p v) (k + 1)
-  entry_written k v e g = rw e (filled_next f n n 0 weights p v so_far room g)
+  entry_written : (v : ℕ) → v ≡ f (p / n) (p % n) → Filled f n n 0 (set weights p v) (p + 1)
+  entry_written v g = filled_next f n n 0 weights p v so_far room g
 
-  entry_over : (k v : ℕ) → k ≡ p → v ≡ f (p / n) (p % n) → Filled f n n 0 (set (set weights p 0) k v) (k + 1)
-  entry_over k v e g = rw (e, set-set weights p 0 v) (entry_written p v refl g)
+  entry_over : (v : ℕ) → v ≡ f (p / n) (p % n) → Filled f n n 0 (set (set weights p 0) p v) (p + 1)
+  entry_over v g = rw (set-set weights p 0 v) (entry_written v g)
 
 -- ---- a turn of 'pair
 module _ (c : In-pair) where
@@ -69,12 +71,6 @@ overflow_mul-pairs c = omega (arith, few c.args.n c.requires.n_bound)
 pub pair-init : goal.pair-init
 pair-init c = filled_none _ _ _ 0 _ c.requires.weights_len
 
--- LEFT (no such goal now): div_a : Need-nonzero-div-a
--- div_a c = omega (arith, (zones c).column)
-
--- LEFT (no such goal now): rem_b : Need-nonzero-rem-b
--- rem_b c = omega (arith, (zones c).column)
-
 pub bounds-weights-p : goal.bounds-weights-p
 bounds-weights-p c = omega arith
 
@@ -86,15 +82,22 @@ pair-smaller-then-a-b c = omega arith
 
 pub pair-preserved-then-a-b : goal.pair-preserved-then-a-b
 pair-preserved-then-a-b c =
-    let t = c in
-    entry_written (gabriel_weight (d ((goal.at.pair-preserved-then-a-b c).In-pair)) (n ((goal.at.pair-preserved-then-a-b c).In-pair))) (n ((goal.at.pair-preserved-then-a-b c).In-pair)) (p ((goal.at.pair-preserved-then-a-b c).In-pair)) t.pair.weights t.pair.invariant (omega arith) (p ((goal.at.pair-preserved-then-a-b c).In-pair)) 0 refl
-    (sym (weight_none (d ((goal.at.pair-preserved-then-a-b c).In-pair)) (a ((goal.at.pair-preserved-then-a-b c).In-pair)) (b ((goal.at.pair-preserved-then-a-b c).In-pair)) (n ((goal.at.pair-preserved-then-a-b c).In-pair)) c.if-a-b.true))
+    let t = (goal.at.pair-preserved-then-a-b c).In-pair in
+    entry_written (gabriel_weight (d t) (n t)) (n t) (p t) c.pair.weights c.pair.invariant (omega arith) 0
+    (sym (weight_none (d t) (a t) (b t) (n t) c.if-a-b.true))
 
 pub squared_distance-distance-requires : goal.squared_distance-distance-requires
-squared_distance-distance-requires c = let t = c in record { places_len_bound = omega arith; places_value = (s ((goal.at.squared_distance-distance-requires c).In-pair)).requires.places_value; a_in_bounds = in_a ((goal.at.squared_distance-distance-requires c).In-pair); b_in_bounds = in_b ((goal.at.squared_distance-distance-requires c).In-pair) }
+squared_distance-distance-requires c =
+    let t = (goal.at.squared_distance-distance-requires c).In-pair in
+    record {
+      places_len_bound = omega arith;
+      places_value = c.requires.places_value;
+      a_in_bounds = in_a t;
+      b_in_bounds = in_b t;
+    }
 
 pub third-init : goal.third-init
-third-init c = (omega arith, refl, some_zero _)
+third-init c = (omega arith, some_zero _)
 
 -- ---- a turn of 'third
 module _ (c : In-third) where
@@ -109,8 +112,8 @@ module _ (c : In-third) where
   i = c.third.c
 
   -- the zone looked at is passed
-  passed : test i ≡ false → (i + 1 ≤ n pair_of) × (c.third.p ≡ p pair_of) × (some test (i + 1) ≡ false)
-  passed e = (omega arith, c.third.invariant.1, some_more test i c.third.invariant.2 e)
+  passed : test i ≡ false → (i + 1 ≤ n pair_of) × (some test (i + 1) ≡ false)
+  passed e = (omega arith, some_more test i c.third.invariant.1 e)
 
 pub overflow_step-c : goal.overflow_step-c
 overflow_step-c c = omega arith
@@ -120,24 +123,32 @@ third-smaller-then-c-a c = omega arith
 
 pub third-preserved-then-c-a : goal.third-preserved-then-c-a
 third-preserved-then-c-a c =
-    let t = c in
-    passed ((goal.at.third-preserved-then-c-a c).In-third)
-    (⊎_elim (λ e. first_passed (d (pair_of ((goal.at.third-preserved-then-c-a c).In-third))) (a (pair_of ((goal.at.third-preserved-then-c-a c).In-third))) (b (pair_of ((goal.at.third-preserved-then-c-a c).In-third))) (i ((goal.at.third-preserved-then-c-a c).In-third)) e.taken)
-    (λ e. second_passed (d (pair_of ((goal.at.third-preserved-then-c-a c).In-third))) (a (pair_of ((goal.at.third-preserved-then-c-a c).In-third))) (b (pair_of ((goal.at.third-preserved-then-c-a c).In-third))) (i ((goal.at.third-preserved-then-c-a c).In-third)) e.1.taken) c.if2.branch)
+    let t = (goal.at.third-preserved-then-c-a c).In-third in
+    let o = pair_of t in
+    passed t
+    (⊎_elim (λ e. first_passed (d o) (a o) (b o) (i t) e)
+    (λ e. second_passed (d o) (a o) (b o) (i t) (eq-eqb (i t) (b o) e.1)) c.then-c-a.either)
 
 pub in_circle-requires : goal.in_circle-requires
 in_circle-requires c =
     let t = pair_of ((goal.at.in_circle-requires c).In-third) in
     let told = c.squared_distance-distance.ensures in
-    let given = (distance_read (s t).args.places.now (a t) (b t) (s t).requires.places_value (in_a t) (in_b t) _ told).same in record { places_len_bound = omega arith; places_value = (s t).requires.places_value; a_in_bounds = in_a t; b_in_bounds = in_b t; c_in_bounds = omega arith; distance_value = given }
+    let given = (distance_read c.args.places.now (a t) (b t) c.requires.places_value (in_a t) (in_b t) _ told).same in
+    record {
+      places_len_bound = omega arith;
+      places_value = c.requires.places_value;
+      a_in_bounds = in_a t;
+      b_in_bounds = in_b t;
+      c_in_bounds = omega arith;
+      distance_value = given;
+    }
 
 -- the third zone is outside the circle
 not_inside : (c : After-in_circle) → c.in_circle.result ≡ false →
-    let t = c in
-    (i ((goal.at.After-in_circle c).In-third) + 1 ≤ n (pair_of ((goal.at.After-in_circle c).In-third))) × (t.third.p ≡ p (pair_of ((goal.at.After-in_circle c).In-third))) × (some (test ((goal.at.After-in_circle c).In-third)) (i ((goal.at.After-in_circle c).In-third) + 1) ≡ false)
+    let t = (goal.at.After-in_circle c).In-third in (i t + 1 ≤ n (pair_of t)) × (some (test t) (i t + 1) ≡ false)
 not_inside c e =
-    let t = c in
-    passed ((goal.at.After-in_circle c).In-third) (outside_passed (d (pair_of ((goal.at.After-in_circle c).In-third))) (a (pair_of ((goal.at.After-in_circle c).In-third))) (b (pair_of ((goal.at.After-in_circle c).In-third))) (i ((goal.at.After-in_circle c).In-third)) c.in_circle.result c.in_circle.ensures e)
+    let t = (goal.at.After-in_circle c).In-third in
+    let o = pair_of t in passed t (outside_passed (d o) (a o) (b o) (i t) c.in_circle.result c.in_circle.ensures e)
 
 pub overflow_step-c-in-third : goal.overflow_step-c-in-third
 overflow_step-c-in-third c = omega arith
@@ -146,23 +157,16 @@ pub third-smaller : goal.third-smaller
 third-smaller c = omega arith
 
 pub third-preserved : goal.third-preserved
-third-preserved c = not_inside ((goal.at.third-preserved c).After-in_circle) (cc)
-
-pub overflow_step-p-then-in_circle : goal.overflow_step-p-then-in_circle
-overflow_step-p-then-in_circle c = omega (arith, fewer (pair_of ((goal.at.overflow_step-p-then-in_circle c).In-third)))
-
-pub pair-smaller-then-in_circle : goal.pair-smaller-then-in_circle
-pair-smaller-then-in_circle c = omega arith
+third-preserved c = not_inside ((goal.at.third-preserved c).After-in_circle) (search rules)
 
 pub pair-preserved-then-in_circle : goal.pair-preserved-then-in_circle
 pair-preserved-then-in_circle c =
-    let t = c in
-    let o = pair_of ((goal.at.pair-preserved-then-in_circle c).In-third) in
+    let t = (goal.at.pair-preserved-then-in_circle c).In-third in
+    let o = pair_of t in
     let found =
-    weight_found (d o) (a o) (b o) (n o) (i ((goal.at.pair-preserved-then-in_circle c).In-third)) c.in_circle.result (omega arith) c.if2.false
-    c.if-c-b.false c.in_circle.ensures c.if-in_circle.true in
-    entry_written (gabriel_weight (d o) (n o)) (n o) (p o) o.pair.weights o.pair.invariant (omega arith)
-    t.third.p 0 t.third.invariant.1 (sym found)
+    weight_found (d o) (a o) (b o) (n o) (i t) c.in_circle.result (omega arith) c.if-c-a.false (ne_eqb (i t) (b o) c.if-c-b.false)
+    c.in_circle.ensures c.if-in_circle.true in
+    entry_written (gabriel_weight (d o) (n o)) (n o) (p o) c.pair.weights c.pair.invariant (omega arith) 0 (sym found)
 
 pub bounds-weights-p-in-pair : goal.bounds-weights-p-in-pair
 bounds-weights-p-in-pair c = simp length-set (omega arith)
@@ -175,11 +179,11 @@ pair-smaller c = omega arith
 
 pub pair-preserved : goal.pair-preserved
 pair-preserved c =
-    let o = c in
+    let o = (goal.at.pair-preserved c).In-pair in
     let l = c.third in
-    let free = ap (some (third_in (d ((goal.at.pair-preserved c).In-pair)) (a ((goal.at.pair-preserved c).In-pair)) (b ((goal.at.pair-preserved c).In-pair)))) (N.le_antisymm c.third-test.false l.invariant.0) ∙ l.invariant.2 in
-    entry_over (gabriel_weight (d ((goal.at.pair-preserved c).In-pair)) (n ((goal.at.pair-preserved c).In-pair))) (n ((goal.at.pair-preserved c).In-pair)) (p ((goal.at.pair-preserved c).In-pair)) o.pair.weights o.pair.invariant (omega arith) l.p 1 l.invariant.1
-    (sym (weight_free (d ((goal.at.pair-preserved c).In-pair)) (a ((goal.at.pair-preserved c).In-pair)) (b ((goal.at.pair-preserved c).In-pair)) (n ((goal.at.pair-preserved c).In-pair)) c.if-a-b.false free))
+    let free = ap (some (third_in (d o) (a o) (b o))) (N.le_antisymm c.third-test.false l.invariant.0) ∙ l.invariant.1 in
+    entry_over (gabriel_weight (d o) (n o)) (n o) (p o) c.pair.weights c.pair.invariant (omega arith) 1
+    (sym (weight_free (d o) (a o) (b o) (n o) c.if-a-b.false free))
 
 pub shape_of-weights : goal.shape_of-weights
 shape_of-weights c = omega arith
@@ -187,5 +191,4 @@ shape_of-weights c = omega arith
 pub returns : goal.returns
 unfolding gabriel_network
 returns c =
-    let t = c in
-    filled_all _ _ _ 0 _ t.pair.p t.pair.invariant (omega arith)
+    filled_all _ _ _ 0 _ c.pair.p c.pair.invariant (omega arith)

@@ -1,12 +1,10 @@
-use mathlib.Core.Path.{◌≡◌, sym, ◌∙◌}
+use mathlib.Core.Path.{◌≡◌}
 use mathlib.Core.Bool.{Bool, false}
 use mathlib.Core.List.{List}
 use Prim.Native.Nat.{ℕ, ◌-◌, ◌≤◌}
-use native.Mathlib.Omega.{arith}
 use lib.IntN.{ℤ}
 use Rattle.whole.specs.Search.{some}
-use Rattle.whole.proofs.Search.{some_zero, some_more, some_found, some_done}
-use Rattle.places.specs.Places.{at_one_place, any_at_one_place}
+use Rattle.places.specs.Places.{at_one_place}
 use Rattle.places.proofs.judging.any_at_one_place.Given as goal
 
 -- a zone before a is at its place

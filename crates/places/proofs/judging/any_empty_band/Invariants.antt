@@ -2,13 +2,10 @@ use mathlib.Core.Path.{◌≡◌}
 use mathlib.Core.Bool.{Bool, false}
 use mathlib.Core.List.{List}
 use Prim.Native.Nat.{ℕ, ◌-◌, ◌≤◌}
-use native.Mathlib.Omega.{arith}
-use borrow.Author.Tests.{eq-eqb, ne_eqb}
 use lib.Dec.{eqb}
 use lib.ListN.{length}
 use Rattle.whole.specs.Search.{some}
-use Rattle.whole.proofs.Search.{some_zero, some_more, some_found, some_done}
-use Rattle.places.specs.Bands.{band_at, any_empty_band}
+use Rattle.places.specs.Bands.{band_at}
 use Rattle.places.proofs.judging.any_empty_band.Given as goal
 
 abbrev pub test : List ℕ → ℕ → Bool

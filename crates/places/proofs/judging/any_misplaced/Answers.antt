@@ -3,7 +3,6 @@ use mathlib.Core.Path.{◌≡◌, refl, sym, ◌∙◌}
 use mathlib.Core.Bool.{false}
 use mathlib.Core.List.{List}
 use Prim.Native.Nat.{ℕ}
-use borrow.Author.Rules.{rules}
 use lib.ListN.{length}
 use Rattle.whole.specs.Search.{some}
 use Rattle.places.specs.Bands.{any_empty_band, any_not_rising, any_misplaced}
@@ -14,7 +13,7 @@ unfolding any_misplaced any_empty_band any_not_rising some
 none_misplaced bands e = rw e refl
 
 pub returns-then-bands-eq0 : goal.returns-then-bands-eq0
-returns-then-bands-eq0 c = sym (none_misplaced _ c.if-bands-eq0.true)
+returns-then-bands-eq0 c = sym (none_misplaced c.args.bands.now c.if-bands-eq0.true)
 
 pub any_empty_band-requires : goal.any_empty_band-requires
 any_empty_band-requires c = tt

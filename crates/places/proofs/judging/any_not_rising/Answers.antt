@@ -1,6 +1,6 @@
 -- `any_not_rising` meets its contract. The loop's invariant: every band passed is above the one before it. Assumes nothing.
 use mathlib.Core.Path.{◌≡◌, sym, ap, ◌∙◌}
-use mathlib.Core.Bool.{Bool, true, false, not}
+use mathlib.Core.Bool.{true, false, not}
 use mathlib.Core.List.{List}
 use Prim.Native.Nat.{ℕ, ◌+◌, ◌-◌, ◌≤◌, ◌<◌}
 use native.Mathlib.Omega.{arith}
@@ -52,10 +52,9 @@ bounds-bands-k-in-loop-k c = omega arith
 pub returns-then-bands-k : goal.returns-then-bands-k
 unfolding any_not_rising
 returns-then-bands-k c =
-    let b = c in
-    let bands = b.args.bands.now in
-    some_found (test bands) (length bands - 1) (b.loop-k.k - 1) (omega arith)
-    (not_above bands b.loop-k.k b.loop-k.invariant.0 c.if-bands-k.true)
+    let bands = c.args.bands.now in
+    some_found (test bands) (length bands - 1) (c.loop-k.k - 1) (omega arith)
+    (not_above bands c.loop-k.k c.loop-k.invariant.0 c.if-bands-k.true)
 
 pub overflow_add-k : goal.overflow_add-k
 overflow_add-k c = omega arith
@@ -65,12 +64,10 @@ loop-k-smaller c = omega arith
 
 pub loop-k-preserved : goal.loop-k-preserved
 loop-k-preserved c =
-    let b = c in
-    let i = b.loop-k.invariant in
-    (omega arith, omega arith, further b.args.bands.now b.loop-k.k i.0 i.2 c.if-bands-k.false)
+    let i = c.loop-k.invariant in
+    (omega arith, omega arith, further c.args.bands.now c.loop-k.k i.0 i.2 c.if-bands-k.false)
 
 pub returns : goal.returns
 unfolding any_not_rising
 returns c =
-    let b = c in
-    some_done (test b.args.bands.now) (b.loop-k.k - 1) _ (omega arith) b.loop-k.invariant.2
+    some_done (test c.args.bands.now) (c.loop-k.k - 1) _ (omega arith) c.loop-k.invariant.2

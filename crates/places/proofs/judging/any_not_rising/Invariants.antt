@@ -1,14 +1,11 @@
-use mathlib.Core.Path.{◌≡◌, sym, ap, ◌∙◌}
-use mathlib.Core.Bool.{Bool, true, false, not}
+use mathlib.Core.Path.{◌≡◌}
+use mathlib.Core.Bool.{Bool, false, not}
 use mathlib.Core.List.{List}
-use Prim.Native.Nat.{ℕ, ◌+◌, ◌-◌, ◌≤◌, ◌<◌}
-use native.Mathlib.Omega.{arith}
-use borrow.Author.Tests.{lt-ltb, le-ltb}
+use Prim.Native.Nat.{ℕ, ◌+◌, ◌-◌, ◌≤◌}
 use lib.Dec.{ltb}
 use lib.ListN.{length}
 use Rattle.whole.specs.Search.{some}
-use Rattle.whole.proofs.Search.{some_zero, some_more, some_found, some_done}
-use Rattle.places.specs.Bands.{band_at, any_not_rising}
+use Rattle.places.specs.Bands.{band_at}
 use Rattle.places.proofs.judging.any_not_rising.Given as goal
 
 -- band k + 1 is not above band k

@@ -1,6 +1,6 @@
 -- `bands_broken` meets its contract: at each return the tests on the way fix whether the rule is broken. Assumes nothing.
 use borrow.Author.Tests.{lt-ltb, le-ltb}
-use Rattle.places.specs.Bands.{any_misplaced, bands_broken}
+use Rattle.places.specs.Bands.{bands_broken}
 use Rattle.places.proofs.judging.bands_broken.Goals as goal
 
 pub returns-then-bands-lt1 : goal.returns-then-bands-lt1

@@ -2,21 +2,20 @@
 use mathlib.Core.Path.{◌≡◌, refl, sym}
 use mathlib.Core.Bool.{true, false}
 use mathlib.Core.List.{List}
-use mathlib.Core.Logic.{⊎_elim}
-use Prim.Native.Nat.{ℕ, ◌+◌, ◌*◌, ◌-◌, ◌≤◌, ◌<◌, ◌^◌}
+use Prim.Native.Nat.{ℕ, ◌+◌, ◌*◌, ◌<◌, ◌^◌}
 use native.Mathlib.Omega.{arith}
 use lib.IntN.{ℤ}
 use lib.Signed.{mag}
 use mir.Syntax.{w32}
 use mir.Val.{of_z}
 use Rattle.whole.specs.Integer.{equal}
-use Rattle.whole.specs.Search.{some}
 use Rattle.whole.specs.Table.{at}
 use Rattle.whole.proofs.Machine.{same_yes, same_no}
 use Rattle.whole.proofs.Rules.{second_fails}
 use Rattle.whole.proofs.Search.{some_zero, some_more, some_found, some_done}
 use Rattle.places.specs.Places.{across, up, at_one_place}
 use Rattle.places.proofs.judging.earlier_at_place.Goals as goal
+use Rattle.places.proofs.judging.earlier_at_place.Goals.{then-places-b+else-places-b-2, else-places-b}
 
 -- what the two tests say of zones a and b
 module _ (places : List ℤ) (a b : ℕ) where
@@ -89,13 +88,9 @@ bounds-places-b-then-places-b c = omega arith
 
 pub returns-then-places-b-2 : goal.returns-then-places-b-2
 returns-then-places-b-2 c =
-    let r = c in
-    let b = c in
-    let u = c in
-    let a = u.args in
-    some_found (at_one_place a.places.now a.a) a.a b.loop-b.b (omega arith)
-    (both a.places.now a.a b.loop-b.b u.across.given u.up.given r.t16-1.given c.t21-1.given
-    c.if-places-b.true c.if-places-b-2.true)
+    let a = c.args in
+    some_found (at_one_place a.places.now a.a) a.a c.loop-b.b (omega arith)
+    (both a.places.now a.a c.loop-b.b (omega arith) (omega arith) (omega arith) (omega arith) c.if-places-b.true c.if-places-b-2.true)
 
 pub overflow_add-b-in-loop-b : goal.overflow_add-b-in-loop-b
 overflow_add-b-in-loop-b c = omega arith
@@ -105,15 +100,15 @@ loop-b-smaller c = omega arith
 
 pub loop-b-preserved : goal.loop-b-preserved
 loop-b-preserved c =
-    let b = c in
-    let a = b.args in
-    let passed : at_one_place a.places.now a.a b.loop-b.b ≡ false =
-    ⊎_elim (λ up. not_up a.places.now a.a b.loop-b.b up.2.left)
-    (λ across. not_across a.places.now a.a b.loop-b.b across.left) c.if-places-b.branch in
-    (omega arith, some_more (at_one_place a.places.now a.a) b.loop-b.b b.loop-b.invariant.1 passed)
+    let a = c.args in
+    let passed : at_one_place a.places.now a.a c.loop-b.b ≡ false =
+    elim c.if-places-b.branch [
+      | then-places-b+else-places-b-2 w ↦ not_up a.places.now a.a c.loop-b.b w.if-places-b-2.false
+      | else-places-b w ↦ not_across a.places.now a.a c.loop-b.b w.if-places-b.false
+    ] in
+    (omega arith, some_more (at_one_place a.places.now a.a) c.loop-b.b c.loop-b.invariant.1 passed)
 
 pub returns : goal.returns
 returns c =
-    let b = c in
-    let a = b.args in
-    some_done (at_one_place a.places.now a.a) b.loop-b.b _ (omega arith) b.loop-b.invariant.1
+    let a = c.args in
+    some_done (at_one_place a.places.now a.a) c.loop-b.b _ (omega arith) c.loop-b.invariant.1

@@ -30,11 +30,13 @@ bands_broken-requires c = tt
 pub returns-then-bands_broken : goal.returns-then-bands_broken
 unfolding band_refusal
 returns-then-bands_broken c =
-    let e = c in
-    by_rest _ _ _ (last ((goal.at.returns-then-bands_broken c).Start)) _ (places_good ((goal.at.returns-then-bands_broken c).Else-number-ne0)) (rw (sym c.bands_broken.ensures ∙ c.if-bands_broken.true) refl)
+    let t = (goal.at.returns-then-bands_broken c).Start in
+    let u = (goal.at.returns-then-bands_broken c).Else-number-ne0 in
+    by_rest _ _ _ (last t) _ (places_good u) (rw (sym c.bands_broken.ensures ∙ c.if-bands_broken.true) refl)
 
 pub returns : goal.returns
 unfolding band_refusal
 returns c =
-    let e = c in
-    by_rest _ _ _ (last ((goal.at.returns c).Start)) _ (places_good ((goal.at.returns c).Else-number-ne0)) (rw (sym c.bands_broken.ensures ∙ c.if-bands_broken.false) refl)
+    let t = (goal.at.returns c).Start in
+    let u = (goal.at.returns c).Else-number-ne0 in
+    by_rest _ _ _ (last t) _ (places_good u) (rw (sym c.bands_broken.ensures ∙ c.if-bands_broken.false) refl)

@@ -2,13 +2,12 @@
 use mathlib.Core.Path.{◌≡◌, sym, ap, ◌∙◌}
 use mathlib.Core.Bool.{true, false}
 use mathlib.Core.List.{List, [], ◌∷◌}
-use Prim.Native.Nat.{ℕ, suc, ◌+◌, ◌*◌, ◌-◌, ◌/◌, ◌≤◌, ◌<◌}
+use Prim.Native.Nat.{ℕ, suc, ◌+◌, ◌*◌, ◌-◌, ◌/◌, ◌<◌}
 use native.Mathlib.Omega.{arith}
-use borrow.Author.Rules.{rules}
 use lib.IntN.{ℤ, pos}
 use lib.ListN.{length, take, drop}
 use lib.Seq.{drop-cons}
-use Rattle.whole.specs.Rules.{first_broken, in_turn}
+use Rattle.whole.specs.Rules.{first_broken}
 use Rattle.whole.specs.Search.{some, any_beyond}
 use Rattle.whole.specs.Table.{at}
 use Rattle.whole.proofs.InTurn.{Numbered, turn_none, turn_next, turn_found, turn_done}
@@ -67,10 +66,9 @@ any_beyond-requires c = tt
 pub returns-then-any_beyond : goal.returns-then-any_beyond
 unfolding places_in_turn
 returns-then-any_beyond c =
-    let b = c in
-    let places = b.args.places.now in
-    turn_found (place_rules_of places) (numbered places) (length places / 2) b.loop-a.a 10 (omega arith) b.loop-a.invariant.1
-    (far places b.loop-a.a (omega arith) (2 * b.loop-a.a + 2 - 2 * b.loop-a.a) (omega arith)
+    let places = c.args.places.now in
+    turn_found (place_rules_of places) (numbered places) (length places / 2) c.loop-a.a 10 (omega arith) c.loop-a.invariant.1
+    (far places c.loop-a.a (omega arith) (2 * c.loop-a.a + 2 - 2 * c.loop-a.a) (omega arith)
     (sym c.any_beyond.ensures ∙ c.if-any_beyond.true)) (λ z. omega arith)
 
 pub earlier_at_place-requires : goal.earlier_at_place-requires
@@ -79,12 +77,10 @@ earlier_at_place-requires c = omega arith
 pub returns-then-earlier_at_place : goal.returns-then-earlier_at_place
 unfolding places_in_turn
 returns-then-earlier_at_place c =
-    let e = c in
-    let b = c in
-    let places = b.args.places.now in
-    turn_found (place_rules_of places) (numbered places) (length places / 2) b.loop-a.a 11 (omega arith) b.loop-a.invariant.1
-    (met places b.loop-a.a (omega arith) (2 * b.loop-a.a + 2 - 2 * b.loop-a.a) (omega arith)
-    (sym e.any_beyond.ensures ∙ e.if-any_beyond.false)
+    let places = c.args.places.now in
+    turn_found (place_rules_of places) (numbered places) (length places / 2) c.loop-a.a 11 (omega arith) c.loop-a.invariant.1
+    (met places c.loop-a.a (omega arith) (2 * c.loop-a.a + 2 - 2 * c.loop-a.a) (omega arith)
+    (sym c.any_beyond.ensures ∙ c.if-any_beyond.false)
     (sym c.earlier_at_place.ensures ∙ c.if-earlier_at_place.true)) (λ z. omega arith)
 
 pub overflow_add-a : goal.overflow_add-a
@@ -95,19 +91,16 @@ loop-a-smaller c = omega arith
 
 pub loop-a-preserved : goal.loop-a-preserved
 loop-a-preserved c =
-    let e = c in
-    let b = c in
-    let places = b.args.places.now in (
+    let places = c.args.places.now in (
       omega arith,
-      turn_next (place_rules_of places) (numbered places) b.loop-a.a b.loop-a.invariant.1
-          (alone places b.loop-a.a (omega arith) (2 * b.loop-a.a + 2 - 2 * b.loop-a.a) (omega arith)
-          (sym e.any_beyond.ensures ∙ e.if-any_beyond.false)
+      turn_next (place_rules_of places) (numbered places) c.loop-a.a c.loop-a.invariant.1
+          (alone places c.loop-a.a (omega arith) (2 * c.loop-a.a + 2 - 2 * c.loop-a.a) (omega arith)
+          (sym c.any_beyond.ensures ∙ c.if-any_beyond.false)
           (sym c.earlier_at_place.ensures ∙ c.if-earlier_at_place.false)),
     )
 
 pub returns : goal.returns
 unfolding places_in_turn
 returns c =
-    let b = c in
-    let places = b.args.places.now in
-    turn_done (place_rules_of places) (numbered places) b.loop-a.a _ (omega arith) b.loop-a.invariant.1
+    let places = c.args.places.now in
+    turn_done (place_rules_of places) (numbered places) c.loop-a.a _ (omega arith) c.loop-a.invariant.1

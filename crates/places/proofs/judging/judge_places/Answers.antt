@@ -29,21 +29,27 @@ any_beyond-requires c = tt
 
 pub returns-then-any_beyond : goal.returns-then-any_beyond
 unfolding place_rules
-returns-then-any_beyond c = then_places _ _ _ [] _ (sizes_good ((goal.at.returns-then-any_beyond c).Else-sizes-ne0)) (rw (sym c.any_beyond.ensures ∙ c.if-any_beyond.true) refl)
+returns-then-any_beyond c =
+    let t = (goal.at.returns-then-any_beyond c).Else-sizes-ne0 in
+    then_places _ _ _ [] _ (sizes_good t) (rw (sym c.any_beyond.ensures ∙ c.if-any_beyond.true) refl)
 
 pub any_at_one_place-requires : goal.any_at_one_place-requires
-any_at_one_place-requires c = let f = fitting _ _ _ (sizes_good ((goal.at.any_at_one_place-requires c).Else-sizes-ne0)) in record { n_bound = f.zones; places_len = f.places_fit }
+any_at_one_place-requires c =
+    let t = (goal.at.any_at_one_place-requires c).Else-sizes-ne0 in
+    let f = fitting _ _ _ (sizes_good t) in record { n_bound = f.zones; places_len = f.places_fit }
 
 pub returns-then-any_at_one_place : goal.returns-then-any_at_one_place
 unfolding place_rules
 returns-then-any_at_one_place c =
-    let e = c in
-    then_places _ _ _ [] _ (sizes_good ((goal.at.returns-then-any_at_one_place c).Else-sizes-ne0))
-    (rw (near ((goal.at.returns-then-any_at_one_place c).Else-any_beyond), sym c.any_at_one_place.ensures ∙ c.if-any_at_one_place.true) refl)
+    let t = (goal.at.returns-then-any_at_one_place c).Else-sizes-ne0 in
+    let u = (goal.at.returns-then-any_at_one_place c).Else-any_beyond in
+    then_places _ _ _ [] _ (sizes_good t)
+    (rw (near u, sym c.any_at_one_place.ensures ∙ c.if-any_at_one_place.true) refl)
 
 pub returns : goal.returns
 unfolding place_rules
 returns c =
-    let e = c in
-    then_places _ _ _ [] _ (sizes_good ((goal.at.returns c).Else-sizes-ne0))
-    (rw (near ((goal.at.returns c).Else-any_beyond), sym c.any_at_one_place.ensures ∙ c.if-any_at_one_place.false) refl)
+    let t = (goal.at.returns c).Else-sizes-ne0 in
+    let u = (goal.at.returns c).Else-any_beyond in
+    then_places _ _ _ [] _ (sizes_good t)
+    (rw (near u, sym c.any_at_one_place.ensures ∙ c.if-any_at_one_place.false) refl)
