@@ -2,7 +2,6 @@
 use mathlib.Core.Path.{◌≡◌, sym, ◌∙◌}
 use mathlib.Core.List.{[], ◌∷◌}
 use Prim.Native.Nat.{◌*◌}
-use borrow.Author.Rules.{rules}
 use lib.ListN.{length}
 use Rattle.whole.proofs.Rules.{Sizes, sizes_hold, fits, kept_when_refused, worked_when_taken}
 use Rattle.grid.specs.Grid.{grid_refusal, grid_left}
@@ -24,13 +23,23 @@ good c = sizes_hold _ _ (accepted c)
 
 pub returns-then-number-ne0 : goal.returns-then-number-ne0
 unfolding grid_left
-returns-then-number-ne0 c = let found = c.judge_grid-number.ensures in record { number = found; lent = sym (kept_when_refused _ _ _ (λ e. c.if-number-ne0.true (found ∙ e))) }
+returns-then-number-ne0 c = let found = c.judge_grid-number.ensures in
+    record {
+      number = found;
+      lent = sym (kept_when_refused _ _ _ (λ e. c.if-number-ne0.true (found ∙ e)));
+    }
 
 pub walk_cells-requires : goal.walk_cells-requires
-walk_cells-requires c = let g = good ((goal.at.walk_cells-requires c).Else-number-ne0) in record { columns_bound = g.zones; weights_len = (fits _ _ [] g.fitting).0 }
+walk_cells-requires c =
+    let t = (goal.at.walk_cells-requires c).Else-number-ne0 in
+    let g = good t in record { columns_bound = g.zones; weights_len = (fits _ _ [] g.fitting).0 }
 
 pub returns : goal.returns
 unfolding grid_left
 returns c =
-    let w = c in
-    let e = accepted ((goal.at.returns c).Else-number-ne0) in record { number = sym e; lent = w.walk_cells.ensures ∙ sym (worked_when_taken _ _ _ e) }
+    let t = (goal.at.returns c).Else-number-ne0 in
+    let e = accepted t in
+    record {
+      number = sym e;
+      lent = c.walk_cells.ensures ∙ sym (worked_when_taken _ _ _ e);
+    }

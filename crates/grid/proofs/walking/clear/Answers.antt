@@ -1,8 +1,7 @@
 -- `clear` meets its contract. The loop's invariant: the first j cells are 0. Assumes nothing.
-use mathlib.Core.Path.{◌≡◌, refl}
-use Prim.Native.Nat.{ℕ, ◌-◌, ◌≤◌, ◌<◌}
+use mathlib.Core.Path.{refl}
 use native.Mathlib.Omega.{arith}
-use lib.ListN.{length, get_or, length-set}
+use lib.ListN.{length, length-set}
 use Rattle.whole.proofs.Table.{is_table, stored}
 use Rattle.grid.proofs.walking.clear.Goals as goal
 

@@ -3,7 +3,6 @@ use mathlib.Core.Path.{◌≡◌, refl, sym, ap, ◌∙◌}
 use mathlib.Core.Bool.{true, false, true≢false}
 use Prim.Native.Nat.{ℕ, ◌≤◌, ◌<◌}
 use native.Mathlib.Omega.{arith}
-use borrow.Author.Rules.{rules}
 use borrow.Author.Tests.{lt-ltb, le-ltb, ltb-true}
 use lib.IntN.{ℤ, pos, negsuc, nat_abs, ◌+ℤ◌}
 use lib.Signed.{lt_z, nat_abs-le}
@@ -51,18 +50,19 @@ pub overflow_add-to : goal.overflow_add-to
 overflow_add-to c = fit w64 (sum_is c) tt
 
 pub returns-then-to-lt0 : goal.returns-then-to-lt0
-returns-then-to-lt0 c = let s = c in lands_before _ (sum ((goal.at.returns-then-to-lt0 c).Start)) (sym (sign_is ((goal.at.returns-then-to-lt0 c).Start)) ∙ c.if-to-lt0.true)
+returns-then-to-lt0 c =
+    let s = (goal.at.returns-then-to-lt0 c).Start in lands_before _ (sum s) (sym (sign_is s) ∙ c.if-to-lt0.true)
 
 pub overflow_cast-cell : goal.overflow_cast-cell
-overflow_cast-cell c = not_below (coded ((goal.at.overflow_cast-cell c).Start)) (add_to ((goal.at.overflow_cast-cell c).Start)) c.if-to-lt0.false
+overflow_cast-cell c = let s = (goal.at.overflow_cast-cell c).Start in not_below (coded s) (fit w64 (sum_is s) tt) c.if-to-lt0.false
 
 pub returns-then-cell-cells : goal.returns-then-cell-cells
 returns-then-cell-cells c =
-    let s = c in
-    let size = ap nat_abs (read_is ((goal.at.returns-then-cell-cells c).Start)) in
-    size ∙ lands_in _ (sum ((goal.at.returns-then-cell-cells c).Start)) (sym (sign_is ((goal.at.returns-then-cell-cells c).Start)) ∙ c.if-to-lt0.false) (rw (← size) c.if-cell-cells.true)
+    let s = (goal.at.returns-then-cell-cells c).Start in
+    let size = ap nat_abs (read_is s) in
+    size ∙ lands_in _ (sum s) (sym (sign_is s) ∙ c.if-to-lt0.false) (rw (← size) c.if-cell-cells.true)
 
 pub returns : goal.returns
 returns c =
-    let s = c in
-    lands_past _ (sum ((goal.at.returns c).Start)) (sym (sign_is ((goal.at.returns c).Start)) ∙ c.if-to-lt0.false) (rw (← ap nat_abs (read_is ((goal.at.returns c).Start))) c.if-cell-cells.false)
+    let s = (goal.at.returns c).Start in
+    lands_past _ (sum s) (sym (sign_is s) ∙ c.if-to-lt0.false) (rw (← ap nat_abs (read_is s)) c.if-cell-cells.false)

@@ -1,7 +1,6 @@
 -- `number_at` meets its contract: the table is the list of the steps' numbers. Assumes nothing.
 use mathlib.Core.Path.{sym, subst}
 use Prim.Native.Nat.{◌<◌}
-use borrow.Author.Rules.{rules}
 use lib.IntN.{ℤ}
 use lib.Signed.{mag, nat_abs-le}
 use mir.Syntax.{w64}
@@ -15,4 +14,5 @@ pub returns : goal.returns
 returns c =
     let number = at (numbers all_steps) c.args.place in
     let small = step_small c.args.place c.requires in
-    let read = rd w64 (val number 2 (nat_abs-le number small)) tt in record { value = read.same; result_bound = subst (λ (z : ℤ). mag z < 2) (sym read.same) small }
+    let read = rd w64 (val number 2 (nat_abs-le number small)) tt in
+    record { value = read.same; result_bound = subst (λ (z : ℤ). mag z < 2) (sym read.same) small }

@@ -1,11 +1,10 @@
 -- `walk_cells` meets its contract. The loop's invariant: the rows of the first i cells are written. Assumes nothing.
 use mathlib.Core.Path.{◌≡◌, refl, sym, ◌∙◌}
-use Prim.Native.Nat.{ℕ, ◌+◌, ◌*◌, ◌-◌, ◌≤◌, ◌<◌}
+use Prim.Native.Nat.{ℕ, ◌+◌, ◌*◌, ◌≤◌, ◌<◌}
 use native.Mathlib.Nat as N
 use native.Mathlib.Omega.{arith}
 use borrow.Rule.Slice.PartMut.{mid_len}
-use lib.ListN.{length, take}
-use Rattle.whole.specs.Table.{table_rows}
+use lib.ListN.{length}
 use Rattle.whole.proofs.TableRows.{rows_none, row_length, row_written, rows_done}
 use Rattle.grid.specs.Grid.{grid_weight, grid_network}
 use Rattle.whole.proofs.Lists.{few}
@@ -20,7 +19,7 @@ pub overflow_mul-n : goal.overflow_mul-n
 overflow_mul-n c = omega arith
 
 pub loop-i-init : goal.loop-i-init
-loop-i-init c = let a = c in (omega arith, (a.requires.weights_len, rows_none _ _ a.args.weights.now))
+loop-i-init c = (omega arith, (c.requires.weights_len, rows_none _ _ c.args.weights.now))
 
 -- the cell at hand
 module _ (c : In-loop-i) where
@@ -50,31 +49,31 @@ overflow_add-end c = omega (arith, ends c)
 pub slice_bounds-fill_cell-count : goal.slice_bounds-fill_cell-count
 slice_bounds-fill_cell-count c = omega arith
 
--- LEFT (no such goal now): part_fill_cell_start : Need-slice-bounds-fill-cell-start
--- part_fill_cell_start c = omega arith
-
--- LEFT (no such goal now): part_fill_cell_end : Need-slice-bounds-fill-cell-end
--- part_fill_cell_end c = room c
-
 pub fill_cell-requires : goal.fill_cell-requires
-fill_cell-requires c = let b = c in record { columns_bound = (a ((goal.at.fill_cell-requires c).In-loop-i)).requires.columns_bound; i_bound = b.loop-i-test.true; marks_len = mid_len (i ((goal.at.fill_cell-requires c).In-loop-i) * n ((goal.at.fill_cell-requires c).In-loop-i)) (i ((goal.at.fill_cell-requires c).In-loop-i) * n ((goal.at.fill_cell-requires c).In-loop-i) + n ((goal.at.fill_cell-requires c).In-loop-i)) b.loop-i.weights (room ((goal.at.fill_cell-requires c).In-loop-i)) ∙ omega arith }
+fill_cell-requires c =
+    let b = (goal.at.fill_cell-requires c).In-loop-i in
+    record {
+      columns_bound = c.requires.columns_bound;
+      i_bound = c.loop-i-test.true;
+      marks_len = mid_len (i b * n b) (i b * n b + n b) c.loop-i.weights (room b) ∙ omega arith;
+    }
 
 pub overflow_add-i : goal.overflow_add-i
-overflow_add-i c = let b = c in omega (arith, b.loop-i-test.true, (a ((goal.at.overflow_add-i c).In-loop-i)).requires.columns_bound)
+overflow_add-i c = omega (arith, c.loop-i-test.true, c.requires.columns_bound)
 
 pub loop-i-smaller : goal.loop-i-smaller
 loop-i-smaller c = omega (arith, c.loop-i-test.true)
 
 pub loop-i-preserved : goal.loop-i-preserved
 loop-i-preserved c =
-    let b = c in
+    let b = (goal.at.loop-i-preserved c).In-loop-i in
     let row = c.fill_cell.ensures in
-    let l = b.loop-i in
-    let f = grid_weight (a ((goal.at.loop-i-preserved c).In-loop-i)).args.kind (a ((goal.at.loop-i-preserved c).In-loop-i)).args.columns in (
-      omega (arith, b.loop-i-test.true),
+    let l = c.loop-i in
+    let f = grid_weight c.args.kind c.args.columns in (
+      omega (arith, c.loop-i-test.true),
       (
-        row_length f (n ((goal.at.loop-i-preserved c).In-loop-i)) (i ((goal.at.loop-i-preserved c).In-loop-i)) l.weights _ (room ((goal.at.loop-i-preserved c).In-loop-i)) l.invariant.1.1 row ∙ l.invariant.1.0,
-        row_written f (n ((goal.at.loop-i-preserved c).In-loop-i)) (i ((goal.at.loop-i-preserved c).In-loop-i)) l.weights _ (room ((goal.at.loop-i-preserved c).In-loop-i)) l.invariant.1.1 row,
+        row_length f (n b) (i b) l.weights _ (room b) l.invariant.1.1 row ∙ l.invariant.1.0,
+        row_written f (n b) (i b) l.weights _ (room b) l.invariant.1.1 row,
       ),
     )
 

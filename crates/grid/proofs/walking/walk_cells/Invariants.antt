@@ -1,13 +1,8 @@
-use mathlib.Core.Path.{◌≡◌, refl, sym, ◌∙◌}
-use Prim.Native.Nat.{ℕ, ◌+◌, ◌*◌, ◌-◌, ◌≤◌, ◌<◌}
-use native.Mathlib.Nat as N
-use native.Mathlib.Omega.{arith}
-use borrow.Rule.Slice.PartMut.{mid_len}
+use mathlib.Core.Path.{◌≡◌}
+use Prim.Native.Nat.{◌*◌, ◌-◌, ◌≤◌}
 use lib.ListN.{length, take}
 use Rattle.whole.specs.Table.{table_rows}
-use Rattle.whole.proofs.TableRows.{rows_none, row_length, row_written, rows_done}
-use Rattle.grid.specs.Grid.{grid_weight, grid_network}
-use Rattle.whole.proofs.Lists.{few}
+use Rattle.grid.specs.Grid.{grid_weight}
 use Rattle.grid.proofs.walking.walk_cells.Given as goal
 
 abbrev pub invariant-loop-i : goal.invariant-loop-i
