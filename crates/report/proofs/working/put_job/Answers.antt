@@ -22,7 +22,7 @@ use Rattle.report.proofs.JobText.{figures_length, zones_are, sums_within, job_li
 use Rattle.report.proofs.JobText.{Reports, reports, never_refused, pair_is, sums_are, class_lines_are, job_text_is}
 use borrow.Author.Rules.{rules}
 use Rattle.report.proofs.working.put_job.Goals as goal
-use Rattle.report.proofs.working.put_job.Goals.{After-class_pairs, After-class_room-class_space, After-plain_report-report, After-put_account-at_pairs, After-put_classes-at_rank, After-put_pairs-at_classes, In-Reported-2, Start}
+use Rattle.report.proofs.working.put_job.Goals.{After-class_pairs, After-class_room-class_space, After-plain_report-report, In-Reported, Start}
 
 -- texts that are the same by their parts
 both_same : {a b a' b' : List ℕ} → a ≡ a' → b ≡ b' → a ++ b ≡ a' ++ b'
@@ -49,19 +49,16 @@ pub slice_bounds-classes-end : goal.slice_bounds-classes-end
 slice_bounds-classes-end c = sym (length-take-le _ _ (class_places ((goal.at.slice_bounds-classes-end c).After-class_room-class_space)))
 
 pub class_pairs-requires : goal.class_pairs-requires
-class_pairs-requires c =
-    let r = c in
-    record { room_fits = length-take-le _ _ (class_places ((goal.at.class_pairs-requires c).After-class_room-class_space)); banded = (begun ((goal.at.class_pairs-requires c).After-class_room-class_space)).requires.sound_lists.banded }
+class_pairs-requires c = record {
+  room_fits = length-take-le _ _ (class_places ((goal.at.class_pairs-requires c).After-class_room-class_space));
+  banded = c.requires.sound_lists.banded;
+}
 
 pub slice_bounds-locals-end : goal.slice_bounds-locals-end
-slice_bounds-locals-end c =
-    let r = c in
-    sym (length-take-le _ _ (begun ((goal.at.slice_bounds-locals-end c).After-class_room-class_space)).requires.sound_lists.job.zones)
+slice_bounds-locals-end c = sym (length-take-le _ _ c.requires.sound_lists.job.zones)
 
 pub slice_bounds-figures-end : goal.slice_bounds-figures-end
-slice_bounds-figures-end c =
-    let r = c in
-    sym (length-take-le _ _ (begun ((goal.at.slice_bounds-figures-end c).After-class_room-class_space)).requires.sound_lists.job.zones)
+slice_bounds-figures-end c = sym (length-take-le _ _ c.requires.sound_lists.job.zones)
 
 pub slice_bounds-plain_report-end : goal.slice_bounds-plain_report-end
 slice_bounds-plain_report-end c = refl
@@ -103,103 +100,88 @@ module _ (c : After-plain_report-report) where
       reports sound classed.within _ _ _ refl (length-take-le _ _ sound.zones) (length-take-le _ _ sound.zones) told.sums told.whole told.pairs told.rows
       told.locals told.figures
 
--- back from each call to the plain report
-abbrev from_answer : In-Reported-2 → After-plain_report-report
-from_answer c = ((goal.at.In-Reported-2 c).After-plain_report-report)
-
-abbrev from_account : After-put_account-at_pairs → In-Reported-2
-from_account c = ((goal.at.After-put_account-at_pairs c).In-Reported-2)
-
-abbrev from_pairs : After-put_pairs-at_classes → After-put_account-at_pairs
-from_pairs c = ((goal.at.After-put_pairs-at_classes c).After-put_account-at_pairs)
-
-abbrev from_classes : After-put_classes-at_rank → After-put_pairs-at_classes
-from_classes c = ((goal.at.After-put_classes-at_rank c).After-put_pairs-at_classes)
-
 -- the sums and the pair that were answered are the job's
-module _ (w : In-Reported-2) where
-  sums_known : listed w.answer.given.0.0.sums ≡ job_figures (n (from_answer w)) (values (from_answer w)) (weights (from_answer w))
-  sums_known = sums_are (said (from_answer w)).sums w.answer.given.1
+module _ (w : In-Reported) where
+  abbrev answered : After-plain_report-report
+  answered = ((goal.at.In-Reported w).After-plain_report-report)
 
-  pair_known : w.answer.given.0.0.pair ≡ job_pair (n (from_answer w)) (values (from_answer w)) (weights (from_answer w))
-  pair_known = pair_is (said (from_answer w)).of_job w.answer.given.1
+  sums_known : listed w.in-Reported.whole.sums ≡ job_figures (n answered) (values answered) (weights answered)
+  sums_known = sums_are (said answered).sums w.in-Reported.is
+
+  pair_known : w.in-Reported.whole.pair ≡ job_pair (n answered) (values answered) (weights answered)
+  pair_known = pair_is (said answered).of_job w.in-Reported.is
 
 pub put_account-at_pairs-requires : goal.put_account-at_pairs-requires
 put_account-at_pairs-requires c =
-    let w = c in
-    let b = from_answer ((goal.at.put_account-at_pairs-requires c).In-Reported-2) in
+    let w = (goal.at.put_account-at_pairs-requires c).In-Reported in
+    let b = answered w in
     let zones = job_locals_length (n b) (values b) (weights b) in record {
-      within = sums_within (n b) (values b) (weights b) (sound b) _ (sums_known ((goal.at.put_account-at_pairs-requires c).In-Reported-2));
-      readable_pair = job_readable (n b) (values b) (weights b) _ (pair_known ((goal.at.put_account-at_pairs-requires c).In-Reported-2));
+      within = sums_within (n b) (values b) (weights b) (sound b) _ (sums_known w);
+      readable_pair = job_readable (n b) (values b) (weights b) _ (pair_known w);
       zoned = record {
         least = (sound b).two;
         most = (sound b).zones;
         weights_fit = (sound b).weights_fit;
-        few = omega (arith, kept_in (n b) (values b) (weights b) _ (sums_known ((goal.at.put_account-at_pairs-requires c).In-Reported-2)), kept_most (n b) (values b) (weights b));
+        few = omega (arith, kept_in (n b) (values b) (weights b) _ (sums_known w), kept_most (n b) (values b) (weights b));
         locals_fit = ap length (said b).in_locals ∙ zones;
         figures_fit = ap length (said b).of_zones ∙ figures_length (n b) (values b) (weights b) ∙ zones;
       };
-      room = omega (arith, (start b).requires.room);
+      room = omega (arith, c.requires.room);
     }
 
 pub put_pairs-at_classes-requires : goal.put_pairs-at_classes-requires
 put_pairs-at_classes-requires c =
-    let account = c in
-    let s = start (from_answer (from_account ((goal.at.put_pairs-at_classes-requires c).After-put_account-at_pairs))) in
-    let first = account.put_account-at_pairs.ensures in record { joinable = s.requires.sound_lists.joined; room = omega (arith, put_length first, first.few, s.requires.room) }
+    let first = c.put_account-at_pairs.ensures in record {
+      joinable = c.requires.sound_lists.joined;
+      room = omega (arith, put_length first, first.few, c.requires.room);
+    }
 
 pub slice_bounds-put_classes-end : goal.slice_bounds-put_classes-end
 slice_bounds-put_classes-end c =
-    let pairs = c in
-    let b = from_answer (from_account (from_pairs ((goal.at.slice_bounds-put_classes-end c).After-put_pairs-at_classes))) in
+    let b = (goal.at.slice_bounds-put_classes-end c).After-plain_report-report in
     sym (ap length (said b).in_rows ∙ class_sums_length (n b) (values b) (weights b) (classes b))
 
 pub put_classes-at_rank-requires : goal.put_classes-at_rank-requires
 put_classes-at_rank-requires c =
-    let pairs = c in
-    let account = from_pairs ((goal.at.put_classes-at_rank-requires c).After-put_pairs-at_classes) in
-    let b = from_answer (from_account account) in
-    let p = (start b).requires in
-    let first = account.put_account-at_pairs.ensures in
-    let second = pairs.put_pairs-at_classes.ensures in record { rows_len = ap length (said b).in_rows ∙ class_sums_length (n b) (values b) (weights b) (classes b); readable_pairs = classes_readable (n b) (values b) (weights b) (classes b) _ (said b).of_classes; bands_bound = p.sound_lists.few_bands; room = omega (arith, put_length first, first.few, put_length second, second.few, p.room) }
+    let b = (goal.at.put_classes-at_rank-requires c).After-plain_report-report in
+    let first = c.put_account-at_pairs.ensures in
+    let second = c.put_pairs-at_classes.ensures in record {
+      rows_len = ap length (said b).in_rows ∙ class_sums_length (n b) (values b) (weights b) (classes b);
+      readable_pairs = classes_readable (n b) (values b) (weights b) (classes b) _ (said b).of_classes;
+      bands_bound = c.requires.sound_lists.few_bands;
+      room = omega (arith, put_length first, first.few, put_length second, second.few, c.requires.room);
+    }
 
 pub put_rank-requires : goal.put_rank-requires
 put_rank-requires c =
-    let classes = c in
-    let pairs = from_classes ((goal.at.put_rank-requires c).After-put_classes-at_rank) in
-    let account = from_pairs pairs in
-    let p = ((start (from_answer (from_account account))).requires.sound_lists, (start (from_answer (from_account account))).requires.room) in
-    let first = account.put_account-at_pairs.ensures in
-    let second = pairs.put_pairs-at_classes.ensures in
-    let third = classes.put_classes-at_rank.ensures in record { shuffles_value = p.0.ranked; room = omega (arith, put_length first, first.few, put_length second, second.few, put_length third, third.few, p.1) }
+    let first = c.put_account-at_pairs.ensures in
+    let second = c.put_pairs-at_classes.ensures in
+    let third = c.put_classes-at_rank.ensures in record {
+      shuffles_value = c.requires.sound_lists.ranked;
+      room = omega (arith, put_length first, first.few, put_length second, second.few, put_length third, third.few, c.requires.room);
+    }
 
 pub returns-in-Refused : goal.returns-in-Refused
-returns-in-Refused c =
-    let b = c in
-    absurd (never_refused (said ((goal.at.returns-in-Refused c).After-plain_report-report)).of_job c.enum_told-1.given.1)
+returns-in-Refused c = absurd (never_refused (said ((goal.at.returns-in-Refused c).After-plain_report-report)).of_job c.in-Refused.is)
 
 pub returns-in-Reported : goal.returns-in-Reported
 returns-in-Reported c =
-    let rank = c in
-    let classes-put = c in
-    let pairs = from_classes ((goal.at.returns-in-Reported c).After-put_classes-at_rank) in
-    let account = from_pairs pairs in
-    let w = from_account account in
-    let b = from_answer w in
-    let a = (start b).args in
+    let w = (goal.at.returns-in-Reported c).In-Reported in
+    let b = answered w in
+    let a = c.args in
     let bands = length a.bands.now in
-    let sums = w.answer.given.0.0.sums in
+    let sums = w.in-Reported.whole.sums in
     let zones =
     zones_are (n b) (values b) (weights b) (said b).in_locals (said b).of_zones
     (spread_in (n b) (values b) (weights b) sums (sums_known w))
     (kept_in (n b) (values b) (weights b) sums (sums_known w)) in
     let lines = job_lines_are (n b) (values b) (weights b) (sound b) sums (sums_known w) _ (pair_known w) in
-    let first = put_as account.put_account-at_pairs.ensures (both_same lines zones) in
+    let first = put_as c.put_account-at_pairs.ensures (both_same lines zones) in
     let rows =
     counted_same bands
-    (class-rows-are (n b) (values b) (weights b) (classes b) _ (said b).of_classes _ bands (said b).in_rows (start b).requires.sound_lists.few_bands) in
+    (class-rows-are (n b) (values b) (weights b) (classes b) _ (said b).of_classes _ bands (said b).in_rows c.requires.sound_lists.few_bands) in
     let third =
-    put_as classes-put.put_classes-at_rank.ensures
+    put_as c.put_classes-at_rank.ensures
     (rows ∙ class_lines_are (n b) (values b) (weights b) a.places.now a.bands.now _ (classed b)) in
-    put_as (put_then (put_then (put_then first pairs.put_pairs-at_classes.ensures) third) rank.put_rank.ensures)
+    put_as (put_then (put_then (put_then first c.put_pairs-at_classes.ensures) third) c.put_rank.ensures)
     (job_text_is (n b) (values b) a.categories.now (weights b) a.places.now a.bands.now a.shuffles.now)
