@@ -1,10 +1,9 @@
 -- `put_text` meets its contract. Assumes nothing.
-use borrow.Author.Rules.{rules}
 use Rattle.image.specs.Reader.{Buffers, buffers}
 use Rattle.report.proofs.Puts.{put_as}
 use Rattle.report.proofs.ReadJob.{Told, read_held, read_text, read_prints, refused_prints}
 use Rattle.report.proofs.reading.put_text.Goals as goal
-use Rattle.report.proofs.reading.put_text.Goals.{After-read, In-Read-2, In-Refused-2, Start}
+use Rattle.report.proofs.reading.put_text.Goals.{After-read, Start}
 
 -- where the call began, what the reader was lent, and what it told
 abbrev start : After-read → Start
@@ -16,34 +15,21 @@ lent s =
     s.args.places.now s.args.bands.now s.args.shuffles.now
 
 abbrev held : After-read → Buffers
-held b =
-    let l = b.read.new.1 in
-    buffers l.0 l.1.0 l.1.1.0 l.1.1.1.0 l.1.1.1.1.0 l.1.1.1.1.1.0
+held b = let l = b.read.new in buffers l.values l.categories l.weights l.places l.bands l.shuffles
 
 told : (b : After-read) → Told (start b).args.image.now (lent (start b)) b.read.result (held b)
 told b = let e = b.read.ensures in record { number = e.number; counted = e.counts; left = e.lent }
 
--- back from the arms to the read
-abbrev in_number : In-Refused-2 → After-read
-in_number c = ((goal.at.In-Refused-2 c).After-read)
-
-abbrev in_counts : In-Read-2 → After-read
-in_counts c = ((goal.at.In-Read-2 c).After-read)
-
 pub put_read-requires : goal.put_read-requires
-put_read-requires c =
-    let k = c in
-    let b = in_counts ((goal.at.put_read-requires c).In-Read-2) in record { held = read_held (told b) k.counts.given.1; room = (start b).requires.room }
+put_read-requires c = record {
+  held = read_held (told ((goal.at.put_read-requires c).After-read)) c.in-Read.is;
+  room = c.requires.room;
+}
 
 pub returns-in-Refused : goal.returns-in-Refused
-returns-in-Refused c =
-    let k = c in
-    let b = in_number ((goal.at.returns-in-Refused c).In-Refused-2) in
-    refused_prints (told b) k.number.given.1 (start b).requires.exact
+returns-in-Refused c = refused_prints (told ((goal.at.returns-in-Refused c).After-read)) c.in-Refused.is c.requires.exact
 
 pub returns-in-Read : goal.returns-in-Read
 returns-in-Read c =
-    let p = c in
-    let k = c in
-    let b = in_counts ((goal.at.returns-in-Read c).In-Read-2) in
-    read_prints (told b) k.counts.given.1 (put_as p.put_read.ensures (read_text (told b) k.counts.given.1)) (start b).requires.room
+    let t = told ((goal.at.returns-in-Read c).After-read) in
+    read_prints t c.in-Read.is (put_as c.put_read.ensures (read_text t c.in-Read.is)) c.requires.room
