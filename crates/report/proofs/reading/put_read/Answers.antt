@@ -1,7 +1,6 @@
 -- `put_read` meets its contract. Assumes nothing.
 use mathlib.Core.Path.{sym}
 use Prim.Native.Nat.{◌*◌}
-use borrow.Author.Rules.{rules}
 use lib.Seq.{length-take-le}
 use Rattle.image.specs.Writer.{lent_job}
 use Rattle.report.proofs.reading.put_read.Goals as goal

@@ -1,6 +1,5 @@
 -- `put_report` meets its contract. Assumes nothing.
 use mathlib.Core.Path.{sym}
-use borrow.Author.Rules.{rules}
 use borrow.Author.Tests.{eq-eqb}
 use lib.ListN.{length}
 use Rattle.report.proofs.reading.put_report.Goals as goal

@@ -1,6 +1,5 @@
 -- `class_pairs` meets its contract: class 0 everywhere, then the classes of the bands where there are bands. Assumes nothing.
 use native.Mathlib.Omega.{arith}
-use borrow.Author.Rules.{rules}
 use Rattle.report.proofs.Classing.{unbanded, banded}
 use Rattle.report.proofs.working.class_pairs.Goals as goal
 

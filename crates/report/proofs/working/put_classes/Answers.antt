@@ -1,7 +1,6 @@
 -- `put_classes` meets its contract: nothing without bands, else the lines of the rows. Assumes nothing.
 use mathlib.Core.Path.{sym}
 use native.Mathlib.Omega.{arith}
-use borrow.Author.Rules.{rules}
 use Rattle.report.proofs.Listed.{none_counted, some_counted}
 use Rattle.report.proofs.Puts.{put_none, put_as, put_most}
 use Rattle.report.proofs.working.put_classes.Goals as goal

@@ -14,7 +14,6 @@ use Rattle.hot_list.specs.HotList.{in_order, order_left}
 use Rattle.hot_list.proofs.Ordered.{order_taken, in_order_length, in_order_below}
 use Rattle.report.specs.Steps.{Listed, zone_line}
 use Rattle.report.proofs.Puts.{put_as, put_most}
-use borrow.Author.Rules.{rules}
 use Rattle.report.proofs.working.put_hot_list.Goals as goal
 use Rattle.report.proofs.working.put_hot_list.Goals.{After-order, Start}
 

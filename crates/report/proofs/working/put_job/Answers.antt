@@ -20,7 +20,6 @@ use Rattle.report.proofs.Puts.{put_as, put_length, put_then}
 use Rattle.report.proofs.Listed.{class_lines_are as class-rows-are}
 use Rattle.report.proofs.JobText.{figures_length, zones_are, sums_within, job_lines_are}
 use Rattle.report.proofs.JobText.{Reports, reports, never_refused, pair_is, sums_are, class_lines_are, job_text_is}
-use borrow.Author.Rules.{rules}
 use Rattle.report.proofs.working.put_job.Goals as goal
 use Rattle.report.proofs.working.put_job.Goals.{After-class_pairs, After-class_room-class_space, After-plain_report-report, In-Reported, Start}
 

@@ -1,6 +1,5 @@
 -- `put_pairs` meets its contract: nothing without categories, else the lines of the join table. Assumes nothing.
 use mathlib.Core.Path.{sym, ◌∙◌}
-use borrow.Author.Rules.{rules}
 use Rattle.joins.proofs.Theorems.{table_left}
 use Rattle.report.proofs.Listed.{not_given, given, joined_lines}
 use Rattle.report.proofs.Puts.{put_none, put_as}

@@ -1,9 +1,7 @@
 -- `unclass` meets its contract. The loop's invariant: each class passed is 0. Assumes nothing.
-use mathlib.Core.Path.{◌≡◌, refl, ◌∙◌}
-use Prim.Native.Nat.{ℕ, ◌-◌, ◌≤◌, ◌<◌}
+use mathlib.Core.Path.{refl, ◌∙◌}
 use native.Mathlib.Omega.{arith}
-use borrow.Author.Rules.{rules}
-use lib.ListN.{length, get_or, length-set}
+use lib.ListN.{length-set}
 use Rattle.whole.proofs.Table.{is_table, stored}
 use Rattle.report.proofs.working.unclass.Goals as goal
 

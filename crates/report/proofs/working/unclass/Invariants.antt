@@ -1,9 +1,6 @@
-use mathlib.Core.Path.{◌≡◌, refl, ◌∙◌}
+use mathlib.Core.Path.{◌≡◌}
 use Prim.Native.Nat.{ℕ, ◌-◌, ◌≤◌, ◌<◌}
-use native.Mathlib.Omega.{arith}
-use borrow.Author.Rules.{rules}
-use lib.ListN.{length, get_or, length-set}
-use Rattle.whole.proofs.Table.{is_table, stored}
+use lib.ListN.{length, get_or}
 use Rattle.report.proofs.working.unclass.Given as goal
 
 abbrev pub invariant-loop-i : goal.invariant-loop-i
