@@ -15,7 +15,7 @@ use Rattle.places.specs.Bands.{pair_class, band_classes, band_refusal, bands_lef
 use Rattle.places.specs.Places.{squared_distance}
 use Rattle.places.proofs.Accepted.{bands_accepted}
 use Rattle.places.proofs.Theorems.{bands_never_9, classes_left}
-use Rattle.report.specs.Steps.{Bandable, Low, Classed}
+use Rattle.report.specs.Steps.{Bandable, Classed}
 
 pub band_classes_length : (n : ℕ) (places : List ℤ) (bands : List ℕ) → length (band_classes n places bands) ≡ n * n
 unfolding band_classes

@@ -1,10 +1,9 @@
 -- What a caller may rely on of the page that it lends. Assumes nothing.
 use mathlib.Core.Path.{◌≡◌, refl, ap, ◌∙◌}
 use mathlib.Core.List.{List}
-use Prim.Native.Nat.{ℕ, ◌≤◌}
+use Prim.Native.Nat.{ℕ}
 use lib.ListN.{length, take, drop}
 use lib.Seq.{take_at}
-use Rattle.whole.specs.Table.{over}
 use Rattle.whole.proofs.Rules.{worked_when_taken, kept_when_refused}
 use Rattle.report.specs.Text.{image_text, refusal_line, print_refusal, page_left, line_refusal, line_left}
 

@@ -5,7 +5,6 @@ use Rattle.whole.proofs.Machine.{nat}
 use Rattle.report.specs.Text.{refusal_line}
 use Rattle.report.proofs.Puts.{put_as}
 use Rattle.report.proofs.Printing.{line_by_page, line_by_text}
-use borrow.Author.Rules.{rules}
 use Rattle.report.proofs.refusal.Goals as goal
 
 pub returns-then-page-ne16384 : goal.returns-then-page-ne16384

@@ -1,7 +1,6 @@
 -- `report` meets its contract: the page is judged, then the image is read and its text put. Assumes nothing.
 use Rattle.report.proofs.Printing.{by_page, by_image}
 use native.Mathlib.Omega.{arith}
-use borrow.Author.Rules.{rules}
 use Rattle.report.proofs.report.Goals as goal
 
 pub returns-then-page-ne16384 : goal.returns-then-page-ne16384

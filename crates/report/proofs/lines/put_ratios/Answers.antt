@@ -1,7 +1,6 @@
 -- `put_ratios` meets its contract: three lines, one behind the other, of products that fit. Assumes nothing.
 use Prim.Native.Nat.{ℕ}
 use native.Mathlib.Omega.{arith}
-use borrow.Author.Rules.{rules}
 use lib.IntN.{pos}
 use mir.Syntax.{w64}
 use Rattle.whole.proofs.Machine.{fit, fits_le}

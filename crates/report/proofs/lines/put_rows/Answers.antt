@@ -1,17 +1,15 @@
 -- `put_rows` meets its contract. The loop's invariant: the lines of the classes passed are put. Assumes nothing.
 use mathlib.Core.Path.{refl}
-use Prim.Native.Nat.{suc, ◌+◌, ◌*◌, ◌-◌, ◌≤◌, ◌<◌}
+use Prim.Native.Nat.{suc, ◌+◌, ◌*◌, ◌<◌}
 use native.Mathlib.Omega.{arith}
 use borrow.Author.Rules.{sfits_of}
-use lib.ListN.{length, get_or, take}
+use lib.ListN.{length, get_or}
 use lib.IntN.{pos}
 use mir.Syntax.{w64}
 use mir.ValLaws.{to_z-of_z}
-use Rattle.whole.specs.Table.{each}
-use Rattle.whole.proofs.Machine.{nat, fits_le}
+use Rattle.whole.proofs.Machine.{nat}
 use Rattle.coefficients.specs.FloatReport.{no_pair}
-use Rattle.report.specs.Steps.{Put, row_line}
-use Rattle.report.specs.Text.{numbered}
+use Rattle.report.specs.Steps.{row_line}
 use Rattle.report.proofs.Puts.{put_length, put_as, put_each_none, put_numbered_next, put_numbered_all}
 use Rattle.report.proofs.LineLaws.{there, row_text}
 use Rattle.report.proofs.lines.put_rows.Goals as goal

@@ -1,5 +1,4 @@
 -- `put_sums` meets its contract: two lines, one behind the other. Assumes nothing.
-use borrow.Author.Rules.{rules}
 use Rattle.report.proofs.Puts.{put_as, put_then}
 use Rattle.report.proofs.LineLaws.{read, sum_text}
 use Rattle.report.proofs.lines.put_sums.Goals as goal

@@ -1,9 +1,7 @@
 -- `put_table` meets its contract. The loop's invariant: the lines of the rows passed are put. Assumes nothing.
-use Prim.Native.Nat.{◌*◌, ◌-◌, ◌≤◌}
 use native.Mathlib.Omega.{arith}
-use lib.ListN.{take}
 use Rattle.whole.specs.Table.{each}
-use Rattle.report.specs.Steps.{Put, table_line}
+use Rattle.report.specs.Steps.{table_line}
 use Rattle.report.specs.Text.{numbered}
 use Rattle.report.proofs.Puts.{put_length, put_each_none, put_numbered_next, put_numbered_all}
 use Rattle.report.proofs.lines.put_table.Goals as goal

@@ -1,10 +1,8 @@
 use Prim.Native.Nat.{◌*◌, ◌-◌, ◌≤◌}
-use native.Mathlib.Omega.{arith}
 use lib.ListN.{take}
 use Rattle.whole.specs.Table.{each}
 use Rattle.report.specs.Steps.{Put, table_line}
 use Rattle.report.specs.Text.{numbered}
-use Rattle.report.proofs.Puts.{put_length, put_each_none, put_numbered_next, put_numbered_all}
 use Rattle.report.proofs.lines.put_table.Given as goal
 
 abbrev pub invariant-loop-r : goal.invariant-loop-r

@@ -1,16 +1,14 @@
 -- `put_zones` meets its contract. The loop's invariant: the lines of the zones passed are put. Assumes nothing.
 use mathlib.Core.Path.{refl}
-use Prim.Native.Nat.{ℕ, ◌*◌, ◌-◌, ◌≤◌, ◌<◌}
+use Prim.Native.Nat.{ℕ, ◌<◌}
 use native.Mathlib.Omega.{arith}
 use borrow.Author.Rules.{sfits_of}
-use lib.ListN.{length, get_or, take}
+use lib.ListN.{length, get_or}
 use lib.IntN.{pos}
 use mir.Syntax.{w64}
-use mir.Val.{to_z}
 use mir.ValLaws.{to_z-of_z}
-use Rattle.whole.specs.Table.{each}
 use Rattle.whole.proofs.Machine.{nat, fits_le}
-use Rattle.report.specs.Steps.{Put, zone_line}
+use Rattle.report.specs.Steps.{zone_line}
 use Rattle.report.proofs.Puts.{put_length, put_as, put_each_none, put_each_next, put_each_all}
 use Rattle.report.proofs.LineLaws.{zone_text}
 use Rattle.report.proofs.lines.put_zones.Goals as goal

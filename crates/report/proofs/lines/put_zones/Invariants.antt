@@ -1,17 +1,7 @@
-use mathlib.Core.Path.{refl}
-use Prim.Native.Nat.{ℕ, ◌*◌, ◌-◌, ◌≤◌, ◌<◌}
-use native.Mathlib.Omega.{arith}
-use borrow.Author.Rules.{sfits_of}
-use lib.ListN.{length, get_or, take}
-use lib.IntN.{pos}
-use mir.Syntax.{w64}
-use mir.Val.{to_z}
-use mir.ValLaws.{to_z-of_z}
+use Prim.Native.Nat.{◌*◌, ◌-◌, ◌≤◌}
+use lib.ListN.{length, take}
 use Rattle.whole.specs.Table.{each}
-use Rattle.whole.proofs.Machine.{nat, fits_le}
 use Rattle.report.specs.Steps.{Put, zone_line}
-use Rattle.report.proofs.Puts.{put_length, put_as, put_each_none, put_each_next, put_each_all}
-use Rattle.report.proofs.LineLaws.{zone_text}
 use Rattle.report.proofs.lines.put_zones.Given as goal
 
 abbrev pub invariant-loop-i : goal.invariant-loop-i

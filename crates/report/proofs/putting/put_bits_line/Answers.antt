@@ -1,7 +1,6 @@
 -- `put_bits_line` meets its contract: the bits and the line feed stand behind the start. Assumes nothing.
 use mathlib.Core.List.{[], ◌∷◌}
 use native.Mathlib.Omega.{arith}
-use borrow.Author.Rules.{rules}
 use Rattle.pages.specs.Lines.{numbers, bits}
 use Rattle.pages.proofs.Widths.{bits_width}
 use Rattle.report.specs.Steps.{Put}

@@ -2,7 +2,6 @@
 use mathlib.Core.Path.{sym, ap, subst}
 use native.Mathlib.Nat as N
 use native.Mathlib.Omega.{arith}
-use borrow.Author.Rules.{rules}
 use Rattle.pages.proofs.Widths.{bits_width}
 use Rattle.report.specs.Lines.{coefficient}
 use Rattle.coefficients.specs.Steps.{Readable}

@@ -1,6 +1,5 @@
 -- `put_end` meets its contract: there is room for the line feed. Assumes nothing.
 use native.Mathlib.Omega.{arith}
-use borrow.Author.Rules.{rules}
 use Rattle.report.proofs.Puts.{put_of}
 use Rattle.report.proofs.putting.put_end.Goals as goal
 

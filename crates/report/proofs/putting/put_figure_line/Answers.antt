@@ -1,7 +1,6 @@
 -- `put_figure_line` meets its contract: the figure and the line feed stand behind the start. Assumes nothing.
 use mathlib.Core.List.{[], ◌∷◌}
 use native.Mathlib.Omega.{arith}
-use borrow.Author.Rules.{rules}
 use Rattle.pages.specs.Lines.{numbers}
 use Rattle.report.specs.Lines.{coefficient}
 use Rattle.report.proofs.Puts.{put_most, put_as, put_then, line_parts}

@@ -1,5 +1,4 @@
 -- `put_start` meets its contract: there is room for all that is put. Assumes nothing.
-use borrow.Author.Rules.{rules}
 use Rattle.report.proofs.Puts.{put_of, start_width}
 use Rattle.report.proofs.putting.put_start.Goals as goal
 
