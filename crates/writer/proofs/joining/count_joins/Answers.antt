@@ -1,9 +1,7 @@
 -- `count_joins` meets its contract. The loop's invariant: the joins so far are those of the weights passed. Assumes nothing.
-use mathlib.Core.Path.{◌≡◌, sym, ◌∙◌}
-use Prim.Native.Nat.{ℕ, ◌-◌, ◌≤◌}
+use mathlib.Core.Path.{sym, ◌∙◌}
 use native.Mathlib.Omega.{arith}
-use lib.ListN.{length}
-use Rattle.writer.proofs.Joins.{joins_before, none_counted, next_counted, all_counted}
+use Rattle.writer.proofs.Joins.{none_counted, next_counted, all_counted}
 use Rattle.writer.proofs.joining.count_joins.Goals as goal
 
 pub loop-p-init : goal.loop-p-init

@@ -1,8 +1,7 @@
-use mathlib.Core.Path.{◌≡◌, sym, ◌∙◌}
+use mathlib.Core.Path.{◌≡◌}
 use Prim.Native.Nat.{ℕ, ◌-◌, ◌≤◌}
-use native.Mathlib.Omega.{arith}
 use lib.ListN.{length}
-use Rattle.writer.proofs.Joins.{joins_before, none_counted, next_counted, all_counted}
+use Rattle.writer.proofs.Joins.{joins_before}
 use Rattle.writer.proofs.joining.count_joins.Given as goal
 
 abbrev pub invariant-loop-p : goal.invariant-loop-p

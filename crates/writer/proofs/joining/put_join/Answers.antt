@@ -3,7 +3,6 @@ use mathlib.Core.Path.{◌≡◌, refl, sym, ap, ◌∙◌}
 use mathlib.Core.List.{List, [], ◌∷◌}
 use Prim.Native.Nat.{ℕ, zero, suc, ◌+◌}
 use native.Mathlib.Omega.{arith}
-use borrow.Author.Rules.{rules}
 use lib.ListN.{length, set, length-set}
 use lib.Seq.{sets}
 use Rattle.writer.specs.Steps.{bytes_of}
@@ -31,7 +30,8 @@ bytes c = let a = c.args in join_put a.from a.to a.weight c.if-weight-eq0.false
 pub returns-then-weight-eq0 : goal.returns-then-weight-eq0
 returns-then-weight-eq0 c =
     let a = c.args in
-    let e = none_put a.from a.to a.weight c.if-weight-eq0.true in record { value = omega (arith, ap length e); out_after = sym (ap (sets a.out.now a.at) e) }
+    let e = none_put a.from a.to a.weight c.if-weight-eq0.true in
+    record { value = omega (arith, ap length e); out_after = sym (ap (sets a.out.now a.at) e) }
 
 pub bounds-out-at : goal.bounds-out-at
 bounds-out-at c = omega (arith, ap length (bytes c))
@@ -45,4 +45,7 @@ bounds-out-at-3 c = simp length-set (omega (arith, ap length (bytes c)))
 pub returns : goal.returns
 returns c =
     let a = c.args in
-    let e = bytes c in record { value = omega (arith, ap length e); out_after = three_put a.out.now a.at a.from a.to a.weight ∙ sym (ap (sets a.out.now a.at) e) }
+    let e = bytes c in record {
+      value = omega (arith, ap length e);
+      out_after = three_put a.out.now a.at a.from a.to a.weight ∙ sym (ap (sets a.out.now a.at) e);
+    }

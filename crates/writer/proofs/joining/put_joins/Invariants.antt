@@ -1,11 +1,8 @@
-use mathlib.Core.Path.{◌≡◌, ap}
-use mathlib.Core.Logic.{⊎_elim}
-use Prim.Native.Nat.{ℕ, ◌+◌, ◌*◌, ◌-◌, ◌≤◌, ◌<◌}
-use native.Mathlib.Omega.{arith}
-use lib.ListN.{length, get_or, length-append}
-use Rattle.writer.specs.Steps.{bytes_of}
-use Rattle.whole.proofs.Stores.{Stored, stored_length, stored_none, stored_next, stored_all}
-use Rattle.writer.proofs.Joins.{bytes_before, none_put, next_put, all_put, before_within, place_small, next_row, next_column}
+use mathlib.Core.Path.{◌≡◌}
+use Prim.Native.Nat.{◌+◌, ◌*◌, ◌-◌, ◌≤◌, ◌<◌}
+use lib.ListN.{length}
+use Rattle.whole.proofs.Stores.{Stored}
+use Rattle.writer.proofs.Joins.{bytes_before}
 use Rattle.writer.proofs.joining.put_joins.Given as goal
 
 abbrev pub invariant-loop-p : goal.invariant-loop-p

@@ -4,7 +4,6 @@ use mathlib.Core.Bool.{Bool}
 use mathlib.Core.List.{List, ◌∷◌}
 use Prim.Native.Nat.{ℕ, ◌≤◌}
 use native.Mathlib.Omega.{arith}
-use borrow.Author.Rules.{rules}
 use lib.ListN.{take}
 use lib.Seq.{length-take-le}
 use Rattle.whole.specs.Rules.{Rule, first_broken}
@@ -15,12 +14,9 @@ use Rattle.image.proofs.Then.{then_kept}
 use Rattle.image.proofs.Accepted.{at_most_all}
 use Rattle.writer.proofs.Counts.{bad_count, by_items}
 use Rattle.writer.proofs.judging.judge_categories.Goals as goal
-use Rattle.writer.proofs.judging.judge_categories.Goals.{After-judge_none_or_all-count, Else-count-ne0, Start}
+use Rattle.writer.proofs.judging.judge_categories.Goals.{Start, Else-count-ne0}
 
-module _ (c : After-judge_none_or_all-count) where
-  abbrev s : Start
-  s = ((goal.at.After-judge_none_or_all-count c).Start)
-
+module _ (s : Start) where
   abbrev part_only : Bool
   part_only = (none_or_all_rule s.args.n s.args.k).0
 
@@ -28,35 +24,35 @@ module _ (c : After-judge_none_or_all-count) where
   items = category_rules (take s.args.k s.args.categories.now)
 
 module _ (c : Else-count-ne0) where
-  abbrev b : After-judge_none_or_all-count
-  b = ((goal.at.Else-count-ne0 c).After-judge_none_or_all-count)
+  abbrev s : Start
+  s = (goal.at.Else-count-ne0 c).Start
 
-  few : (s b).args.k ≤ (s b).args.n
+  few : c.args.k ≤ c.args.n
   few =
-      at_most_all (s b).args.n (s b).args.k
-      (unbroken (part_only b) 14 b.judge_none_or_all-count.result b.judge_none_or_all-count.ensures c.if-count-ne0.false)
+      at_most_all c.args.n c.args.k
+      (unbroken (part_only s) 14 c.judge_none_or_all-count.result c.judge_none_or_all-count.ensures c.if-count-ne0.false)
 
-  decided : (r : ℕ) → r ≡ first_broken (items b) → r ≡ then (s b).args.before ((part_only b, 15) ∷ items b)
+  decided : (r : ℕ) → r ≡ first_broken (items s) → r ≡ then c.args.before ((part_only s, 15) ∷ items s)
   decided r e =
-      by_items (s b).args.before b.if-before-ne0.false (part_only b) 14 (items b) b.judge_none_or_all-count.result
-      b.judge_none_or_all-count.ensures c.if-count-ne0.false r e
+      by_items c.args.before c.if-before-ne0.false (part_only s) 14 (items s) c.judge_none_or_all-count.result
+      c.judge_none_or_all-count.ensures c.if-count-ne0.false r e
 
 pub returns-then-before-ne0 : goal.returns-then-before-ne0
 returns-then-before-ne0 c = sym (then_kept c.args.before _ c.if-before-ne0.true)
 
 pub returns-then-count-ne0 : goal.returns-then-count-ne0
 returns-then-count-ne0 c =
-    let b = c in
-    bad_count (s ((goal.at.returns-then-count-ne0 c).After-judge_none_or_all-count)).args.before b.if-before-ne0.false (part_only ((goal.at.returns-then-count-ne0 c).After-judge_none_or_all-count)) 14 (items ((goal.at.returns-then-count-ne0 c).After-judge_none_or_all-count)) b.judge_none_or_all-count.result
-    b.judge_none_or_all-count.ensures c.if-count-ne0.true
+    let s = (goal.at.returns-then-count-ne0 c).Start in
+    bad_count c.args.before c.if-before-ne0.false (part_only s) 14 (items s) c.judge_none_or_all-count.result
+    c.judge_none_or_all-count.ensures c.if-count-ne0.true
 
 pub slice_bounds-any_above-end : goal.slice_bounds-any_above-end
 slice_bounds-any_above-end c =
-    let b = c in
-    sym (length-take-le b.args.k b.args.categories.now (omega (arith, few c)))
+    sym (length-take-le c.args.k c.args.categories.now (omega (arith, few ((goal.at.slice_bounds-any_above-end c).Else-count-ne0))))
 
 pub returns-then-any_above : goal.returns-then-any_above
-returns-then-any_above c = decided ((goal.at.returns-then-any_above c).Else-count-ne0) 8 (rw (sym c.any_above.ensures ∙ c.if-any_above.true))
+returns-then-any_above c =
+    decided ((goal.at.returns-then-any_above c).Else-count-ne0) 8 (rw (sym c.any_above.ensures ∙ c.if-any_above.true))
 
 pub returns : goal.returns
 returns c = decided ((goal.at.returns c).Else-count-ne0) 0 (rw (sym c.any_above.ensures ∙ c.if-any_above.false))

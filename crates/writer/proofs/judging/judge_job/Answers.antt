@@ -1,7 +1,6 @@
 -- `judge_job` meets its contract: each judge is told the number so far, and the lists are as long as each asks. Assumes nothing.
 use mathlib.Core.Path.{◌≡◌, sym, ap, ◌∙◌}
 use native.Mathlib.Omega.{arith}
-use borrow.Author.Rules.{rules}
 use Rattle.whole.specs.Rules.{first_broken}
 use Rattle.whole.proofs.Lists.{few}
 use Rattle.account.specs.Refusals.{sum_rules}
@@ -15,7 +14,7 @@ use Rattle.image.proofs.Buffers.{Exact, exact}
 use Rattle.image.proofs.Parts.{parts_numbered}
 use Rattle.writer.proofs.Parts.{values_there, weights_there, parts_judged, summable}
 use Rattle.writer.proofs.judging.judge_job.Goals as goal
-use Rattle.writer.proofs.judging.judge_job.Goals.{After-judge_shuffles-s, After-judge_weights-w, Start}
+use Rattle.writer.proofs.judging.judge_job.Goals.{After-judge_shuffles-s, Start}
 
 -- what is known at the start
 module _ (s : Start) where
@@ -33,74 +32,84 @@ module _ (s : Start) where
   lengths : Exact lent
   lengths = exact lent s.requires.fits
 
--- the start, from the places after it
-abbrev after_weights : After-judge_weights-w → Start
-after_weights c = ((goal.at.After-judge_weights-w c).Start)
-
-abbrev after_shuffles : After-judge_shuffles-s → Start
-after_shuffles c = after_weights ((goal.at.After-judge_shuffles-s c).After-judge_weights-w)
-
 -- the number after the parts
 judged :
-    (c : After-judge_shuffles-s) → let s = after_shuffles c in c.judge_shuffles-s.result ≡ first_broken (part_rules (given s) (job s))
+    (c : After-judge_shuffles-s) → let s = (goal.at.After-judge_shuffles-s c).Start in
+    c.judge_shuffles-s.result ≡ first_broken (part_rules (given s) (job s))
 unfolding lent_job
 judged c =
-    let b = c in
-    let p = c in
-    let w = c in
-    let k = c in
-    let v = c in
-    let s = after_shuffles c in
-    parts_judged (given s) (job s) v.judge_values-v.result k.judge_categories-c.result w.judge_weights-w.result
-    p.judge_places-p.result b.judge_bands-b.result c.judge_shuffles-s.result
-    v.judge_values-v.ensures k.judge_categories-c.ensures w.judge_weights-w.ensures
-    p.judge_places-p.ensures b.judge_bands-b.ensures c.judge_shuffles-s.ensures
+    let s = (goal.at.After-judge_shuffles-s c).Start in
+    parts_judged (given s) (job s) c.judge_values-v.result c.judge_categories-c.result c.judge_weights-w.result
+    c.judge_places-p.result c.judge_bands-b.result c.judge_shuffles-s.result
+    c.judge_values-v.ensures c.judge_categories-c.ensures c.judge_weights-w.ensures
+    c.judge_places-p.ensures c.judge_bands-b.ensures c.judge_shuffles-s.ensures
 
 pub overflow_mul-pairs : goal.overflow_mul-pairs
-overflow_mul-pairs c = let s = c in omega (arith, few (given ((goal.at.overflow_mul-pairs c).Start)).values s.requires.zones)
+overflow_mul-pairs c = omega (arith, few c.args.given.values c.requires.zones)
 
 pub slice_bounds-judge_values-end : goal.slice_bounds-judge_values-end
-slice_bounds-judge_values-end c = let s = c in sym (values_there (given ((goal.at.slice_bounds-judge_values-end c).Start)) (lent ((goal.at.slice_bounds-judge_values-end c).Start)) s.requires)
+slice_bounds-judge_values-end c =
+    let s = (goal.at.slice_bounds-judge_values-end c).Start in
+    sym (values_there (given s) (lent s) c.requires)
 
 pub judge_categories-c-requires : goal.judge_categories-c-requires
-judge_categories-c-requires c = let s = c in record { n_bound = s.requires.zones; categories_len = (lengths ((goal.at.judge_categories-c-requires c).Start)).categories }
+judge_categories-c-requires c =
+    let s = (goal.at.judge_categories-c-requires c).Start in
+    record { n_bound = c.requires.zones; categories_len = (lengths s).categories }
 
 pub slice_bounds-judge_weights-end : goal.slice_bounds-judge_weights-end
 slice_bounds-judge_weights-end c =
-    let s = c in
-    sym (weights_there (given ((goal.at.slice_bounds-judge_weights-end c).Start)) (lent ((goal.at.slice_bounds-judge_weights-end c).Start)) s.requires)
+    let s = (goal.at.slice_bounds-judge_weights-end c).Start in
+    sym (weights_there (given s) (lent s) c.requires)
 
 pub judge_weights-w-requires : goal.judge_weights-w-requires
-judge_weights-w-requires c = let s = c in record { le_n = s.requires.two; n_bound = s.requires.zones; weights_len = weights_there (given ((goal.at.judge_weights-w-requires c).Start)) (lent ((goal.at.judge_weights-w-requires c).Start)) s.requires }
+judge_weights-w-requires c =
+    let s = (goal.at.judge_weights-w-requires c).Start in record {
+      le_n = c.requires.two;
+      n_bound = c.requires.zones;
+      weights_len = weights_there (given s) (lent s) c.requires;
+    }
 
 pub judge_places-p-requires : goal.judge_places-p-requires
-judge_places-p-requires c = let s = after_weights c in record { n_bound = s.requires.zones; places_len = (lengths s).places }
+judge_places-p-requires c =
+    let s = (goal.at.judge_places-p-requires c).Start in
+    record { n_bound = c.requires.zones; places_len = (lengths s).places }
 
 pub judge_bands-b-requires : goal.judge_bands-b-requires
-judge_bands-b-requires c = (lengths (after_weights ((goal.at.judge_bands-b-requires c).After-judge_weights-w))).bands
+judge_bands-b-requires c = (lengths ((goal.at.judge_bands-b-requires c).Start)).bands
 
 pub judge_shuffles-s-requires : goal.judge_shuffles-s-requires
-judge_shuffles-s-requires c = let s = after_weights ((goal.at.judge_shuffles-s-requires c).After-judge_weights-w) in record { le_n = s.requires.two; n_bound = s.requires.zones; shuffles_len = (lengths s).shuffles }
+judge_shuffles-s-requires c =
+    let s = (goal.at.judge_shuffles-s-requires c).Start in
+    record { le_n = c.requires.two; n_bound = c.requires.zones; shuffles_len = (lengths s).shuffles }
 
 pub slice_bounds-judge_sums-end : goal.slice_bounds-judge_sums-end
-slice_bounds-judge_sums-end c = let s = after_shuffles c in sym (values_there (given s) (lent s) s.requires)
+slice_bounds-judge_sums-end c =
+    let s = (goal.at.slice_bounds-judge_sums-end c).Start in
+    sym (values_there (given s) (lent s) c.requires)
 
 pub slice_bounds-judge_sums-end-2 : goal.slice_bounds-judge_sums-end-2
-slice_bounds-judge_sums-end-2 c = let s = after_shuffles c in sym (weights_there (given s) (lent s) s.requires)
+slice_bounds-judge_sums-end-2 c =
+    let s = (goal.at.slice_bounds-judge_sums-end-2 c).Start in
+    sym (weights_there (given s) (lent s) c.requires)
 
 pub judge_sums-requires : goal.judge_sums-requires
 unfolding lent_job
 judge_sums-requires c =
-    let b = c in
-    let s = after_shuffles c in
-    let values = values_there (given s) (lent s) s.requires in
-    let weights = weights_there (given s) (lent s) s.requires in record { le_n = s.requires.two; n_bound = s.requires.zones; values_len = values; weights_len = weights; summable = λ e. summable (given s) (job s) weights (sym (judged c) ∙ e) }
+    let s = (goal.at.judge_sums-requires c).Start in
+    let b = (goal.at.judge_sums-requires c).After-judge_shuffles-s in
+    let weights = weights_there (given s) (lent s) c.requires in record {
+      le_n = c.requires.two;
+      n_bound = c.requires.zones;
+      values_len = values_there (given s) (lent s) c.requires;
+      weights_len = weights;
+      summable = λ e. summable (given s) (job s) weights (sym (judged b) ∙ e);
+    }
 
 pub returns : goal.returns
 unfolding lent_job
 returns c =
-    let b = c in
-    let s = after_shuffles ((goal.at.returns c).After-judge_shuffles-s) in
+    let s = (goal.at.returns c).Start in
     let sums = sum_rules (given s).values (job s).values (job s).weights in
     c.judge_sums.ensures
     ∙ ap (λ k. then k sums) (judged ((goal.at.returns c).After-judge_shuffles-s))

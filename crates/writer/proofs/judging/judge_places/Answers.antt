@@ -4,7 +4,6 @@ use mathlib.Core.Bool.{Bool}
 use mathlib.Core.List.{List}
 use Prim.Native.Nat.{◌*◌, ◌≤◌}
 use native.Mathlib.Omega.{arith}
-use borrow.Author.Rules.{rules}
 use lib.ListN.{take}
 use lib.Seq.{length-take-le}
 use Rattle.whole.specs.Rules.{Rule}
@@ -15,44 +14,40 @@ use Rattle.image.proofs.Then.{then_kept}
 use Rattle.image.proofs.Accepted.{at_most_all}
 use Rattle.writer.proofs.Counts.{bad_count, by_items}
 use Rattle.writer.proofs.judging.judge_places.Goals as goal
-use Rattle.writer.proofs.judging.judge_places.Goals.{After-judge_none_or_all-count, Else-count-ne0, Start}
+use Rattle.writer.proofs.judging.judge_places.Goals.{Else-count-ne0, Start}
 
-module _ (c : After-judge_none_or_all-count) where
-  abbrev s : Start
-  s = ((goal.at.After-judge_none_or_all-count c).Start)
-
+module _ (s : Start) where
   abbrev part_only : Bool
   part_only = (none_or_all_rule s.args.n s.args.k).0
 
   abbrev items : List Rule
   items = places_in_turn (take (2 * s.args.k) s.args.places.now)
 
-few : (c : Else-count-ne0) → let s = c in s.args.k ≤ s.args.n
+few : (c : Else-count-ne0) → c.args.k ≤ c.args.n
 few c =
-    let b = c in
-    at_most_all (((goal.at.Else-count-ne0 c).Start) ((goal.at.Else-count-ne0 c).After-judge_none_or_all-count)).args.n (((goal.at.Else-count-ne0 c).Start) ((goal.at.Else-count-ne0 c).After-judge_none_or_all-count)).args.k
-    (unbroken (part_only ((goal.at.Else-count-ne0 c).After-judge_none_or_all-count)) 14 b.judge_none_or_all-count.result b.judge_none_or_all-count.ensures c.if-count-ne0.false)
+    let s = (goal.at.Else-count-ne0 c).Start in
+    at_most_all c.args.n c.args.k
+    (unbroken (part_only s) 14 c.judge_none_or_all-count.result c.judge_none_or_all-count.ensures c.if-count-ne0.false)
 
 pub returns-then-before-ne0 : goal.returns-then-before-ne0
 returns-then-before-ne0 c = sym (then_kept c.args.before _ c.if-before-ne0.true)
 
 pub returns-then-count-ne0 : goal.returns-then-count-ne0
 returns-then-count-ne0 c =
-    let b = c in
-    bad_count (s ((goal.at.returns-then-count-ne0 c).After-judge_none_or_all-count)).args.before b.if-before-ne0.false (part_only ((goal.at.returns-then-count-ne0 c).After-judge_none_or_all-count)) 14 (items ((goal.at.returns-then-count-ne0 c).After-judge_none_or_all-count)) b.judge_none_or_all-count.result
-    b.judge_none_or_all-count.ensures c.if-count-ne0.true
+    let s = (goal.at.returns-then-count-ne0 c).Start in
+    bad_count c.args.before c.if-before-ne0.false (part_only s) 14 (items s) c.judge_none_or_all-count.result
+    c.judge_none_or_all-count.ensures c.if-count-ne0.true
 
 pub overflow_mul-coordinates : goal.overflow_mul-coordinates
 overflow_mul-coordinates c = omega (arith, few c)
 
 pub slice_bounds-judge_in_turn-end : goal.slice_bounds-judge_in_turn-end
 slice_bounds-judge_in_turn-end c =
-    let a = (s ((goal.at.slice_bounds-judge_in_turn-end c).After-judge_none_or_all-count)).args in
-    sym (length-take-le (2 * a.k) a.places.now (omega (arith, few c)))
+    let a = c.args in
+    sym (length-take-le (2 * a.k) a.places.now (omega (arith, few ((goal.at.slice_bounds-judge_in_turn-end c).Else-count-ne0))))
 
 pub returns : goal.returns
 returns c =
-    let e = c in
-    let b = c in
-    by_items (s ((goal.at.returns c).After-judge_none_or_all-count)).args.before b.if-before-ne0.false (part_only ((goal.at.returns c).After-judge_none_or_all-count)) 14 (items ((goal.at.returns c).After-judge_none_or_all-count)) b.judge_none_or_all-count.result
-    b.judge_none_or_all-count.ensures e.if-count-ne0.false c.judge_in_turn.result c.judge_in_turn.ensures
+    let s = (goal.at.returns c).Start in
+    by_items c.args.before c.if-before-ne0.false (part_only s) 14 (items s) c.judge_none_or_all-count.result
+    c.judge_none_or_all-count.ensures c.if-count-ne0.false c.judge_in_turn.result c.judge_in_turn.ensures

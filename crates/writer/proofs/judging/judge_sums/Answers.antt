@@ -1,6 +1,5 @@
 -- `judge_sums` meets its contract: the number so far; where 1 to 5 hold the account judges 6 and 7 alone. Assumes nothing.
 use mathlib.Core.Path.{sym, ◌∙◌}
-use borrow.Author.Rules.{rules}
 use Rattle.image.proofs.Then.{then_kept, then_rules}
 use Rattle.image.proofs.Weights.{sums_decide}
 use Rattle.writer.proofs.judging.judge_sums.Goals as goal
@@ -10,9 +9,8 @@ returns-then-before-ne0 c = sym (then_kept c.args.before _ c.if-before-ne0.true)
 
 pub returns : goal.returns
 returns c =
-    let s = c in
-    let a = s.args in
-    let p = s.requires in
+    let a = c.args in
+    let p = c.requires in
     let none = c.if-before-ne0.false in
     let sound = p.summable none in
     c.judge.ensures

@@ -1,6 +1,5 @@
 -- `judge_values` meets its contract: it is the search for a value beyond 100,000. Assumes nothing.
 use mathlib.Core.Path.{sym, ◌∙◌}
-use borrow.Author.Rules.{rules}
 use Rattle.writer.proofs.judging.judge_values.Goals as goal
 
 pub returns-then-any_beyond : goal.returns-then-any_beyond

@@ -1,7 +1,6 @@
 -- `judge_weights` meets its contract: the number so far, then that of the weights, which break no rule where neither search finds one.
 -- Assumes nothing.
 use mathlib.Core.Path.{sym, ◌∙◌}
-use borrow.Author.Rules.{rules}
 use Rattle.image.proofs.BytesBack.{weights_sound}
 use Rattle.image.proofs.Then.{then_kept, then_rules}
 use Rattle.writer.proofs.judging.judge_weights.Goals as goal
@@ -11,19 +10,14 @@ returns-then-before-ne0 c = sym (then_kept c.args.before _ c.if-before-ne0.true)
 
 pub returns-then-any_above : goal.returns-then-any_above
 returns-then-any_above c =
-    let b = c in
-    c.judge_weights.ensures ∙ sym (then_rules b.args.before _ b.if-before-ne0.false)
+    c.judge_weights.ensures ∙ sym (then_rules c.args.before _ c.if-before-ne0.false)
 
 pub returns-then-any_on_diagonal : goal.returns-then-any_on_diagonal
 returns-then-any_on_diagonal c =
-    let b = c in
-    c.judge_weights-then-any_on_diagonal.ensures ∙ sym (then_rules b.args.before _ b.if-before-ne0.false)
+    c.judge_weights-then-any_on_diagonal.ensures ∙ sym (then_rules c.args.before _ c.if-before-ne0.false)
 
 pub returns : goal.returns
 returns c =
-    let light = c in
-    let b = c in
-    let s = c in
-    sym (weights_sound s.args.n s.args.weights.now s.requires.weights_len (sym light.any_above.ensures ∙ light.if-any_above.false)
-    (sym c.any_on_diagonal.ensures ∙ c.if-any_on_diagonal.false))
-    ∙ sym (then_rules s.args.before _ b.if-before-ne0.false)
+    let light = sym c.any_above.ensures ∙ c.if-any_above.false in
+    let clear = sym c.any_on_diagonal.ensures ∙ c.if-any_on_diagonal.false in
+    sym (weights_sound c.args.n c.args.weights.now c.requires.weights_len light clear) ∙ sym (then_rules c.args.before _ c.if-before-ne0.false)

@@ -1,7 +1,6 @@
 -- `put_count` meets its contract: its two stores are those of the count's two bytes. Assumes nothing.
 use native.Mathlib.Numerals.{add-one}
 use native.Mathlib.Omega.{arith}
-use borrow.Author.Rules.{rules}
 use lib.ListN.{length-set}
 use Rattle.writer.proofs.putting.put_count.Goals as goal
 

@@ -1,18 +1,18 @@
 -- `put_signed` meets its contract. The loop's invariant: the bytes of the numbers passed are stored from `at` on. Assumes nothing.
 use mathlib.Core.Path.{◌≡◌, refl, ap, ◌∙◌}
-use Prim.Native.Nat.{◌+◌, ◌*◌, ◌-◌, ◌≤◌}
+use Prim.Native.Nat.{◌+◌, ◌*◌}
 use native.Mathlib.Omega.{arith}
-use borrow.Author.Rules.{sfits_of}
+use borrow.Author.Rules.{rules}
 use lib.IntN.{pos}
-use lib.ListN.{length, get_or, take}
+use lib.ListN.{get_or}
 use lib.Seq.{sets}
 use mir.Syntax.{w32}
-use mir.Val.{of_z}
+use mir.Val.{SFits, of_z}
 use mir.ValLaws.{to_z-of_z}
 use Rattle.whole.specs.Table.{each}
 use Rattle.words.specs.Words.{word_bytes}
 use Rattle.image.specs.Image.{signed_bytes}
-use Rattle.whole.proofs.Stores.{Stored, stored_length, stored_none, stored_all, front_all, each_none, item_next}
+use Rattle.whole.proofs.Stores.{stored_length, stored_none, stored_all, front_all, each_none, item_next}
 use Rattle.writer.proofs.putting.put_signed.Goals as goal
 
 pub loop-i-init : goal.loop-i-init
@@ -44,13 +44,12 @@ loop-i-smaller c = omega arith
 
 pub loop-i-preserved : goal.loop-i-preserved
 loop-i-preserved c =
-    let b = c in
-    let l = b.loop-i in
-    let a = b.args in
+    let l = c.loop-i in
+    let a = c.args in
     let number = get_or a.numbers.now l.i (pos 0) in
-    let bits : b.bits_of.result ≡ of_z w32 number =
-    b.bits_of.ensures ∙ ap (of_z w32) (to_z-of_z w32 number (sfits_of b.bits_of-arg-1.given)) in
-    let word = b.put_word.ensures ∙ ap (λ u. sets l.out (a.at + 4 * l.i) (word_bytes u)) bits in
+    let near : SFits w32 number = search rules in
+    let bits : c.bits_of.result ≡ of_z w32 number = c.bits_of.ensures ∙ ap (of_z w32) (to_z-of_z w32 number near) in
+    let word = c.put_word.ensures ∙ ap (λ u. sets l.out (a.at + 4 * l.i) (word_bytes u)) bits in
     (omega arith, item_next signed_bytes 4 (λ x. refl) a.numbers.now l.i (pos 0) (omega arith) l.invariant.1 word)
 
 pub shape_of-out : goal.shape_of-out

@@ -1,11 +1,9 @@
 -- `put_words` meets its contract. The loop's invariant: the bytes of the numbers passed are stored from `at` on. Assumes nothing.
 use mathlib.Core.Path.{refl, ap}
-use Prim.Native.Nat.{◌-◌, ◌≤◌}
 use native.Mathlib.Omega.{arith}
-use lib.ListN.{length, take}
 use Rattle.whole.specs.Table.{each}
 use Rattle.words.specs.Words.{word_bytes}
-use Rattle.whole.proofs.Stores.{Stored, stored_length, stored_none, stored_all, front_all, each_none, item_next}
+use Rattle.whole.proofs.Stores.{stored_length, stored_none, stored_all, front_all, each_none, item_next}
 use Rattle.writer.proofs.putting.put_words.Goals as goal
 
 pub loop-i-init : goal.loop-i-init
@@ -34,10 +32,9 @@ loop-i-smaller c = omega arith
 
 pub loop-i-preserved : goal.loop-i-preserved
 loop-i-preserved c =
-    let b = c in
-    let l = b.loop-i in
-    let numbers = b.args.numbers.now in
-    (omega arith, item_next word_bytes 4 (λ u. refl) numbers l.i 0 (omega arith) l.invariant.1 b.put_word.ensures)
+    let l = c.loop-i in
+    let numbers = c.args.numbers.now in
+    (omega arith, item_next word_bytes 4 (λ u. refl) numbers l.i 0 (omega arith) l.invariant.1 c.put_word.ensures)
 
 pub shape_of-out : goal.shape_of-out
 shape_of-out c = stored_length c.loop-i.invariant.1

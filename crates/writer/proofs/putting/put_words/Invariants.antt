@@ -1,10 +1,8 @@
-use mathlib.Core.Path.{refl, ap}
 use Prim.Native.Nat.{◌-◌, ◌≤◌}
-use native.Mathlib.Omega.{arith}
 use lib.ListN.{length, take}
 use Rattle.whole.specs.Table.{each}
 use Rattle.words.specs.Words.{word_bytes}
-use Rattle.whole.proofs.Stores.{Stored, stored_length, stored_none, stored_all, front_all, each_none, item_next}
+use Rattle.whole.proofs.Stores.{Stored}
 use Rattle.writer.proofs.putting.put_words.Given as goal
 
 abbrev pub invariant-loop-i : goal.invariant-loop-i

@@ -1,7 +1,6 @@
 -- `put_joins_section` meets its contract: the count is stored, and behind it the joins' bytes, three each. Assumes nothing.
 use mathlib.Core.Path.{refl}
 use native.Mathlib.Omega.{arith}
-use borrow.Author.Rules.{rules}
 use Rattle.whole.proofs.Lists.{few}
 use Rattle.whole.specs.Table.{each}
 use Rattle.image.specs.Joins.{joins_of}
@@ -13,20 +12,19 @@ use Rattle.writer.proofs.storing.put_joins_section.Goals as goal
 
 pub put_count-requires : goal.put_count-requires
 put_count-requires c =
-    let b = c in
-    let n = b.args.n in
-    let some = joins_few n b.args.weights.now in
-    let pairs = few n b.requires.tabled.zones in record { at_in_bounds = omega arith; k_bound = omega arith }
+    let n = c.args.n in
+    let some = joins_few n c.args.weights.now in
+    let pairs = few n c.requires.tabled.zones in record { at_in_bounds = omega arith; k_bound = omega arith }
 
 pub put_joins-requires : goal.put_joins-requires
 put_joins-requires c =
-    let b = c in
-    let joins = joins_of b.args.n b.args.weights.now in record { tabled = b.requires.tabled; weights_in_bounds = omega (arith, each_length join_bytes 3 (λ join. refl) joins) }
+    let joins = joins_of c.args.n c.args.weights.now in record {
+      tabled = c.requires.tabled;
+      weights_in_bounds = omega (arith, each_length join_bytes 3 (λ join. refl) joins);
+    }
 
 pub returns : goal.returns
 returns c =
-    let b = c in
-    let first = c in
-    let a = first.args in
+    let a = c.args in
     section_put a.out.now a.at a.k (each join_bytes (joins_of a.n a.weights.now))
-    first.put_count.ensures b.put_joins.ensures
+    c.put_count.ensures c.put_joins.ensures
