@@ -1,7 +1,7 @@
 /*
  * The district clustering account, for C and C++.
  *
- * What this is: the calls of the proved library, as the archive libexports.a has them (`rt staticlib exports`). Each call is proved, in
+ * What this is: the calls of the proved library, as the archive libexports.a has them (`rt lib` in crates/exports). Each call is proved, in
  * crates/exports/src, to answer and to store what the definitions of document 01 say, as request A.6 of document 02 changed them. This
  * header and what follows from a promise broken by the caller are not part of the proof.
  *

@@ -1,8 +1,9 @@
 #!/usr/bin/env python3
-"""Whether each wrong program was refused because its own fact fails: the logs of `rt ci` or `rt must-fail` against tools/false_facts.txt.
+"""Whether each wrong program is refused because its own fact fails: the logs that tools/edit_logs.py makes against tools/false_facts.txt.
 
-    false_facts.py              reads the table, the edits of crates/*/must-fail and the logs of target/must-fail
-    false_facts.py --self-test  spoils a table, an edit and a log in turn, and wants each to be found
+    false_facts.py FOLDER            reads the table, the edits of crates/*/must-fail and their logs FOLDER/CRATE/EDIT.log
+    false_facts.py FOLDER CRATE ..   what there is of these crates alone
+    false_facts.py --self-test       spoils a table, an edit and a log in turn, and wants each to be found
 
 `rt` asks of an edit that the prover refuses its crate, so that one wrong program could hide behind another of the same edit. Here each is
 asked for by itself: the place that the table names must have an error of its own there, about the fact that the table names, and not one
@@ -20,14 +21,16 @@ ROOT = pathlib.Path(__file__).resolve().parent.parent
 ENOUGH = 2  # so many wrong programs a public function must have
 
 FIELDS = ['edit', 'program', 'contract', 'place', 'fact', 'told']
-ERROR = re.compile(r'^\S*?/must-fail/[^/]+/[^/]+/(\S+?):\d+:\d+: error: (?:`([^`]+)`: )?(.*)$')
-UNCLOSED = re.compile(r'^fn \S+: no proof: expected \S+ in \S*?/must-fail/[^/]+/[^/]+/(\S+?); `search` does not close (.*)$')
+ERROR = re.compile(r'^(?:\./)?(\S+?):\d+:\d+: error: (?:`([^`]+)`: )?(.*)$')
+UNPROVED = re.compile(r'^note: (src/\S+\.rt):(\d+):\d+: it is not proved that .*\(`([^`]+)`\)')
 PUBLIC = re.compile(r'^\s*pub (?:extern "C" )?fn (\w+)', re.M)
 NAMED = re.compile(r'^# (\w+)', re.M)
 
+FUNCTION = re.compile(r'^\s*(?:pub(?:\(\w+\))? )?(?:extern "C" )?fn (\w+)')
+
 # what an error may not say: it follows from another one, or the proof no longer fits the code
-FOLLOWS = 'was not admitted'
-MISFITS = ('has no `', 'expected type `tie.Need-', 'is not in scope')
+FOLLOWS = re.compile(r'^\d+ declarations? that depends? on ')
+MISFITS = ('has no `', 'has no field', 'is not in scope')
 
 
 @dataclass(frozen=True)
@@ -72,19 +75,28 @@ def public_of(root):
 
 def place_of(path):
     """A file of a log's error as the table names it."""
-    return re.sub(r'^proofs/|/Proof\.antt$|\.antt$', '', path)
+    return re.sub(r'^proofs/|/(?:Answers|Invariants|Proof)\.antt$|\.antt$', '', path)
 
 
-def errors_of(log):
-    """The errors of a log by place and fact: what each says. An error that follows from another is left out. Of a function that needs no
-    proof file the log names the facts that are left."""
+def function_at(crate, path, line):
+    """The function with this line of a file of src/, by its place under proofs/. An edit moves no line."""
+    lines = (crate / path).read_text().splitlines()
+    at = next((k for k in range(line - 1, len(lines)) if not lines[k].lstrip().startswith('#[')), len(lines) - 1)
+    names = [name[1] for name in map(FUNCTION.match, lines[:at + 1]) if name]
+    module = re.sub(r'^src/|\.rt$', '', path)
+    return '/'.join(([] if module in ('lib', 'main') else [module]) + names[-1:])
+
+
+def errors_of(log, crate):
+    """The errors of a log by place and fact: what each says. An error that follows from another is left out. A fact that no file answers, and
+    that the prover does not find by itself, is told by its place in the code."""
     found = collections.defaultdict(list)
     for line in log.splitlines():
-        error, unclosed = ERROR.match(line), UNCLOSED.match(line)
-        if error and FOLLOWS not in error[3]:
+        error, unproved = ERROR.match(line), UNPROVED.match(line)
+        if error and not FOLLOWS.match(error[3]):
             found[place_of(error[1]), error[2] or '-'].append(error[3])
-        for fact in re.findall('`([^`]+)`', unclosed[2]) if unclosed else ():
-            found[place_of(unclosed[1]), fact].append('`search` does not close it')
+        if unproved:
+            found[function_at(crate, unproved[1], int(unproved[2])), unproved[3]].append('it is not proved')
     return found
 
 
@@ -108,13 +120,14 @@ def wrong_table(rows, edits):
 
 def wrong_row(row, errors):
     """What is amiss with a row, by the errors of its log."""
-    said = errors.get((row.place, row.fact))
     name = f'{row.edit}: {row.program}'
-    if not said:
+    misfits = [text for (place, _), texts in errors.items() if place == row.place for text in texts if misfit_of(text)]
+    if misfits:
+        return [f'{name}: the proof in {row.place} does not fit the code, which shows nothing: {misfits[0][:120]}']
+    if not errors.get((row.place, row.fact)):
         facts = sorted(fact for place, fact in errors if place == row.place)
         return [f'{name}: no error of its own in {row.place} about {row.fact}' + (f', only about {facts}' if facts else '')]
-    misfits = [text for (place, _), texts in errors.items() if place == row.place for text in texts if misfit_of(text)]
-    return [f'{name}: the proof in {row.place} does not fit the code, which shows nothing: {misfits[0][:120]}'] if misfits else []
+    return []
 
 
 def misfit_of(text):
@@ -141,21 +154,15 @@ def unexplained(edit, rows, errors):
     return [f'{edit}: an error in {place} about {fact}, which the table does not name' for place, fact in errors if place not in named]
 
 
-def log_of(root, edit):
-    """The log of an edit; none where it was not tried."""
-    path = root / 'target' / 'must-fail' / edit / '.log'
-    return path.read_text() if path.exists() else None
-
-
-def faults_of(root, rows, edits, public):
+def faults_of(root, logs, rows, edits, public):
     """All that is amiss, and how many errors were read."""
     faults, read = [*wrong_table(rows, edits), *wrong_contracts(rows, public)], 0
     for edit in edits:
-        log = log_of(root, edit)
-        if log is None:
+        log = logs / f'{edit}.log'
+        if not log.exists():
             faults.append(f'{edit} was not tried: it has no log')
             continue
-        errors = errors_of(log)
+        errors = errors_of(log.read_text(), root / 'crates' / edit.split('/')[0])
         faults += [fault for row in rows if row.edit == edit for fault in wrong_row(row, errors)]
         faults += unexplained(edit, rows, errors) if of_programs(root, edit) else []
         read += sum(map(len, errors.values()))
@@ -168,11 +175,15 @@ def of_programs(root, edit):
     return 'file: specs/' not in (root / 'crates' / crate / 'must-fail' / f'{name}.edit').read_text()
 
 
-def check(root):
+def check(root, logs, crates):
     """Ends the run with what is amiss, or says what was read."""
     rows = rows_of((root / 'tools' / 'false_facts.txt').read_text())
     edits, public = edits_of(root), public_of(root)
-    faults, read = faults_of(root, rows, edits, public)
+    if crates:
+        rows = [row for row in rows if row.edit.split('/')[0] in crates]
+        edits = {edit: programs for edit, programs in edits.items() if edit.split('/')[0] in crates}
+        public = {name for name in public if name.split('::')[0] in crates}
+    faults, read = faults_of(root, logs, rows, edits, public)
     for fault in faults:
         print(f'false_facts: {fault}')
     if faults:
@@ -186,24 +197,32 @@ def check(root):
 
 EDIT = '# first: of the account\nfile: src/lib.rt\nold: a\nnew: b\n# second\nold: c\nnew: d\n# bare: has no proof file\nold: e\nnew: f\n'
 TABLE = ('account/programs_1 | first | account::account | account | good | x\n'
-         'account/programs_1 | second | account::account | rank | good | y\n'
-         'account/programs_1 | bare | - | spread | returns | z\n')
-ERRORS = [('account', 'good', '`omega`: the goal does not follow'), ('account', 'spec', '`good` was not admitted'),
-          ('rank', 'good', 'the types differ')]
-EDITED = 'x/must-fail/account/programs_1/proofs'
-LOG = (''.join(f'{EDITED}/{place}/Proof.antt:7:1: error: `{fact}`: {said}\n' for place, fact, said in ERRORS) +
-       f'fn account::spread: no proof: expected `spread-spec` in {EDITED}/spread/Proof.antt; `search` does not close `returns`\n')
+         'account/programs_1 | second | account::account | judging/rank | good | y\n'
+         'account/programs_1 | bare | - | judging/spread | returns | z\n')
+CODE = 'fn rank(n: usize)\n{\n}\n\n#[inline]\npub(super) fn spread(n: usize)\n{\n}\n'
+LOG = ('checked account::account, 1 of 3\n'
+       './proofs/account/Answers.antt:7:1: error: `good`: `omega`: the goal does not follow\n  (expected)\n'
+       './proofs/account/Answers.antt:9:1: error: 2 declarations that depend on `good`, which was rejected, were not checked: fit, returns\n'
+       './proofs/judging/rank/Answers.antt:7:1: error: `good`: the types differ\n'
+       './proofs/judging/rank/Answers.antt:6:1: note: the two sides may simply be different (in `good`)\n'
+       'note: src/judging.rt:5:1: it is not proved that what the function ensures holds when it returns (`returns`); `search` gave up\n'
+       'fn account::judging::rank: not proved\n'
+       'fn account::judging::spread: no proof: expected answers in ./proofs/judging/spread/Answers.antt; `search` did not prove `returns`\n'
+       'fn account::account: not proved; it calls `account::judging::rank`, which is not proved\n')
 SPOILED = [  # what is spoiled, what is put for what, and what must be found
     ('table', '| second |', '| third |', 'has the wrong programs'),
-    ('table', 'rank | good', 'account | good', 'so that none has an error of its own'),
-    ('table', 'account::account | rank', 'account::rank | rank', 'wrong programs, and 2'),
-    ('table', 'rank | good', 'rank | returns', 'no error of its own in rank'),
-    ('log', 'rank/Proof', 'tally/Proof', 'no error of its own in rank'),
-    ('log', 'rank/Proof', 'tally/Proof', 'an error in tally'),
-    ('log', 'the types differ', '`tie` has no `Need-add`', 'shows nothing'),
-    ('log', '`spec`: `good` was not admitted', '`spec`: expected type `tie.Need-add-2`', 'shows nothing'),
-    ('log', 'the types differ', '`fit` was not admitted', 'no error of its own in rank'),
-    ('log', 'not close `returns`', 'not close `fit`', 'no error of its own in spread'),
+    ('table', 'judging/rank | good', 'account | good', 'so that none has an error of its own'),
+    ('table', 'account::account | judging', 'account::rank | judging', 'wrong programs, and 2'),
+    ('table', 'rank | good', 'rank | returns', 'no error of its own in judging/rank'),
+    ('log', 'judging/rank/Answers', 'judging/tally/Answers', 'no error of its own in judging/rank'),
+    ('log', 'judging/rank/Answers', 'judging/tally/Answers', 'an error in judging/tally'),
+    ('log', 'judging/rank/Answers', 'Tally', 'an error in Tally'),
+    ('log', 'the types differ', '`goal.good`: module `Goals` has no `good` that can be named from here', 'shows nothing'),
+    ('log', 'the types differ', 'record `Lts.Else` has no field `if-n-lt2`', 'shows nothing'),
+    ('log', '`good`: the types differ', '1 declaration that depends on `fit`, which was not admitted, was not checked: good',
+     'no error of its own in judging/rank'),
+    ('log', '(`returns`); `search`', '(`fit`); `search`', 'no error of its own in judging/spread'),
+    ('log', 'judging.rt:5', 'judging.rt:3', 'no error of its own in judging/spread'),
     ('edit', '# second', '# other', 'has the wrong programs'),
 ]
 
@@ -216,14 +235,15 @@ def faults_in(files):
             (root / name).parent.mkdir(parents=True, exist_ok=True)
             (root / name).write_text(text)
         rows = rows_of(files['tools/false_facts.txt'])
-        return faults_of(root, rows, edits_of(root), public_of(root))[0]
+        return faults_of(root, root / 'logs', rows, edits_of(root), public_of(root))[0]
 
 
 def house(**spoiled):
     """The files of the made-up house, some of them spoiled."""
     parts = {'table': TABLE, 'edit': EDIT, 'log': LOG} | spoiled
     return {'tools/false_facts.txt': parts['table'], 'crates/account/must-fail/programs_1.edit': parts['edit'],
-            'target/must-fail/account/programs_1/.log': parts['log'], 'crates/account/src/lib.rt': 'pub fn account(n: usize)\n'}
+            'logs/account/programs_1.log': parts['log'], 'crates/account/src/lib.rt': 'pub fn account(n: usize)\n',
+            'crates/account/src/judging.rt': CODE}
 
 
 def self_test():
@@ -244,7 +264,7 @@ def self_test():
 if __name__ == '__main__':
     if sys.argv[1:] == ['--self-test']:
         self_test()
-    elif len(sys.argv) == 1:
-        check(ROOT)
+    elif len(sys.argv) > 1 and not sys.argv[1].startswith('-'):
+        check(ROOT, pathlib.Path(sys.argv[1]), sys.argv[2:])
     else:
         sys.exit(__doc__)

@@ -1,7 +1,7 @@
 /*
  * Damaged inputs for every call, to be run under valgrind:
  *
- *   gcc -O2 -g -std=c99 -I include bindings/c/damaged.c target/staticlib/libexports.a -o damaged
+ *   gcc -O2 -g -std=c99 -I include bindings/c/damaged.c crates/exports/out/libexports.a -o damaged
  *   valgrind --error-exitcode=1 --leak-check=full --track-origins=yes ./damaged
  *
  * A thousand inputs of each call, most of them damaged. Each list lies in a heap block of exactly the lent length, made for that one

@@ -1,7 +1,7 @@
 /*
  * An example for an office: the worked job of document 01, through every kind of call. Its last zone touches nobody and is left out.
  *
- *   gcc -O2 -std=c99 -I include bindings/c/example.c target/staticlib/libexports.a -o example && ./example
+ *   gcc -O2 -std=c99 -I include bindings/c/example.c crates/exports/out/libexports.a -o example && ./example
  *
  * What it prints is kept in example.stdout; bindings/rust/examples/worked.rs prints the same.
  */

@@ -1,7 +1,7 @@
 /*
  * Measures the stack that calls take, on a painted stack of a thread of its own:
  *
- *   gcc -O2 -std=c99 -pthread -I include bindings/c/stack.c target/staticlib/libexports.a -o stack && ./stack samples/island.image
+ *   gcc -O2 -std=c99 -pthread -I include bindings/c/stack.c crates/exports/out/libexports.a -o stack && ./stack samples/island.image
  *
  * The image should use everything: 64 zones, categories, places, bands, shuffles. Each call is made on its job, and again when the last
  * zone touches nobody and is left out. Ends with 1 where a call takes 256 KiB or more.

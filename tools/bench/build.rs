@@ -53,7 +53,7 @@ fn main() {
     let Some(before) = env::var_os("DCA_BEFORE_DIR").filter(|folder| !folder.is_empty()) else {
         return;
     };
-    let own = PathBuf::from(env::var("CARGO_MANIFEST_DIR").unwrap()).join("../../target/staticlib");
+    let own = PathBuf::from(env::var("CARGO_MANIFEST_DIR").unwrap()).join("../../crates/exports/out");
     let now = env::var_os("DCA_LIB_DIR").map_or(own, PathBuf::from);
     let out = PathBuf::from(env::var("OUT_DIR").unwrap());
     for placement in PLACEMENTS {

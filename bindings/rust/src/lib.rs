@@ -1,6 +1,6 @@
 //! The district clustering account for Rust: Moran's I, Geary's c and what goes with them, worked in whole numbers.
 //!
-//! These are safe functions over slices; they call the archive of the proved library (`rt staticlib exports`), whose promises are proved
+//! These are safe functions over slices; they call the archive of the proved library (`rt lib` in crates/exports), whose promises are proved
 //! in crates/exports/src. A call that breaks a rule is refused: its error is the number of the cause, and all lent memory is as it
 //! was, floats to the bit. No value and no length makes a call fail in any other way. The library allocates nothing and has no global
 //! state, and a call takes less than 256 KiB of stack.

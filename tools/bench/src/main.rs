@@ -5,7 +5,7 @@
 //! Prints four markdown tables: proved against independent, with the goals, how the proved calls' cost grows, and what they cost where
 //! zones are left out. With `--goals` it ends with status 1 where a ratio is above its goal by more than 0.15, since a machine is never
 //! quiet.
-//! DCA_LIB_DIR names the folder of the archive libexports.a, if it is not target/staticlib. DCA_BEFORE_DIR names the folder of an
+//! DCA_LIB_DIR names the folder of the archive libexports.a, if it is not crates/exports/out. DCA_BEFORE_DIR names the folder of an
 //! earlier libexports.a: then the calls are measured beside those of that archive instead, and one table is printed, now against before.
 //! Both are paths from the root. build.rs links the earlier archive under other names, so that the program is built anew for it.
 //! DCA_BEFORE_SUMS is how many sums dca_account of the earlier archive stores, if not 6; before request A.6 they were 5.

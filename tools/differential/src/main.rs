@@ -8,7 +8,7 @@
 //! zones left out, came too seldom or never; with status 2 where a stored case cannot be read.
 //! With `--broken` a wrong independent call is swapped in, with `--faulty` a faulty archive, and a difference must come; `--self-test`
 //! does so with each of them, and wants one from each among the drawn inputs.
-//! DCA_LIB_DIR names the folder of the archive libexports.a, if it is not target/staticlib.
+//! DCA_LIB_DIR names the folder of the archive libexports.a, if it is not crates/exports/out.
 
 mod compare;
 
