@@ -24,7 +24,7 @@ use Rattle.image.specs.Image.{Job, count, items, join_in, values_in, from_catego
 use Rattle.image.specs.Image.{from_places, places_in, from_bands, bands_in, from_shuffles, shuffles_in, rest, job_of, signed_bytes}
 use Rattle.image.specs.Image.{join_bytes, section_bytes, job_bytes}
 use Rattle.image.specs.RoundTrip.{given_in}
-use Rattle.image.proofs.Accepted.{Accepted, counted}
+use Rattle.image.proofs.Accepted.{Accepted}
 use Rattle.image.proofs.Called.{Within}
 use Rattle.image.proofs.ItemKinds.{Bytes, drop_bytes, listed_same}
 use Rattle.image.proofs.Items.{word_kind, signed_at, signed_kind, join_at, join_kind, bytes_front, section_same}

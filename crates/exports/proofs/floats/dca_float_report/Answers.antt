@@ -10,7 +10,6 @@ use Rattle.whole.proofs.Rules.{sizes_hold}
 use Rattle.exports.proofs.Numbers.{own, own_fits}
 use Rattle.exports.proofs.FloatAnswers.{report_by_sizes, report_by_pairs, report_by_having, report_by_refusal, report_by_pair}
 use Rattle.exports.proofs.FloatAnswers.{pair_readable, pairs_readable}
-use borrow.Author.Rules.{rules}
 use Rattle.exports.proofs.floats.dca_float_report.Goals as goal
 use Rattle.exports.proofs.floats.dca_float_report.Goals.{After-judge_sizes-sizes, After-plain_report-report, Else-has_pair-ne9, Else-sizes-ne0, In-Refused, In-Reported, Start}
 
@@ -85,7 +84,7 @@ put_pair-requires c =
       readable_pair = pair_readable a.n a.values.now a.weights.now a.classes.now a.globals.now a.locals.now a.pairs.now
           a.has_pair.now (fit ((goal.at.Else-has_pair-ne9 e).Else-sizes-ne0)) e.if-pairs-ne18.false e.if-has_pair-ne9.false _ _ refl
           (length-take-le _ _ (zones ((goal.at.Else-has_pair-ne9 e).Else-sizes-ne0)))
-          _ _ _ said.number said.whole said.pairs said.figures _ w.answer-in-Reported-1.given.1;
+          _ _ _ said.number said.whole said.pairs said.figures _ w.in-Reported.is;
     }
 
 pub put_pairs-requires : goal.put_pairs-requires
@@ -99,7 +98,7 @@ put_pairs-requires c =
       readable_pairs = pairs_readable a.n a.values.now a.weights.now a.classes.now a.globals.now a.locals.now a.pairs.now
           a.has_pair.now (fit ((goal.at.Else-has_pair-ne9 e).Else-sizes-ne0)) e.if-pairs-ne18.false e.if-has_pair-ne9.false _ _ refl
           (length-take-le _ _ (zones ((goal.at.Else-has_pair-ne9 e).Else-sizes-ne0)))
-          _ _ _ said.number said.whole said.pairs said.figures _ w.answer-in-Reported-1.given.1;
+          _ _ _ said.number said.whole said.pairs said.figures _ w.in-Reported.is;
     }
 
 pub returns-in-Refused : goal.returns-in-Refused
@@ -125,7 +124,7 @@ returns-in-Refused c =
     said.pairs
     said.figures
     _
-    w.answer.given.1 in record { number = all.0; globals = all.1.0; figures = all.1.1.0; pairs = all.1.1.1.0; having = all.1.1.1.1 }
+    c.in-Refused.is in record { number = all.0; globals = all.1.0; figures = all.1.1.0; pairs = all.1.1.1.0; having = all.1.1.1.1 }
 
 pub returns-in-Reported : goal.returns-in-Reported
 returns-in-Reported c =
@@ -153,7 +152,7 @@ returns-in-Reported c =
     said.pairs
     said.figures
     _
-    w.answer-in-Reported-1.given.1
+    c.in-Reported.is
     _
     _
     _

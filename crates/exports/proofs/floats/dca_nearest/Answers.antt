@@ -6,7 +6,6 @@ use mir.ValLaws.{to_z-of_z}
 use Rattle.whole.proofs.Machine.{r64}
 use Rattle.nearest.specs.Answers.{number_of, figures_of, nearest_refusal, nearest_figures}
 use Rattle.exports.proofs.FloatAnswers.{nearest_by_length, nearest_by_refusal, float_readable, nearest_by_float}
-use borrow.Author.Rules.{rules}
 use Rattle.exports.proofs.floats.dca_nearest.Goals as goal
 use Rattle.exports.proofs.floats.dca_nearest.Goals.{After-nearest, Start}
 
@@ -22,7 +21,7 @@ module _ (b : After-nearest) where
   q = s.args.q
 
   asked : {A : Type 0} (f : ℤ → ℤ → A) → f (r64 p) (r64 q) ≡ f p q
-  asked f = ap (λ v. f v (r64 q)) (to_z-of_z w64 p s.fits.p) ∙ ap (f p) (to_z-of_z w64 q s.fits.q)
+  asked f = ap (λ v. f v (r64 q)) (to_z-of_z w64 p s.ranges.p) ∙ ap (f p) (to_z-of_z w64 q s.ranges.q)
 
   number : number_of b.nearest.result ≡ nearest_refusal p q
   number = b.nearest.ensures.number ∙ asked nearest_refusal
@@ -37,16 +36,16 @@ pub float_to_bits-out : goal.float_to_bits-out
 float_to_bits-out c =
     let b = c in
     let a = b.args in
-    float_readable a.p a.q a.out.now b.if-out-ne1.false _ (number ((goal.at.float_to_bits-out c).After-nearest)) (figures ((goal.at.float_to_bits-out c).After-nearest)) _ c.x-1.given.1
+    float_readable a.p a.q a.out.now b.if-out-ne1.false _ (number ((goal.at.float_to_bits-out c).After-nearest)) (figures ((goal.at.float_to_bits-out c).After-nearest)) _ c.in-Rounded.is
 
 pub returns-in-Refused : goal.returns-in-Refused
 returns-in-Refused c =
     let b = c in
     let a = b.args in let all = nearest_by_refusal a.p a.q a.out.now b.if-out-ne1.false _ (number ((goal.at.returns-in-Refused c).After-nearest)) (figures ((goal.at.returns-in-Refused c).After-nearest)) _
-    c.number-1.given.1 in record { number = all.0; lent = all.1 }
+    c.in-Refused.is in record { number = all.0; lent = all.1 }
 
 pub returns-in-Rounded : goal.returns-in-Rounded
 returns-in-Rounded c =
     let b = c in
     let a = b.args in let all = nearest_by_float a.p a.q a.out.now b.if-out-ne1.false _ (number ((goal.at.returns-in-Rounded c).After-nearest)) (figures ((goal.at.returns-in-Rounded c).After-nearest)) _
-    c.x-1.given.1 in record { number = all.0; lent = all.1 }
+    c.in-Rounded.is in record { number = all.0; lent = all.1 }

@@ -1,7 +1,6 @@
 -- `dca_read` meets its contract: the list of counts is judged, then the reader judges and stores. Assumes nothing.
 use Rattle.image.specs.Reader.{buffers}
 use Rattle.exports.proofs.ImageAnswers.{read_by_length, read_by_refusal, read_by_counts}
-use borrow.Author.Rules.{rules}
 use Rattle.exports.proofs.images.dca_read.Goals as goal
 
 pub returns-then-counts-ne6 : goal.returns-then-counts-ne6
@@ -25,7 +24,7 @@ returns-in-Refused c =
     b.read.ensures.counts
     b.read.ensures.lent
     _
-    c.number-1.given.1 in record { number = all.0; lent = all.1.0; counts = all.1.1 }
+    c.in-Refused.is in record { number = all.0; lent = all.1.0; counts = all.1.1 }
 
 pub returns-in-Read : goal.returns-in-Read
 returns-in-Read c =
@@ -43,5 +42,5 @@ returns-in-Read c =
     b.read.ensures.lent
     _
     _
-    c.six-1.given.1
+    c.in-Read.is
     c.put_counts.ensures in record { number = all.0; lent = all.1.0; counts = all.1.1 }

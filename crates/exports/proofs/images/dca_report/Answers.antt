@@ -1,6 +1,5 @@
 -- `dca_report` meets its contract: the place of the length is judged, then the report judges the text's places and the image. Assumes nothing.
 use Rattle.exports.proofs.ImageAnswers.{report_by_place, report_by_refusal, report_by_length}
-use borrow.Author.Rules.{rules}
 use Rattle.exports.proofs.images.dca_report.Goals as goal
 
 pub returns-then-filled-ne1 : goal.returns-then-filled-ne1
@@ -13,7 +12,7 @@ returns-in-Refused c =
     let e = c in
     let a = e.args in
     let said = b.report.ensures in let all = report_by_refusal a.image.now a.text.now a.filled.now e.if-filled-ne1.false _ _ said.number said.length
-    said.page _ k.number.given.1 in record { number = all.0; text = all.1.0; filled = all.1.1 }
+    said.page _ c.in-Refused.is in record { number = all.0; text = all.1.0; filled = all.1.1 }
 
 pub returns-in-Printed : goal.returns-in-Printed
 returns-in-Printed c =
@@ -23,4 +22,4 @@ returns-in-Printed c =
     let e = c in
     let a = e.args in
     let said = b.report.ensures in let all = report_by_length a.image.now a.text.now a.filled.now e.if-filled-ne1.false _ _ said.number said.length
-    said.page _ _ k.bytes.given.1 p.put_length.ensures in record { number = all.0; text = all.1.0; filled = all.1.1 }
+    said.page _ _ c.in-Printed.is p.put_length.ensures in record { number = all.0; text = all.1.0; filled = all.1.1 }

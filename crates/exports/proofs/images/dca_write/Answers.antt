@@ -9,7 +9,6 @@ use Rattle.image.specs.Writer.{write_refusal, write_length, write_left}
 use Rattle.image.specs.declared.Given.{Given}
 use Rattle.exports.specs.Images.{given_by}
 use Rattle.exports.proofs.ImageAnswers.{write_by_counts, write_by_zones, write_by_place, write_by_refusal, write_by_length}
-use borrow.Author.Rules.{rules}
 use Rattle.exports.proofs.images.dca_write.Goals as goal
 use Rattle.exports.proofs.images.dca_write.Goals.{After-judge_zone_count-zones, Else-zones-ne0, Start}
 
@@ -90,7 +89,7 @@ returns-in-Refused c =
     (w.write.ensures.length ∙ given_told ((goal.at.returns-in-Refused c).After-judge_zone_count-zones) (λ g. write_length g (job_lists s) (length a.out.now)))
     (w.write.ensures.lent ∙ given_told ((goal.at.returns-in-Refused c).After-judge_zone_count-zones) (λ g. write_left g (job_lists s) a.out.now))
     _
-    c.number-1.given-given.1 in record { number = all.0; out = all.1.0; filled = all.1.1 }
+    c.in-Refused.is in record { number = all.0; out = all.1.0; filled = all.1.1 }
 
 pub returns-in-Written : goal.returns-in-Written
 returns-in-Written c =
@@ -112,5 +111,5 @@ returns-in-Written c =
     (w.write.ensures.lent ∙ given_told ((goal.at.returns-in-Written c).After-judge_zone_count-zones) (λ g. write_left g (job_lists s) a.out.now))
     _
     _
-    c.bytes-1.given-given.1
+    c.in-Written.is
     c.put_length.ensures in record { number = all.0; out = all.1.0; filled = all.1.1 }

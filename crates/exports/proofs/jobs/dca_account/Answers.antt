@@ -3,7 +3,6 @@ use mathlib.Core.Path.{◌≡◌, sym, ◌∙◌}
 use lib.ListN.{length}
 use Rattle.exports.proofs.Numbers.{own, own_fits}
 use Rattle.exports.proofs.JobAnswers.{account_by_sizes, account_by_refusal, account_by_sums, account_kept_few}
-use borrow.Author.Rules.{rules}
 use Rattle.exports.proofs.jobs.dca_account.Goals as goal
 use Rattle.exports.proofs.jobs.dca_account.Goals.{After-judge_sizes-sizes, Else-sizes-ne0, Start}
 
@@ -31,7 +30,7 @@ put_sums-requires c =
           b.account.ensures.figures
           b.account.ensures.lent
           _
-          c.figures-1.given.1;
+          c.in-Accounted.is;
       sums_len = own_fits a.n a.values.now a.weights.now (length a.sums.now) 6 (fit ((goal.at.put_sums-requires c).Else-sizes-ne0));
     }
 
@@ -43,7 +42,7 @@ returns-in-Refused c =
     b.account.ensures.figures
     b.account.ensures.lent
     _
-    c.number-1.given.1 in record { number = all.0; locals = all.1.0; sums = all.1.1 }
+    c.in-Refused.is in record { number = all.0; locals = all.1.0; sums = all.1.1 }
 
 pub returns-in-Accounted : goal.returns-in-Accounted
 returns-in-Accounted c =
@@ -54,5 +53,5 @@ returns-in-Accounted c =
     b.account.ensures.lent
     _
     _
-    c.figures-1.given.1
+    c.in-Accounted.is
     c.put_sums.ensures in record { number = all.0; locals = all.1.0; sums = all.1.1 }

@@ -1,13 +1,12 @@
 -- `dca_class_account` meets its contract: the sizes are judged with the rows, then the class account judges and works; the job's own local
 -- numerators go to a list that is not handed out. Assumes nothing.
-use mathlib.Core.Path.{◌≡◌, sym, ◌∙◌}
+use mathlib.Core.Path.{sym, ◌∙◌}
 use mathlib.Core.List.{List, [], ◌∷◌}
 use Prim.Native.Nat.{ℕ, ◌*◌, ◌≤◌}
 use lib.ListN.{length}
 use lib.Seq.{length-take-le}
 use Rattle.whole.proofs.Rules.{sizes_hold}
 use Rattle.exports.proofs.JobAnswers.{class_by_sizes, class_by_refusal, class_by_sums}
-use borrow.Author.Rules.{rules}
 use Rattle.exports.proofs.jobs.dca_class_account.Goals as goal
 use Rattle.exports.proofs.jobs.dca_class_account.Goals.{After-judge_sizes-sizes, Else-sizes-ne0, Start}
 
@@ -42,7 +41,7 @@ returns-in-Refused c =
     let e = c in
     let a = (start ((goal.at.returns-in-Refused c).After-judge_sizes-sizes)).args in
     let said = b.class_account.ensures in let all = class_by_refusal a.n a.values.now a.weights.now a.classes.now a.rows.now a.class_locals.now _
-    (length-take-le _ _ (zones ((goal.at.returns-in-Refused c).Else-sizes-ne0))) _ _ _ said.number said.figures said.rows said.numerators _ k.number.given.1 in record { number = all.0; rows = all.1.0; numerators = all.1.1 }
+    (length-take-le _ _ (zones ((goal.at.returns-in-Refused c).Else-sizes-ne0))) _ _ _ said.number said.figures said.rows said.numerators _ c.in-Refused.is in record { number = all.0; rows = all.1.0; numerators = all.1.1 }
 
 pub returns-in-Accounted : goal.returns-in-Accounted
 returns-in-Accounted c =
@@ -50,4 +49,4 @@ returns-in-Accounted c =
     let e = c in
     let a = (start ((goal.at.returns-in-Accounted c).After-judge_sizes-sizes)).args in
     let said = b.class_account.ensures in let all = class_by_sums a.n a.values.now a.weights.now a.classes.now a.rows.now a.class_locals.now _
-    (length-take-le _ _ (zones ((goal.at.returns-in-Accounted c).Else-sizes-ne0))) _ _ _ said.number said.figures said.rows said.numerators _ c.enum_told-1.given.1 in record { number = all.0; rows = all.1.0; numerators = all.1.1 }
+    (length-take-le _ _ (zones ((goal.at.returns-in-Accounted c).Else-sizes-ne0))) _ _ _ said.number said.figures said.rows said.numerators _ c.in-Accounted.is in record { number = all.0; rows = all.1.0; numerators = all.1.1 }

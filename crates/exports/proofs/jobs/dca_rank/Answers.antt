@@ -3,7 +3,6 @@ use mathlib.Core.Path.{◌≡◌, sym, ◌∙◌}
 use lib.ListN.{length}
 use Rattle.exports.proofs.Numbers.{own, own_fits}
 use Rattle.exports.proofs.JobAnswers.{rank_by_sizes, rank_by_refusal, rank_by_counts}
-use borrow.Author.Rules.{rules}
 use Rattle.exports.proofs.jobs.dca_rank.Goals as goal
 use Rattle.exports.proofs.jobs.dca_rank.Goals.{After-judge_sizes-sizes, Else-sizes-ne0, Start}
 
@@ -35,7 +34,7 @@ returns-in-Refused c =
     let a = (start ((goal.at.returns-in-Refused c).After-judge_sizes-sizes)).args in let all = rank_by_refusal a.n a.values.now a.weights.now a.shuffles.now a.counts.now (fit ((goal.at.returns-in-Refused c).Else-sizes-ne0)) _ b.rank.ensures.number
     b.rank.ensures.counts
     _
-    c.number-1.given.1 in record { number = all.0; lent = all.1 }
+    c.in-Refused.is in record { number = all.0; lent = all.1 }
 
 pub returns-in-Counted : goal.returns-in-Counted
 returns-in-Counted c =
@@ -45,5 +44,5 @@ returns-in-Counted c =
     b.rank.ensures.counts
     _
     _
-    c.three-1.given.1
+    c.in-Counted.is
     c.put_rank.ensures in record { number = all.0; lent = all.1 }

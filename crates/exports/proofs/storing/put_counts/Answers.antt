@@ -5,7 +5,6 @@ use native.Mathlib.Omega.{arith}
 use lib.Seq.{lt-length-sets}
 use Rattle.reader.specs.Answers.{six}
 use Rattle.exports.proofs.Puts.{all_set}
-use borrow.Author.Rules.{rules}
 use Rattle.exports.proofs.storing.put_counts.Goals as goal
 
 -- the list keeps its length from store to store

@@ -1,8 +1,7 @@
 -- `put_having` meets its contract. The loop's invariant: what is told of the classes passed is stored. Assumes nothing.
-use mathlib.Core.Path.{◌≡◌, sym, ap, ◌∙◌}
-use Prim.Native.Nat.{ℕ, ◌-◌, ◌≤◌, ◌<◌}
+use mathlib.Core.Path.{sym, ap, ◌∙◌}
 use native.Mathlib.Omega.{arith}
-use lib.ListN.{length, get_or, length-set}
+use lib.ListN.{get_or, length-set}
 use Rattle.whole.proofs.Table.{is_table, stored}
 use Rattle.coefficients.specs.FloatReport.{no_pair}
 use Rattle.coefficients.specs.declared.Pair.{Pair}
@@ -36,11 +35,11 @@ loop-k-preserved c =
     let l = c.loop-k in
     let s = c in
     let inside = c.loop-k-test.true in
-    let pair_is = there s.args.t2 l.k _ no_pair (omega (arith, inside, s.well_formed.1.0.1)) in (
+    let pair_is = there s.args.pairs l.k _ no_pair (omega (arith, inside, s.well_formed.1.0.1)) in (
       omega (arith, inside),
       (
         simp length-set l.invariant.1.0,
-        stored (λ i. tells (get_or s.args.t2 i no_pair).moran) 0 _ l.has l.k (omega (arith, inside, l.invariant.1.0))
+        stored (λ i. tells (get_or s.args.pairs i no_pair).moran) 0 _ l.has l.k (omega (arith, inside, l.invariant.1.0))
             (c.having.ensures ∙ ap (λ (pair : Pair). tells pair.moran) pair_is)
             l.invariant.1.1,
       ),

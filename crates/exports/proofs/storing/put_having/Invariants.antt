@@ -1,11 +1,7 @@
-use mathlib.Core.Path.{◌≡◌, sym, ap, ◌∙◌}
+use mathlib.Core.Path.{◌≡◌}
 use Prim.Native.Nat.{ℕ, ◌-◌, ◌≤◌, ◌<◌}
-use native.Mathlib.Omega.{arith}
-use lib.ListN.{length, get_or, length-set}
-use Rattle.whole.proofs.Table.{is_table, stored}
+use lib.ListN.{length, get_or}
 use Rattle.coefficients.specs.FloatReport.{no_pair}
-use Rattle.coefficients.specs.declared.Pair.{Pair}
-use Rattle.report.proofs.LineLaws.{there}
 use Rattle.exports.specs.Steps.{tells}
 use Rattle.exports.proofs.storing.put_having.Given as goal
 

@@ -2,7 +2,6 @@
 use mathlib.Core.Path.{sym}
 use mathlib.Core.List.{[], ◌∷◌}
 use Rattle.exports.proofs.Puts.{all_set}
-use borrow.Author.Rules.{rules}
 use Rattle.exports.proofs.storing.put_length.Goals as goal
 
 pub returns : goal.returns

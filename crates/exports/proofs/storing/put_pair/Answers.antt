@@ -2,7 +2,6 @@
 use mathlib.Core.Path.{ap, ◌∙◌}
 use Prim.Native.Nat.{◌+◌, ◌*◌}
 use Rattle.exports.specs.Steps.{put_figure}
-use borrow.Author.Rules.{rules}
 use Rattle.exports.proofs.storing.put_pair.Goals as goal
 
 pub returns : goal.returns

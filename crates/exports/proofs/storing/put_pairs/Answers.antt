@@ -1,6 +1,6 @@
 -- `put_pairs` meets its contract. The loop's invariant: the pairs passed are put, and the other places are as they were. Assumes nothing.
 use mathlib.Core.Path.{◌≡◌, sym, ap, ◌∙◌, subst}
-use Prim.Native.Nat.{◌+◌, ◌*◌, ◌-◌, ◌<◌}
+use Prim.Native.Nat.{◌+◌, ◌*◌, ◌<◌}
 use native.Mathlib.Omega.{arith}
 use lib.ListN.{length, get_or}
 use Rattle.coefficients.specs.FloatReport.{no_pair}
@@ -26,7 +26,7 @@ put_pair-requires c =
     let l = t.loop-k in
     let s = c in
     let inside = t.loop-k-test.true in
-    let here : l.k < length s.args.t2 = omega (arith, inside, s.well_formed.1.0.1) in record { k_bound = inside; k_in_bounds = omega (arith, inside, l.invariant.count); readable_pair = subst ReadablePair (sym (there s.args.t2 l.k _ no_pair here)) (s.requires.readable_pairs l.k here) }
+    let here : l.k < length s.args.pairs = omega (arith, inside, s.well_formed.1.0.1) in record { k_bound = inside; k_in_bounds = omega (arith, inside, l.invariant.count); readable_pair = subst ReadablePair (sym (there s.args.pairs l.k _ no_pair here)) (s.requires.readable_pairs l.k here) }
 
 pub overflow_add-k : goal.overflow_add-k
 overflow_add-k c = omega (arith, c.loop-k-test.true)
@@ -39,8 +39,8 @@ loop-k-preserved c =
     let t = c in
     let l = t.loop-k in
     let s = c in
-    let pair = there s.args.t2 l.k _ no_pair (omega (arith, t.loop-k-test.true, s.well_formed.1.0.1)) in
-    subst (λ v. PutSoFar 9 (λ i. get_or s.args.t2 i no_pair) s.args.figures.now v (l.k + 1))
+    let pair = there s.args.pairs l.k _ no_pair (omega (arith, t.loop-k-test.true, s.well_formed.1.0.1)) in
+    subst (λ v. PutSoFar 9 (λ i. get_or s.args.pairs i no_pair) s.args.figures.now v (l.k + 1))
     (sym
     (c.put_pair.ensures
     ∙ ap (λ (p : Pair). put_figure (put_figure l.figures (l.k * 2) p.moran) (l.k * 2 + 1) p.geary) pair))

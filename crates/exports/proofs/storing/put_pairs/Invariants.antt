@@ -1,13 +1,7 @@
-use mathlib.Core.Path.{◌≡◌, sym, ap, ◌∙◌, subst}
-use Prim.Native.Nat.{◌+◌, ◌*◌, ◌-◌, ◌<◌}
-use native.Mathlib.Omega.{arith}
-use lib.ListN.{length, get_or}
+use Prim.Native.Nat.{◌-◌}
+use lib.ListN.{get_or}
 use Rattle.coefficients.specs.FloatReport.{no_pair}
-use Rattle.coefficients.specs.Steps.{ReadablePair}
-use Rattle.coefficients.specs.declared.Pair.{Pair}
-use Rattle.report.proofs.LineLaws.{there}
-use Rattle.exports.specs.Steps.{put_figure}
-use Rattle.exports.proofs.PairList.{PutSoFar, none_put, one_put, all_put}
+use Rattle.exports.proofs.PairList.{PutSoFar}
 use Rattle.exports.proofs.storing.put_pairs.Given as goal
 
 abbrev pub invariant-loop-k : goal.invariant-loop-k

@@ -2,7 +2,6 @@
 use mathlib.Core.Path.{sym}
 use Rattle.account.specs.Rank.{three}
 use Rattle.exports.proofs.Puts.{all_set}
-use borrow.Author.Rules.{rules}
 use Rattle.exports.proofs.storing.put_rank.Goals as goal
 
 -- src/storing.rt:39:1

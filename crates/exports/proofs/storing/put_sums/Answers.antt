@@ -9,7 +9,6 @@ use mir.Syntax.{w64}
 use mir.ValLaws.{to_z-of_z}
 use Rattle.whole.proofs.Machine.{nat}
 use Rattle.exports.proofs.Puts.{all_set}
-use borrow.Author.Rules.{rules}
 use Rattle.exports.proofs.storing.put_sums.Goals as goal
 
 -- the numbers as the machine holds them are the numbers
