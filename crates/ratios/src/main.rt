@@ -5,7 +5,7 @@
 // of its own.
 #![tactic(auto)]
 
-ghost use Rattle.std.specs.Prelude.{◌<◌};
+ghost use Rattle.std.specs.Prelude.{◌≡◌, ◌<◌, ◌≤◌, length, take, IfOk, IfSome};
 
 use nearest::Answer;
 use std::io;
@@ -44,8 +44,29 @@ fn print_answer(rt: &impl Print, p: i64, q: i64) -> io::Result<()> {
 
 // ---- the input
 
-// How many bytes are read at most: 4,096 ratios.
-const MOST: u64 = 65536;
+// Room for 4,096 ratios; what lies behind them is not read. Only its length is promised, so that it stays small in proofs.
+fn input_room() -> [u8; 65536]
+    ensures { 65536 ≡ length result }
+{
+    [0; 65536]
+}
+
+// Reads until the room is full or the input ends, whatever the sizes of the single reads, and answers how many bytes were read.
+fn read_full<R: Read>(reader: &mut R, room: &mut [u8]) -> io::Result<usize>
+    ensures upper_bound { IfOk result (λ end. end ≤ length room.new) }
+    ensures bytes { IfOk result (λ end. IfSome (R.remaining reader.old)
+        (λ bytes. take end room.new ≡ take (length room.old) bytes)) }
+{
+    let mut end: usize = 0;
+    while end < room.len() {
+        let more = reader.read(&mut room[end..])?;
+        if more == 0 {
+            return Ok(end);
+        }
+        end += more;
+    }
+    Ok(end)
+}
 
 fn number_at(s: &[u8], at: usize) -> i64 {
     words::signed_long(words::long_at(s, at))
@@ -61,7 +82,7 @@ fn run(rt: &impl Print, s: &[u8]) -> io::Result<()> {
 }
 
 fn main(rt: HostRuntime) -> io::Result<()> {
-    let mut input = Vec::new(rt.alloc());
-    rt.stdin().take(MOST).read_to_end(&mut input)?;
-    run(&rt, &input)
+    let mut input = input_room();
+    let end = read_full(&mut rt.stdin(), &mut input)?;
+    run(&rt, &input[..end])
 }
