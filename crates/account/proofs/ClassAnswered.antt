@@ -22,9 +22,9 @@ module _ (n : ℕ) (values : List ℤ) (weights classes : List ℕ) (rows of_cla
   class_refused k e =
       let same : k ≡ class_refusal n values weights classes rows of_classes own = sym (ap number_of e) ∙ number in
       let never : k ≡ 0 → ⊥ = λ z.
-      let six-none : ◌≡◌ {A = ℕ} 0 6 =
+      let six_none : ◌≡◌ {A = ℕ} 0 6 =
       ap length (sym (ap figures_of e) ∙ figures ∙ worked_when_taken _ _ _ (sym same ∙ z)) in
-      omega (arith, six-none) in
+      omega (arith, six_none) in
       (same, never)
 
   -- sums are those of the job, and nothing is refused

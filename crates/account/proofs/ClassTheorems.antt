@@ -109,14 +109,14 @@ module _ (n : ℕ) (values : List ℤ) (weights classes : List ℕ) (lent : List
   class_sizes k =
       let good = (classed n values weights classes lent taken).good in
       let job = good.job in
-      let weights-kept = w n values weights classes in
-      let classes-kept = c n values weights classes in
+      let weights_kept = w n values weights classes in
+      let classes_kept = c n values weights classes in
       let many = m n values weights classes in
-      let of-kept = kept_job n values weights job.valued.zones job.valued.near.size (weight_le weights n job.weighted) in
-      within_sizes (class_weight weights-kept classes-kept many k) (at (x n values weights classes)) many of-kept.valued.zones
-      (λ i j p q. class_le weights-kept classes-kept many k i j 9 (weight_le weights-kept many of-kept.weighted i j p q))
-      (λ i p. let h = class_le weights-kept classes-kept many k i i 0 (N.le_of_eq (kept_clear n values weights good.clear i p)) in omega arith)
-      of-kept.valued.near.size
+      let of_kept = kept_job n values weights job.valued.zones job.valued.near.size (weight_le weights n job.weighted) in
+      within_sizes (class_weight weights_kept classes_kept many k) (at (x n values weights classes)) many of_kept.valued.zones
+      (λ i j p q. class_le weights_kept classes_kept many k i j 9 (weight_le weights_kept many of_kept.weighted i j p q))
+      (λ i p. let h = class_le weights_kept classes_kept many k i i 0 (N.le_of_eq (kept_clear n values weights good.clear i p)) in omega arith)
+      of_kept.valued.near.size
 
   pub class_limits :
       (k : ℕ) →

@@ -120,11 +120,11 @@ module _ (n : ℕ) (values : List ℤ) (weights : List ℕ) where
     sums_are =
         let kept = kept_zones n weights in
         let many = kept_count n weights in
-        let six-is = six_by_count n values weights good.light good.clear in
+        let six_is = six_by_count n values weights good.light good.clear in
         ap (λ (k : List ℕ). judged (eqb (length k) 0) (gathered values k) (length k)) e
         ∙ ap (λ k. judged (eqb k 0) (gathered values kept) k) (zones_length n weights)
         ∙ ap (λ list. judged (eqb many 0) list many) (values_gathered n weights values)
-        ∙ ap (λ six. judged six (kept_values n weights values) many) (sym six-is)
+        ∙ ap (λ six. judged six (kept_values n weights values) many) (sym six_is)
 
     pub by_sums :
         first_broken (list_rules n values weights) ≡ 0 → (r : ℕ) →

@@ -149,8 +149,8 @@ module _ (n : ℕ) (values : List ℤ) (weights : List ℕ) where
 
   pub two_kept : Weighted weights n → any_on_diagonal n weights ≡ false → is_zero (weight_of (pair_at weights n) n) ≡ false → 2 ≤ m
   unfolding any_above
-  two_kept good clear some-weight =
-      let found = not-false (any_above 0 weights) (sym (weightless weights n good) ∙ some-weight) in
+  two_kept good clear some_weight =
+      let found = not-false (any_above 0 weights) (sym (weightless weights n good) ∙ some_weight) in
       let place = some_witness (λ k. ltb 0 (get_or weights k 0)) (length weights) found in
       at_place clear place.0 (omega (arith, place.1, good.count)) (ltb-true 0 (get_or weights place.0 0) place.2)
 

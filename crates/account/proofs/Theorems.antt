@@ -193,13 +193,13 @@ module _ (n : ℕ) (values : List ℤ) (weights : List ℕ) (locals : List ℤ) 
       Sharp (pair_at (kept_pairs n weights weights) (kept_count n weights)) (at (kept_values n weights values)) (kept_count n weights)
   accepted_sizes =
       let job = good.job in
-      let of-kept = kept_job n values weights job.valued.zones job.valued.near.size (weight_le weights n job.weighted) in
+      let of_kept = kept_job n values weights job.valued.zones job.valued.near.size (weight_le weights n job.weighted) in
       let m = kept_count n weights in
       within_sizes (pair_at (kept_pairs n weights weights) m) (at (kept_values n weights values)) m
-      of-kept.valued.zones
-      (weight_le (kept_pairs n weights weights) m of-kept.weighted)
+      of_kept.valued.zones
+      (weight_le (kept_pairs n weights weights) m of_kept.weighted)
       (kept_clear n values weights good.clear)
-      of-kept.valued.near.size
+      of_kept.valued.near.size
 
   pub accepted_limits :
       Limits (pair_at (kept_pairs n weights weights) (kept_count n weights)) (at (kept_values n weights values)) (kept_count n weights)

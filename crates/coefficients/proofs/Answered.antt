@@ -66,7 +66,7 @@ module _ (refusal n : ℕ) (values : List ℤ) (weights classes : List ℕ) (row
 
   -- the sums, the pairs and the figures that are formed of what the class account answered and left
   pub reported :
-      (r : Report) (sums : Sums) (rows_left of_classes locals_left : List ℤ) (figures-left parts-left : List ℕ) →
+      (r : Report) (sums : Sums) (rows_left of_classes locals_left : List ℤ) (figures_left parts_left : List ℕ) →
       refusal ≡ 0 → listed sums ≡ job_figures n values weights →
       rows_left ≡ class_sums n values weights classes → of_classes ≡ class_locals_of n values weights classes →
       locals_left ≡ job_locals n values weights →
@@ -75,11 +75,11 @@ module _ (refusal n : ℕ) (values : List ℤ) (weights classes : List ℕ) (row
         whole = Reported (record { sums = sums; pair = pair_of sums.kept sums.spread (whole_row sums) });
         classes = table (λ k. pair_of sums.kept sums.spread (row_at rows_left k)) 9;
       } →
-      figures-left ≡ local_figures sums.spread locals_left →
-      parts-left ≡ local_figures sums.spread (take (length parts) of_classes) →
-      Reports refusal n values weights classes rows locals figures parts r rows_left locals_left figures-left parts-left
+      figures_left ≡ local_figures sums.spread locals_left →
+      parts_left ≡ local_figures sums.spread (take (length parts) of_classes) →
+      Reports refusal n values weights classes rows locals figures parts r rows_left locals_left figures_left parts_left
   unfolding number_of sums_in pair_in
-  reported r sums rows_left of_classes locals_left figures-left parts-left z s in_rows in-classes in_locals e f g =
+  reported r sums rows_left of_classes locals_left figures_left parts_left z s in_rows in_classes in_locals e f g =
       let k = kept_in n values weights sums s in
       let m = spread_in n values weights sums s in record {
         number = ap (λ (v : Report). number_of v.whole) e ∙ sym z;
@@ -89,15 +89,15 @@ module _ (refusal n : ℕ) (values : List ℤ) (weights classes : List ℕ) (row
         in_rows = in_rows ∙ sym (worked_when_taken _ _ _ z);
         in_locals = in_locals ∙ sym (worked_when_taken _ _ _ z);
         in_figures = f ∙ figures_are n values weights classes k m in_locals ∙ sym (worked_when_taken _ _ _ z);
-        in_parts = g ∙ figures_are n values weights classes k m (ap (take (length parts)) in-classes) ∙ sym (worked_when_taken _ _ _ z);
+        in_parts = g ∙ figures_are n values weights classes k m (ap (take (length parts)) in_classes) ∙ sym (worked_when_taken _ _ _ z);
       }
 
 -- the same by another name of the number
 pub reports_same :
     {refusal other n : ℕ} {values : List ℤ} {weights classes : List ℕ} {rows locals : List ℤ} {figures parts : List ℕ} {r : Report}
-    {rows_left locals_left : List ℤ} {figures-left parts-left : List ℕ} → refusal ≡ other →
-    Reports refusal n values weights classes rows locals figures parts r rows_left locals_left figures-left parts-left →
-    Reports other n values weights classes rows locals figures parts r rows_left locals_left figures-left parts-left
+    {rows_left locals_left : List ℤ} {figures_left parts_left : List ℕ} → refusal ≡ other →
+    Reports refusal n values weights classes rows locals figures parts r rows_left locals_left figures_left parts_left →
+    Reports other n values weights classes rows locals figures parts r rows_left locals_left figures_left parts_left
 reports_same e p = rw (← e) p
 
 -- ---- the numbers on the way

@@ -74,16 +74,16 @@ rest_refusal n values weights classes = first_broken (class_rules n values weigh
 -- what a call whose refusal has this number promises of its answer r, and of the lists that it leaves of those that it was lent: `parts` for
 -- the local figures of the classes, as many as it has places
 pub record Reports (refusal n : ℕ) (values : List ℤ) (weights classes : List ℕ) (rows locals : List ℤ) (figures parts : List ℕ)
-    (r : Report) (rows_left locals_left : List ℤ) (figures-left parts-left : List ℕ) : Type 0 where
+    (r : Report) (rows_left locals_left : List ℤ) (figures_left parts_left : List ℕ) : Type 0 where
   pub number : number_of r.whole ≡ refusal
   pub sums : sums_in r.whole ≡ sums_unless refusal n values weights
   pub whole : pair_in r.whole ≡ whole_unless refusal n values weights
   pub pairs : r.classes ≡ pairs_unless refusal n values weights classes
   pub in_rows : rows_left ≡ unless_refused refusal (class_sums n values weights classes) rows
   pub in_locals : locals_left ≡ unless_refused refusal (job_locals n values weights) locals
-  pub in_figures : figures-left ≡ figures_unless refusal n values weights figures
+  pub in_figures : figures_left ≡ figures_unless refusal n values weights figures
   pub in_parts :
-      parts-left
+      parts_left
       ≡ unless_refused refusal
       (local_figures (job_spread n values weights) (take (length parts) (class_locals_of n values weights classes)))
       parts

@@ -106,12 +106,12 @@ module _ (n : ℕ) (values : List ℤ) (weights classes : List ℕ) (globals loc
 
   -- what the call promises of its number and of the four lists that it leaves
   abbrev Reports : ℕ → List ℕ → List ℕ → List ℕ → List ℕ → Type 0
-  Reports number globals' locals' pairs' has-pair' =
+  Reports number globals' locals' pairs' has_pair' =
       (number ≡ said)
       × ((globals' ≡ globals_after n values weights classes globals locals pairs has_pair)
       × ((locals' ≡ figures_after n values weights classes globals locals pairs has_pair)
       × ((pairs' ≡ pairs_after n values weights classes globals locals pairs has_pair)
-      × (has-pair' ≡ has_pair_after n values weights classes globals locals pairs has_pair))))
+      × (has_pair' ≡ has_pair_after n values weights classes globals locals pairs has_pair))))
 
   report_refused : (k : ℕ) → k ≡ said → (k ≡ 0 → ⊥) → Reports k globals locals pairs has_pair
   unfolding globals_after figures_after pairs_after has_pair_after
@@ -154,9 +154,9 @@ module _ (n : ℕ) (values : List ℤ) (weights classes : List ℕ) (globals loc
     unfolding report_number class_rules call_rules
     misfit_is_2 e =
         let inside = (holds (outside 2 64 n) 0 _ fit).0 in
-        let own-lists = beside (not (eqb (length globals) 2)) _ e in
+        let own_lists = beside (not (eqb (length globals) 2)) _ e in
         let all = beside (not (eqb (length values) n)) _
-        (beside (not (eqb (length weights) (n * n))) _ (beside (not (eqb (length classes) (n * n))) _ own-lists)) in
+        (beside (not (eqb (length weights) (n * n))) _ (beside (not (eqb (length classes) (n * n))) _ own_lists)) in
         report_refused 2 (rw (inside, all) refl) (λ z. omega arith)
 
     pub report_by_pairs : (length pairs ≡ 18 → ⊥) → Reports 2 globals locals pairs has_pair
@@ -170,8 +170,8 @@ module _ (n : ℕ) (values : List ℤ) (weights classes : List ℕ) (globals loc
 
     module _
         (eighteen : length pairs ≡ 18) (nine : length has_pair ≡ 9)
-        (rows own-locals : List ℤ) (rows_fit : length rows ≡ 27) (own-locals-fit : length own-locals ≡ n) where
-      plainly : said ≡ plain_refusal n values weights classes rows own-locals locals
+        (rows own_locals : List ℤ) (rows_fit : length rows ≡ 27) (own_locals_fit : length own_locals ≡ n) where
+      plainly : said ≡ plain_refusal n values weights classes rows own_locals locals
       unfolding report_number plain_refusal class_rules call_rules
       plainly =
           rw (
@@ -179,36 +179,36 @@ module _ (n : ℕ) (values : List ℤ) (weights classes : List ℕ) (globals loc
             eq-eqb (length pairs) 18 eighteen,
             eq-eqb (length has_pair) 9 nine,
             eq-eqb (length rows) 27 rows_fit,
-            eq-eqb (length own-locals) n own-locals-fit,
+            eq-eqb (length own_locals) n own_locals_fit,
           )
           refl
 
       -- what the plain report promises of its answer, of the pairs of the classes and of the list that it leaves
       module _
           (r : report-answer.Answer) (of_classes : List Pair) (left : List ℕ)
-          (number : report.number_of r ≡ plain_refusal n values weights classes rows own-locals locals)
-          (whole : report.pair_in r ≡ plain_whole n values weights classes rows own-locals locals)
-          (in-classes : of_classes ≡ plain_classes n values weights classes rows own-locals locals)
-          (lent : left ≡ plain_figures n values weights classes rows own-locals locals) where
-        one_pair_told : plain_refusal n values weights classes rows own-locals locals ≡ 0 → report.pair_in r ≡ job_pair n values weights ∷ []
+          (number : report.number_of r ≡ plain_refusal n values weights classes rows own_locals locals)
+          (whole : report.pair_in r ≡ plain_whole n values weights classes rows own_locals locals)
+          (in_classes : of_classes ≡ plain_classes n values weights classes rows own_locals locals)
+          (lent : left ≡ plain_figures n values weights classes rows own_locals locals) where
+        one_pair_told : plain_refusal n values weights classes rows own_locals locals ≡ 0 → report.pair_in r ≡ job_pair n values weights ∷ []
         unfolding plain_whole
         one_pair_told taken = whole ∙ worked_when_taken _ _ _ taken
 
         pub report_by_refusal : (k : ℕ) → r ≡ reported.Refused k → Reports k globals left pairs has_pair
         unfolding report.number_of report.pair_in plain_figures
         report_by_refusal k e =
-            let found : k ≡ plain_refusal n values weights classes rows own-locals locals = sym (ap report.number_of e) ∙ number in
+            let found : k ≡ plain_refusal n values weights classes rows own_locals locals = sym (ap report.number_of e) ∙ number in
             let some : k ≡ 0 → ⊥ = λ z.
             let f : ◌≡◌ {A = ℕ} 0 1 = ap length (sym (ap report.pair_in e) ∙ one_pair_told (sym found ∙ z)) in omega arith in
             let kept : left ≡ locals = lent ∙ kept_when_refused _ _ _ (λ z. some (found ∙ z)) in
             let all = report_refused k (found ∙ sym plainly) some in
             (all.0, (all.1.0, (kept ∙ all.1.1.0, all.1.1.1)))
 
-        module _ (whole-job : Whole) (e : r ≡ reported.Reported whole-job) where
+        module _ (whole_job : Whole) (e : r ≡ reported.Reported whole_job) where
           abbrev pair : Pair
-          pair = whole-job.pair
+          pair = whole_job.pair
 
-          taken : plain_refusal n values weights classes rows own-locals locals ≡ 0
+          taken : plain_refusal n values weights classes rows own_locals locals ≡ 0
           unfolding report.number_of
           taken = sym number ∙ ap report.number_of e
 
@@ -222,15 +222,15 @@ module _ (n : ℕ) (values : List ℤ) (weights classes : List ℕ) (globals loc
           class_is : (k : ℕ) → k < 9 → get_or of_classes k no_pair ≡ class_pair n values weights classes k
           unfolding plain_classes
           class_is k h =
-              table_held (class_pair n values weights classes) 9 no_pair of_classes (in-classes ∙ worked_when_taken _ _ _ taken) k h
+              table_held (class_pair n values weights classes) 9 no_pair of_classes (in_classes ∙ worked_when_taken _ _ _ taken) k h
 
-          pub pair_readable : ReadablePair whole-job.pair
-          pair_readable = job_readable n values weights whole-job.pair pair_is
+          pub pair_readable : ReadablePair whole_job.pair
+          pair_readable = job_readable n values weights whole_job.pair pair_is
 
           pub pairs_readable : ReadablePairs of_classes
           unfolding plain_classes
           pairs_readable =
-              classes_readable n values weights classes of_classes (in-classes ∙ worked_when_taken _ _ _ taken)
+              classes_readable n values weights classes of_classes (in_classes ∙ worked_when_taken _ _ _ taken)
 
           weight_told :
               (k : ℕ) →
@@ -239,13 +239,13 @@ module _ (n : ℕ) (values : List ℤ) (weights classes : List ℕ) (globals loc
           weight_told k = tells_weight (is_zero (class_row_of n values weights classes k).weight) _
 
           pub report_by_pair :
-              (globals' pairs' : List ℕ) (has-pair' : List ℕ) →
+              (globals' pairs' : List ℕ) (has_pair' : List ℕ) →
               globals' ≡ put_figure (put_figure globals 0 pair.moran) 1 pair.geary →
               pairs' ≡ pairs_over 9 (λ k. get_or of_classes k no_pair) pairs →
-              has-pair' ≡ table (λ k. tells (get_or of_classes k no_pair).moran) 9 →
-              Reports 0 globals' left pairs' has-pair'
+              has_pair' ≡ table (λ k. tells (get_or of_classes k no_pair).moran) 9 →
+              Reports 0 globals' left pairs' has_pair'
           unfolding globals_after figures_after pairs_after has_pair_after plain_figures
-          report_by_pair globals' pairs' has-pair' f g h = (
+          report_by_pair globals' pairs' has_pair' f g h = (
             sym none,
             (
               f

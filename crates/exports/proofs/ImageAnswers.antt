@@ -34,9 +34,9 @@ use Rattle.exports.specs.Images.{write_number, out_after, length_after, text_num
 -- ---- the reader
 module _ (image : List ℕ) (lent : Buffers) (counts : List ℕ) where
   abbrev Reads : ℕ → Buffers → List ℕ → Type 0
-  Reads number left left-counts =
+  Reads number left left_counts =
       (number ≡ read_number image lent counts)
-      × ((left ≡ buffers_after image lent counts) × (left-counts ≡ counts_after image lent counts))
+      × ((left ≡ buffers_after image lent counts) × (left_counts ≡ counts_after image lent counts))
 
   read_refused : (k : ℕ) → k ≡ read_number image lent counts → (k ≡ 0 → ⊥) → Reads k lent counts
   unfolding buffers_after counts_after
@@ -85,9 +85,9 @@ module _ (lent : Buffers) (counts out bytes : List ℕ) where
   given = given_by counts
 
   abbrev Writes : ℕ → List ℕ → List ℕ → Type 0
-  Writes number left left-bytes =
+  Writes number left left_bytes =
       (number ≡ write_number lent counts out bytes)
-      × ((left ≡ out_after lent counts out bytes) × (left-bytes ≡ length_after lent counts out bytes))
+      × ((left ≡ out_after lent counts out bytes) × (left_bytes ≡ length_after lent counts out bytes))
 
   write_refused : (k : ℕ) → k ≡ write_number lent counts out bytes → (k ≡ 0 → ⊥) → Writes k out bytes
   unfolding out_after length_after
@@ -151,9 +151,9 @@ module _ (lent : Buffers) (counts out bytes : List ℕ) where
 -- ---- the report
 module _ (image text bytes : List ℕ) where
   abbrev Reports : ℕ → List ℕ → List ℕ → Type 0
-  Reports number left left-bytes =
+  Reports number left left_bytes =
       (number ≡ text_number image text bytes)
-      × ((left ≡ text_after image text bytes) × (left-bytes ≡ text_length_after image text bytes))
+      × ((left ≡ text_after image text bytes) × (left_bytes ≡ text_length_after image text bytes))
 
   report_refused : (k : ℕ) → k ≡ text_number image text bytes → (k ≡ 0 → ⊥) → Reports k text bytes
   unfolding text_after text_length_after

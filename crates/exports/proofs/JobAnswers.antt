@@ -28,9 +28,9 @@ module _ (n : ℕ) (values : List ℤ) (weights : List ℕ) where
   -- ---- the account
   module _ (locals sums : List ℤ) where
     abbrev Accounts : ℕ → List ℤ → List ℤ → Type 0
-    Accounts number left-locals left-sums =
+    Accounts number left_locals left_sums =
         (number ≡ account_number n values weights locals sums)
-        × ((left-locals ≡ locals_after n values weights locals sums) × (left-sums ≡ sums_after n values weights locals sums))
+        × ((left_locals ≡ locals_after n values weights locals sums) × (left_sums ≡ sums_after n values weights locals sums))
 
     account_refused : (k : ℕ) → k ≡ account_number n values weights locals sums → (k ≡ 0 → ⊥) → Accounts k locals sums
     unfolding locals_after sums_after
@@ -59,24 +59,24 @@ module _ (n : ℕ) (values : List ℤ) (weights : List ℕ) where
           let told = account_refused k (found ∙ sym below) some in
           (told.0, (kept ∙ told.1.0, told.1.1))
 
-      pub account_by_sums : (sums-held : Sums) (put : List ℤ) → r ≡ Accounted sums-held → put ≡ listed sums-held → Accounts 0 left put
+      pub account_by_sums : (sums_held : Sums) (put : List ℤ) → r ≡ Accounted sums_held → put ≡ listed sums_held → Accounts 0 left put
       unfolding number_of locals_after sums_after
-      account_by_sums sums-held put e f =
+      account_by_sums sums_held put e f =
           let taken : account_refusal n values weights locals ≡ 0 = sym number ∙ ap number_of e in
           let z = below ∙ taken in (
             sym z,
             (
               locals_left n values weights locals taken left lent ∙ sym (worked_when_taken _ _ _ z),
-              f ∙ accounted_sums n values weights locals taken r sums-held figures e ∙ sym (worked_when_taken _ _ _ z),
+              f ∙ accounted_sums n values weights locals taken r sums_held figures e ∙ sym (worked_when_taken _ _ _ z),
             ),
           )
 
       -- no more zones are kept than 64
-      pub account_kept_few : (sums-held : Sums) → r ≡ Accounted sums-held → sums-held.kept ≤ 64
+      pub account_kept_few : (sums_held : Sums) → r ≡ Accounted sums_held → sums_held.kept ≤ 64
       unfolding number_of
-      account_kept_few sums-held e =
+      account_kept_few sums_held e =
           let taken : account_refusal n values weights locals ≡ 0 = sym number ∙ ap number_of e in
-          omega (arith, accounted_kept n values weights locals taken r sums-held figures e, own_zones n values weights (length sums) 6 fit)
+          omega (arith, accounted_kept n values weights locals taken r sums_held figures e, own_zones n values weights (length sums) 6 fit)
 
   -- ---- the rank
   module _ (shuffles counts : List ℕ) where
@@ -115,10 +115,10 @@ module _ (n : ℕ) (values : List ℤ) (weights : List ℕ) where
   -- ---- the class account
   module _ (classes : List ℕ) (rows locals : List ℤ) where
     abbrev Classes : ℕ → List ℤ → List ℤ → Type 0
-    Classes number left-rows left-locals =
+    Classes number left_rows left_locals =
         (number ≡ class_number n values weights classes rows locals)
-        × ((left-rows ≡ rows_after n values weights classes rows locals)
-        × (left-locals ≡ class_locals_after n values weights classes rows locals))
+        × ((left_rows ≡ rows_after n values weights classes rows locals)
+        × (left_locals ≡ class_locals_after n values weights classes rows locals))
 
     class_left : (k : ℕ) → k ≡ class_number n values weights classes rows locals → (k ≡ 0 → ⊥) → Classes k rows locals
     unfolding rows_after class_locals_after
@@ -131,15 +131,15 @@ module _ (n : ℕ) (values : List ℤ) (weights : List ℕ) where
 
     -- what the class account promises of its answer r and of the lists that it leaves; `places` is not lent to the call itself
     module _
-        (places : List ℤ) (fit : length places ≡ n) (r : Answer) (left-rows left-locals : List ℤ)
+        (places : List ℤ) (fit : length places ≡ n) (r : Answer) (left_rows left_locals : List ℤ)
         (number : number_of r ≡ class_refusal n values weights classes rows locals places)
         (figures : figures_of r ≡ class_account_figures n values weights classes rows locals places)
-        (in_rows : left-rows ≡ class_account_rows n values weights classes rows locals places)
-        (in_locals : left-locals ≡ class_account_locals n values weights classes rows locals places) where
+        (in_rows : left_rows ≡ class_account_rows n values weights classes rows locals places)
+        (in_locals : left_locals ≡ class_account_locals n values weights classes rows locals places) where
       class_same : class_number n values weights classes rows locals ≡ class_refusal n values weights classes rows locals places
       class_same = class_below n values weights classes rows locals places fit
 
-      pub class_by_refusal : (k : ℕ) → r ≡ Refused k → Classes k left-rows left-locals
+      pub class_by_refusal : (k : ℕ) → r ≡ Refused k → Classes k left_rows left_locals
       unfolding class_account_rows class_account_locals
       class_by_refusal k e =
           let found = class_refused n values weights classes rows locals places r number figures k e in
@@ -152,10 +152,10 @@ module _ (n : ℕ) (values : List ℤ) (weights : List ℕ) where
             ),
           )
 
-      pub class_by_sums : (sums-held : Sums) → r ≡ Accounted sums-held → Classes 0 left-rows left-locals
+      pub class_by_sums : (sums_held : Sums) → r ≡ Accounted sums_held → Classes 0 left_rows left_locals
       unfolding class_account_rows class_account_locals rows_after class_locals_after
-      class_by_sums sums-held e =
-          let taken = (class_accounted n values weights classes rows locals places r number figures sums-held e).0 in
+      class_by_sums sums_held e =
+          let taken = (class_accounted n values weights classes rows locals places r number figures sums_held e).0 in
           let z = class_same ∙ taken in (
             sym z,
             (

@@ -96,5 +96,5 @@ module _ {rows columns i : ℕ} {step : Step} {r c : ℕ} (lands : Lands rows co
       let p = row_within rows columns j h in
       let q = column_within rows columns j h in
       let in_row = lands.row ∙ lands_at rows (grid_row columns j) row_sum (equal_true row_sum _ f.0) p in
-      let in-column = lands.column ∙ lands_at columns (grid_column columns j) column_sum (equal_true column_sum _ f.1) q in
-      (omega arith, omega arith, rw (in_row, in-column) (zone_is rows columns j h))
+      let in_column = lands.column ∙ lands_at columns (grid_column columns j) column_sum (equal_true column_sum _ f.1) q in
+      (omega arith, omega arith, rw (in_row, in_column) (zone_is rows columns j h))

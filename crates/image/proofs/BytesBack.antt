@@ -200,9 +200,9 @@ module _ (image : List ℕ) (a : Accepted image) where
     pub bytes_same : job_bytes (given_in image) job ≡ image
     unfolding job_bytes given_in job_of
     bytes_same =
-        let of-these : List Join → List ℕ = λ joins. section_bytes (length joins) (each join_bytes joins) in
-        let joins : of-these (joins_of n (weights_of n (joins_in (from_joins image)))) ≡ of_joins =
-        ap of-these joins_same ∙ ap (λ m. section_bytes m (each join_bytes (joins_in (from_joins image)))) joins_length in
+        let of_these : List Join → List ℕ = λ joins. section_bytes (length joins) (each join_bytes joins) in
+        let joins : of_these (joins_of n (weights_of n (joins_in (from_joins image)))) ≡ of_joins =
+        ap of_these joins_same ∙ ap (λ m. section_bytes m (each join_bytes (joins_in (from_joins image)))) joins_length in
         ap (λ t. of_values ++ (of_categories ++ (t ++ (of_places ++ (of_bands ++ of_shuffles))))) joins
         ∙ ap (λ t. of_values ++ (of_categories ++ (of_joins ++ (of_places ++ (of_bands ++ t))))) shuffles_back
         ∙ ap (λ t. of_values ++ (of_categories ++ (of_joins ++ (of_places ++ t)))) bands_back

@@ -137,14 +137,14 @@ module _ (given : Given) (lent : Buffers) (room : ℕ) where
   pub write_let_in : Taken given lent room → write_refusal given lent room ≡ 0
   unfolding write_refusal write_rules
   write_let_in t =
-      let after-parts : first_broken (part_rules given job ++ (sums ++ last)) ≡ 0 =
+      let after_parts : first_broken (part_rules given job ++ (sums ++ last)) ≡ 0 =
       second_decides (sums ++ last) (part_rules given job) (parts_numbered given job) (parts_let_in given job t.parts)
       ∙ second_decides last sums (tt, (tt, tt)) t.sums
       ∙ rw (le-ltb room (length (job_bytes given job)) t.room_enough) in
       ap (λ (b : Bool). cond {A = ℕ} b 1 (cond (misfits (buffer_lengths lent)) 2 (first_broken (part_rules given job ++ (sums ++ last)))))
       t.zones
       ∙ ap (λ (b : Bool). cond {A = ℕ} b 2 (first_broken (part_rules given job ++ (sums ++ last)))) (exactly lent t.buffers)
-      ∙ after-parts
+      ∙ after_parts
 
   -- the job in its buffers has the lengths that the counts say
   pub job_within : Limited given → Exact lent → Within given job

@@ -113,22 +113,22 @@ end_decided b more sums others h =
     rw (lt-ltb 0 (length (b ++ more)) (omega arith), lt-ltb 0 (length b) (omega arith))
 
 -- a section, whose items take at most so many bytes where its count is allowed, and the rules after it
-module _ (size : ℕ) (broken : ℕ → Bool) (number : ℕ) (of-items : ℕ → List ℕ → List Rule) (later : ℕ → Onward) where
+module _ (size : ℕ) (broken : ℕ → Bool) (number : ℕ) (of_items : ℕ → List ℕ → List Rule) (later : ℕ → Onward) where
   abbrev section_on : Onward
   section_on b sums =
-      section_rules size (broken (count b), number) (of-items (count b) (items b)) b ++ later (count b) (after size b) sums
+      section_rules size (broken (count b), number) (of_items (count b) (items b)) b ++ later (count b) (after size b) sums
 
   by_count : (b : List ℕ) (sums : List Rule) → 2 ≤ length b → broken (count b) ≡ true → first_broken (section_on b sums) ≡ number
   by_count b sums l e = rw (le-ltb (length b) 2 l, e)
 
   by_items :
       (b : List ℕ) (sums : List Rule) → 2 + size * count b ≤ length b → broken (count b) ≡ false →
-      first_broken (section_on b sums) ≡ first_broken (of-items (count b) (items b) ++ later (count b) (after size b) sums)
+      first_broken (section_on b sums) ≡ first_broken (of_items (count b) (items b) ++ later (count b) (after size b) sums)
   by_items b sums l e = rw (le-ltb (length b) 2 (omega arith), e, le-ltb (length b) (2 + size * count b) l)
 
   section_decided :
       (most many : ℕ) → ((k : ℕ) → broken k ≡ false → size * k ≤ most) →
-      ((k : ℕ) (b more : List ℕ) → size * k ≤ length b → of-items k (b ++ more) ≡ of-items k b) →
+      ((k : ℕ) (b more : List ℕ) → size * k ≤ length b → of_items k (b ++ more) ≡ of_items k b) →
       ((k : ℕ) → broken k ≡ false → Decided many (later k)) → Decided (2 + most + many) section_on
   section_decided most many few within decided b more sums others h = go (broken (count b)) refl
     where
@@ -148,12 +148,12 @@ module _ (size : ℕ) (broken : ℕ → Bool) (number : ℕ) (of-items : ℕ →
           let body : items (b ++ more) ≡ items b ++ more = drop-append-le 2 b more (omega arith) in
           let behind : drop (2 + size * k) (b ++ more) ≡ after size b ++ more = drop-append-le (2 + size * k) b more (omega arith) in
           by_items (b ++ more) sums there (ap broken same ∙ e)
-          ∙ ap (λ m. first_broken (of-items m (items (b ++ more)) ++ later m (drop (2 + size * m) (b ++ more)) sums)) same
-          ∙ ap (λ t. first_broken (of-items k t ++ later k (drop (2 + size * k) (b ++ more)) sums)) body
+          ∙ ap (λ m. first_broken (of_items m (items (b ++ more)) ++ later m (drop (2 + size * m) (b ++ more)) sums)) same
+          ∙ ap (λ t. first_broken (of_items k t ++ later k (drop (2 + size * k) (b ++ more)) sums)) body
           ∙ ap (λ rules. first_broken (rules ++ later k (drop (2 + size * k) (b ++ more)) sums))
           (within k (items b) more (omega (arith, length-drop 2 b)))
-          ∙ ap (λ t. first_broken (of-items k (items b) ++ later k t sums)) behind
-          ∙ same_first (of-items k (items b)) (later k (after size b ++ more) sums) (later k (after size b) others)
+          ∙ ap (λ t. first_broken (of_items k (items b) ++ later k t sums)) behind
+          ∙ same_first (of_items k (items b)) (later k (after size b ++ more) sums) (later k (after size b) others)
           (decided k e (after size b) more sums others (omega (arith, length-drop (2 + size * k) b)))
           ∙ sym (by_items b others (omega arith) e)
 

@@ -50,12 +50,12 @@ module _ (size k : ℕ) (body following b : List ℕ) (laid : b ≡ section_byte
       omega (arith, length-append body following)
 
 -- the items of a section are those whose bytes it has
-module _ {A : Type 0} (item : List ℕ → ℕ → A) (size : ℕ) (of-item : A → List ℕ) (Fit : A → Type 0) (kind : Kind item size of-item Fit) where
+module _ {A : Type 0} (item : List ℕ → ℕ → A) (size : ℕ) (of_item : A → List ℕ) (Fit : A → Type 0) (kind : Kind item size of_item Fit) where
   pub listed_is :
-      (k : ℕ) (b : List ℕ) (xs : List A) (following : List ℕ) → k ≡ length xs → b ≡ each of-item xs ++ following → All Fit xs →
+      (k : ℕ) (b : List ℕ) (xs : List A) (following : List ℕ) → k ≡ length xs → b ≡ each of_item xs ++ following → All Fit xs →
       listed item size k b ≡ xs
   listed_is k b xs following e f fit =
-      ap (λ m. listed item size m b) e ∙ ap (listed item size (length xs)) f ∙ listed_back item size of-item Fit kind xs following fit
+      ap (λ m. listed item size m b) e ∙ ap (listed item size (length xs)) f ∙ listed_back item size of_item Fit kind xs following fit
 
 bytes_is : (k : ℕ) (b xs following : List ℕ) → k ≡ length xs → b ≡ xs ++ following → bytes k b ≡ xs
 bytes_is k b xs following e f = ap (λ m. bytes m b) e ∙ ap (bytes (length xs)) f ∙ bytes_back xs following

@@ -21,15 +21,15 @@ pub unbroken : (broken : Bool) (number r : ℕ) → r ≡ first_broken ((broken,
 unbroken broken number r e z = (holds broken number 0 (sym e ∙ z)).0
 
 -- a section that breaks no rule is whole, its count allowed and its items without fault
-pub record Sound (size : ℕ) (broken : Bool) (of-items : List Rule) (b : List ℕ) : Type 0 where
+pub record Sound (size : ℕ) (broken : Bool) (of_items : List Rule) (b : List ℕ) : Type 0 where
   pub whole : 2 + size * count b ≤ length b
   pub counted : broken ≡ false
-  pub listed : first_broken of-items ≡ 0
+  pub listed : first_broken of_items ≡ 0
 
 pub sound :
-    (size : ℕ) (broken : Bool) (number : ℕ) (of-items : List Rule) (b : List ℕ) →
-    first_broken (section_rules size (broken, suc number) of-items b) ≡ 0 → Sound size broken of-items b
-sound size broken number of-items b e =
+    (size : ℕ) (broken : Bool) (number : ℕ) (of_items : List Rule) (b : List ℕ) →
+    first_broken (section_rules size (broken, suc number) of_items b) ≡ 0 → Sound size broken of_items b
+sound size broken number of_items b e =
     let first = holds (ltb (length b) 2) 13 _ e in
     let second = holds broken number _ first.1 in
     let third = holds (ltb (length b) (2 + size * count b)) 13 _ second.1 in
@@ -37,8 +37,8 @@ sound size broken number of-items b e =
 
 -- and a section like that breaks none
 pub sound_section :
-    (size : ℕ) (broken : Bool) (number : ℕ) (of-items : List Rule) (b : List ℕ) → Sound size broken of-items b →
-    first_broken (section_rules size (broken, number) of-items b) ≡ 0
-sound_section size broken number of-items b s =
+    (size : ℕ) (broken : Bool) (number : ℕ) (of_items : List Rule) (b : List ℕ) → Sound size broken of_items b →
+    first_broken (section_rules size (broken, number) of_items b) ≡ 0
+sound_section size broken number of_items b s =
     let w = s.whole in
     rw (le-ltb (length b) 2 (omega arith), s.counted, le-ltb (length b) (2 + size * count b) w) s.listed

@@ -142,7 +142,7 @@ shuffle_rules n shuffles = (any_lacking n shuffles, 13) ∷ []
 
 -- a section: 14 if its count is cut, its count's own rule, 14 if the section is cut, then its items' rules
 abbrev pub section_rules : ℕ → Rule → List Rule → List ℕ → List Rule
-section_rules size of-count of-items b = (ltb (length b) 2, 14) ∷ of-count ∷ (ltb (length b) (2 + size * count b), 14) ∷ of-items
+section_rules size of_count of_items b = (ltb (length b) 2, 14) ∷ of_count ∷ (ltb (length b) (2 + size * count b), 14) ∷ of_items
 
 unfoldable pub in_values : List ℕ → List Rule
 in_values b = section_rules 4 (zone_count_rule (count b)) (value_rules (values_in b)) b
@@ -190,7 +190,7 @@ abbrev pub join_bytes : Join → List ℕ
 join_bytes join = join.from ∷ join.to ∷ join.weight ∷ []
 
 abbrev pub section_bytes : ℕ → List ℕ → List ℕ
-section_bytes k of-items = two_bytes k ++ of-items
+section_bytes k of_items = two_bytes k ++ of_items
 
 unfoldable pub job_bytes : Given → Job → List ℕ
 job_bytes given job =

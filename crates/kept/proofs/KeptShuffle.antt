@@ -79,9 +79,9 @@ module _ (n : ℕ) (weights : List ℕ) (rows : ℕ) (shuffles : List ℕ) where
   pub shuffle_full :
       (r : ℕ) → r < rows → lacks (pair_at shuffles n r) n ≡ false →
       lacks (pair_at (kept_shuffles n weights rows shuffles) (kept_count n weights) r) (kept_count n weights) ≡ false
-  shuffle_full r p full-row =
+  shuffle_full r p full_row =
       lacks_cong _ (kept_row n weights (pair_at shuffles n r)) (kept_count n weights) (λ k q. shuffle_at r k p q)
-      ∙ kept_row_full n weights (pair_at shuffles n r) full-row
+      ∙ kept_row_full n weights (pair_at shuffles n r) full_row
 
   pub shuffles_length : length (kept_shuffles n weights rows shuffles) ≡ rows * kept_count n weights
   unfolding kept_shuffles
@@ -99,13 +99,13 @@ module _ (n : ℕ) (weights : List ℕ) (all : kept_count n weights ≡ n) where
       (rows : ℕ) (shuffles : List ℕ) → length shuffles ≡ rows * n → ((r : ℕ) → r < rows → lacks (pair_at shuffles n r) n ≡ false) →
       kept_shuffles n weights rows shuffles ≡ shuffles
   unfolding kept_shuffles pair_at
-  same_shuffles rows shuffles long full-rows =
+  same_shuffles rows shuffles long full_rows =
       ap (table_rows (λ r. kept_row n weights (row r)) rows) all
       ∙ sym
       (rows_flat (λ r. kept_row n weights (row r)) rows n 0 shuffles long
       (λ p h.
       let s = split rows n p h in
-      let f = full (row (p / n)) n (full-rows (p / n) s.row) in
+      let f = full (row (p / n)) n (full_rows (p / n) s.row) in
       ap (λ t. get_or shuffles t 0) (sym s.whole) ∙ sym (same_row (row (p / n)) f.into (p % n) s.column)))
     where
       row : ℕ → ℕ → ℕ

@@ -17,11 +17,11 @@ use Rattle.image.proofs.Then.{then_kept, then_rules}
 use Rattle.reader.specs.Steps.{frame}
 
 module _
-    (before size : ℕ) (broken : Bool) (number : ℕ) (of-items : List Rule) (b : List ℕ) (r counted k : ℕ)
+    (before size : ℕ) (broken : Bool) (number : ℕ) (of_items : List Rule) (b : List ℕ) (r counted k : ℕ)
     (told : r ≡ unless_refused before (frame b counted size k) before) (same : k ≡ count b)
     (judged : counted ≡ first_broken ((broken, suc number) ∷ [])) where
   abbrev rules : List Rule
-  rules = section_rules size (broken, suc number) of-items b
+  rules = section_rules size (broken, suc number) of_items b
 
   -- the section is cut, by the count as it was read and as it is
   abbrev cut : ℕ → Bool
@@ -29,32 +29,32 @@ module _
 
   -- ---- where the frame has a number
   module _ (some : r ≡ 0 → ⊥) where
-    section_cut : counted ≡ 0 → (short : Bool) → cut k ≡ short → r ≡ cond short 14 0 → r ≡ cond (cut (count b)) 14 (first_broken of-items)
-    section_cut z true e f = f ∙ sym (ap (λ (t : Bool). cond {A = ℕ} t 14 (first_broken of-items)) (ap cut (sym same) ∙ e))
+    section_cut : counted ≡ 0 → (short : Bool) → cut k ≡ short → r ≡ cond short 14 0 → r ≡ cond (cut (count b)) 14 (first_broken of_items)
+    section_cut z true e f = f ∙ sym (ap (λ (t : Bool). cond {A = ℕ} t 14 (first_broken of_items)) (ap cut (sym same) ∙ e))
     section_cut z false e f = absurd (some f)
 
     by_count :
         Dec (counted ≡ 0) → r ≡ unless_refused counted (cond (cut k) 14 0) counted →
-        r ≡ cond broken (suc number) (cond (cut (count b)) 14 (first_broken of-items))
+        r ≡ cond broken (suc number) (cond (cut (count b)) 14 (first_broken of_items))
     by_count (yes z) f =
         let whole = section_cut z (cut k) refl (f ∙ worked_when_taken counted (cond (cut k) 14 0) counted z) in
-        whole ∙ sym (ap (λ (t : Bool). cond {A = ℕ} t (suc number) (cond (cut (count b)) 14 (first_broken of-items)))
+        whole ∙ sym (ap (λ (t : Bool). cond {A = ℕ} t (suc number) (cond (cut (count b)) 14 (first_broken of_items)))
         (unbroken broken number counted judged z))
     by_count (no g) f =
         let s = single broken number counted judged g in
         f
         ∙ kept_when_refused counted (cond (cut k) 14 0) counted g
         ∙ s.1
-        ∙ sym (ap (λ (t : Bool). cond {A = ℕ} t (suc number) (cond (cut (count b)) 14 (first_broken of-items))) s.0)
+        ∙ sym (ap (λ (t : Bool). cond {A = ℕ} t (suc number) (cond (cut (count b)) 14 (first_broken of_items))) s.0)
 
     count_cut :
         (short : Bool) → ltb (length b) 2 ≡ short → r ≡ cond short 14 (unless_refused counted (cond (cut k) 14 0) counted) →
         r ≡ first_broken rules
     count_cut true e f =
-        f ∙ sym (ap (λ (t : Bool). cond {A = ℕ} t 14 (cond broken (suc number) (cond (cut (count b)) 14 (first_broken of-items)))) e)
+        f ∙ sym (ap (λ (t : Bool). cond {A = ℕ} t 14 (cond broken (suc number) (cond (cut (count b)) 14 (first_broken of_items)))) e)
     count_cut false e f =
         by_count (ℕ_discrete counted 0) f
-        ∙ sym (ap (λ (t : Bool). cond {A = ℕ} t 14 (cond broken (suc number) (cond (cut (count b)) 14 (first_broken of-items)))) e)
+        ∙ sym (ap (λ (t : Bool). cond {A = ℕ} t 14 (cond broken (suc number) (cond (cut (count b)) 14 (first_broken of_items)))) e)
 
     pub stopped : r ≡ then before rules
     stopped = pick (ℕ_discrete before 0)
@@ -102,7 +102,7 @@ module _
             first z (ltb (length b) 2) refl (sym (worked_when_taken before (frame b counted size k) before z) ∙ sym told ∙ passed)
         pick (no g) = absurd (g (sym (kept_when_refused before (frame b counted size k) before g) ∙ sym told ∙ passed))
 
-    pub by_items : (last : ℕ) → last ≡ first_broken of-items → last ≡ then before rules
+    pub by_items : (last : ℕ) → last ≡ first_broken of_items → last ≡ then before rules
     by_items last q =
         let f = framed in
         q

@@ -82,11 +82,11 @@ diff_neg a b = neg_ℤ-+ℤ (pos a) (neg_ℤ (pos b)) ∙ ap (λ x. neg_ℤ (pos
 pub diff_* : (a b c d : ℕ) → diff a b *ℤ diff c d ≡ diff (a * c + b * d) (a * d + b * c)
 unfolding diff
 diff_* a b c d =
-    let of-a = *_dist_l (pos a) (pos c) (neg_ℤ (pos d)) ∙ ap (λ x. pos (a * c) +ℤ x) (*_neg (pos a) (pos d)) in
-    let of-b = *_dist_l (pos b) (pos c) (neg_ℤ (pos d)) ∙ ap (λ x. pos (b * c) +ℤ x) (*_neg (pos b) (pos d)) in
+    let of_a = *_dist_l (pos a) (pos c) (neg_ℤ (pos d)) ∙ ap (λ x. pos (a * c) +ℤ x) (*_neg (pos a) (pos d)) in
+    let of_b = *_dist_l (pos b) (pos c) (neg_ℤ (pos d)) ∙ ap (λ x. pos (b * c) +ℤ x) (*_neg (pos b) (pos d)) in
     *_dist_r (pos a) (neg_ℤ (pos b)) (pos c -ℤ pos d)
-    ∙ ap (λ x. x +ℤ neg_ℤ (pos b) *ℤ (pos c -ℤ pos d)) of-a
-    ∙ ap (λ x. (pos (a * c) -ℤ pos (a * d)) +ℤ x) (neg_* (pos b) (pos c -ℤ pos d) ∙ ap neg_ℤ of-b ∙ diff_neg (b * c) (b * d))
+    ∙ ap (λ x. x +ℤ neg_ℤ (pos b) *ℤ (pos c -ℤ pos d)) of_a
+    ∙ ap (λ x. (pos (a * c) -ℤ pos (a * d)) +ℤ x) (neg_* (pos b) (pos c -ℤ pos d) ∙ ap neg_ℤ of_b ∙ diff_neg (b * c) (b * d))
     ∙ diff_+ (a * c) (a * d) (b * d) (b * c)
 
 diff_shift : (a b k : ℕ) → diff (a + k) (b + k) ≡ diff a b

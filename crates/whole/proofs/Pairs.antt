@@ -38,12 +38,12 @@ module _ (f : ℕ → ℤ) where
   -- the sum of a (f k)² + b f k + c
   quadratic : (a b c : ℤ) (n : ℕ) → sum (λ k. (a *ℤ square (f k) +ℤ b *ℤ f k) +ℤ c) n ≡ (a *ℤ squares n +ℤ b *ℤ sum f n) +ℤ pos n *ℤ c
   quadratic a b c n =
-      let without-c =
+      let without_c =
       sum_+ (λ k. a *ℤ square (f k)) (λ k. b *ℤ f k) n
       ∙ ap (λ z. z +ℤ sum (λ k. b *ℤ f k) n) (sum_scale a (λ k. square (f k)) n)
       ∙ ap (λ z. a *ℤ squares n +ℤ z) (sum_scale b f n) in
       sum_+ (λ k. a *ℤ square (f k) +ℤ b *ℤ f k) (λ k. c) n
-      ∙ ap (λ z. z +ℤ sum (λ k. c) n) without-c
+      ∙ ap (λ z. z +ℤ sum (λ k. c) n) without_c
       ∙ ap (λ z. (a *ℤ squares n +ℤ b *ℤ sum f n) +ℤ z) (sum_const c n)
 
   one_times : (z : ℤ) → pos 1 *ℤ z ≡ z

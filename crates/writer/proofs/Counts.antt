@@ -10,13 +10,13 @@ use Rattle.image.proofs.Sections.{single, unbroken}
 use Rattle.image.proofs.Then.{then_rules}
 
 module _
-    (so_far : ℕ) (none : so_far ≡ 0) (broken : Bool) (number : ℕ) (of-items : List Rule)
+    (so_far : ℕ) (none : so_far ≡ 0) (broken : Bool) (number : ℕ) (of_items : List Rule)
     (r : ℕ) (judged : r ≡ first_broken ((broken, suc number) ∷ [])) where
   abbrev rules : List Rule
-  rules = (broken, suc number) ∷ of-items
+  rules = (broken, suc number) ∷ of_items
 
   pub bad_count : (r ≡ 0 → ⊥) → r ≡ then so_far rules
   bad_count f = let s = single broken number r judged f in s.1 ∙ sym (then_rules so_far rules none ∙ rw s.0)
 
-  pub by_items : r ≡ 0 → (last : ℕ) → last ≡ first_broken of-items → last ≡ then so_far rules
+  pub by_items : r ≡ 0 → (last : ℕ) → last ≡ first_broken of_items → last ≡ then so_far rules
   by_items e last q = q ∙ sym (then_rules so_far rules none ∙ rw (unbroken broken number r judged e))

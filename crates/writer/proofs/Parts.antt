@@ -49,25 +49,25 @@ module _ (given : Given) (job : Job) where
       → p ≡ then w (parts.of_places given job) →
       b ≡ then p (parts.of_bands given job) → s ≡ then b (parts.of_shuffles given job) → s ≡ first_broken (part_rules given job)
   unfolding part_rules
-  parts_judged v c w p b s v-is c-is w-is p-is b-is s-is =
+  parts_judged v c w p b s v_is c_is w_is p_is b_is s_is =
       let of_categories = parts.of_categories given job in
       let of_weights = parts.of_weights given job in
       let of_places = parts.of_places given job in
       let of_bands = parts.of_bands given job in
       let of_shuffles = parts.of_shuffles given job in
-      let to-weights = of_values ++ of_categories in
-      let to_places = to-weights ++ of_weights in
+      let to_weights = of_values ++ of_categories in
+      let to_places = to_weights ++ of_weights in
       let to_bands = to_places ++ of_places in
       let to_shuffles = to_bands ++ of_bands in
       let n2 = numbered_both of_values of_categories (tt, tt) (tt, (tt, tt)) in
-      let n3 = numbered_both to-weights of_weights n2 (weights_numbered given job) in
+      let n3 = numbered_both to_weights of_weights n2 (weights_numbered given job) in
       let n4 = numbered_both to_places of_places n3 (tt, places_numbered job.places) in
       let n5 = numbered_both to_bands of_bands n4 (tt, (tt, tt)) in
-      let e2 = next of_values of_categories v c (tt, tt) v-is c-is in
-      let e3 = next to-weights of_weights c w n2 e2 w-is in
-      let e4 = next to_places of_places w p n3 e3 p-is in
-      let e5 = next to_bands of_bands p b n4 e4 b-is in
-      next to_shuffles of_shuffles b s n5 e5 s-is
+      let e2 = next of_values of_categories v c (tt, tt) v_is c_is in
+      let e3 = next to_weights of_weights c w n2 e2 w_is in
+      let e4 = next to_places of_places w p n3 e3 p_is in
+      let e5 = next to_bands of_bands p b n4 e4 b_is in
+      next to_shuffles of_shuffles b s n5 e5 s_is
       ∙ ap first_broken (sym (regroup of_values of_categories of_weights of_places of_bands of_shuffles))
 
   -- 6 and 7 can be judged

@@ -8,9 +8,9 @@ use Rattle.words.specs.Words.{two_bytes}
 use Rattle.image.specs.Image.{section_bytes}
 
 pub section_put :
-    {counted now : List ℕ} (old : List ℕ) (at k : ℕ) (of-items : List ℕ) → counted ≡ sets old at (two_bytes k) →
-    now ≡ sets counted (at + 2) of-items → now ≡ sets old at (section_bytes k of-items)
-section_put {counted} {now} old at k of-items e f =
+    {counted now : List ℕ} (old : List ℕ) (at k : ℕ) (of_items : List ℕ) → counted ≡ sets old at (two_bytes k) →
+    now ≡ sets counted (at + 2) of_items → now ≡ sets old at (section_bytes k of_items)
+section_put {counted} {now} old at k of_items e f =
     let count : Stored old at (two_bytes k) counted = record { same = e } in
-    let section : Stored old at (section_bytes k of-items) now = stored_next of-items count f refl refl in
+    let section : Stored old at (section_bytes k of_items) now = stored_next of_items count f refl refl in
     section.same

@@ -54,8 +54,10 @@ pub slice_bounds-job_sums-end : goal.slice_bounds-job_sums-end
 slice_bounds-job_sums-end c = sym (length-take-le _ _ (zones ((goal.at.slice_bounds-job_sums-end c).Else-refusal-ne0)).room)
 
 pub job_sums-requires : goal.job_sums-requires
-job_sums-requires c = let e = c in record { job = (good ((goal.at.job_sums-requires c).Else-refusal-ne0)).good.job; zones_value = (zones ((goal.at.job_sums-requires c).Else-refusal-ne0)).zones; locals_len = (good ((goal.at.job_sums-requires c).Else-refusal-ne0)).room }
+job_sums-requires c =
+    let else_refusal_ne0 = (goal.at.job_sums-requires c).Else-refusal-ne0 in
+    record { job = (good else_refusal_ne0).good.job; zones_value = (zones else_refusal_ne0).zones; locals_len = (good else_refusal_ne0).room }
 
 pub returns : goal.returns
 unfolding figures_of
-returns c = let j = c in let all = accounted _ _ _ _ _ _ (none ((goal.at.returns c).Else-refusal-ne0)) j.job_sums.ensures.result_value j.job_sums.ensures.locals_after in record { number = all.0; figures = all.1.0; lent = all.1.1 }
+returns c = let all = accounted _ _ _ _ _ _ (none ((goal.at.returns c).Else-refusal-ne0)) c.job_sums.ensures.result_value c.job_sums.ensures.locals_after in record { number = all.0; figures = all.1.0; lent = all.1.1 }

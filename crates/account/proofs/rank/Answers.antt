@@ -59,7 +59,9 @@ pub slice_bounds-work_rank-end : goal.slice_bounds-work_rank-end
 slice_bounds-work_rank-end c = sym (length-take-le _ _ (zones ((goal.at.slice_bounds-work_rank-end c).Else-broken-ne0)).room)
 
 pub work_rank-requires : goal.work_rank-requires
-work_rank-requires c = let e = c in record { job = (good ((goal.at.work_rank-requires c).Else-broken-ne0)).good.job; zones_value = (zones ((goal.at.work_rank-requires c).Else-broken-ne0)).zones; shuffles = subst (Shuffles (a ((goal.at.work_rank-requires c).Else-broken-ne0)).args.shuffles.now (a ((goal.at.work_rank-requires c).Else-broken-ne0)).args.n) (counted ((goal.at.work_rank-requires c).Else-broken-ne0)) (good ((goal.at.work_rank-requires c).Else-broken-ne0)).rows }
+work_rank-requires c =
+    let else_broken_ne0 = (goal.at.work_rank-requires c).Else-broken-ne0 in
+    record { job = (good else_broken_ne0).good.job; zones_value = (zones else_broken_ne0).zones; shuffles = subst (Shuffles (a else_broken_ne0).args.shuffles.now (a else_broken_ne0).args.n) (counted else_broken_ne0) (good else_broken_ne0).rows }
 
 -- the counts of so many rows are those of the job, where they are its shuffles
 as_job :
@@ -74,6 +76,6 @@ as_job n values weights shuffles e f = rw (← e) f
 pub returns : goal.returns
 unfolding number_of counts_of rank_counts
 returns c =
-    let e = c in
-    let g = (a ((goal.at.returns c).Else-broken-ne0)).args in
-    let ranked = as_job g.n g.values.now g.weights.now g.shuffles.now (sym (counted ((goal.at.returns c).Else-broken-ne0))) c.work_rank.ensures in record { number = sym (none ((goal.at.returns c).Else-broken-ne0)); counts = ranked ∙ sym (worked_when_taken _ _ _ (none ((goal.at.returns c).Else-broken-ne0))) }
+    let else_broken_ne0 = (goal.at.returns c).Else-broken-ne0 in
+    let g = (a else_broken_ne0).args in
+    let ranked = as_job g.n g.values.now g.weights.now g.shuffles.now (sym (counted else_broken_ne0)) c.work_rank.ensures in record { number = sym (none else_broken_ne0); counts = ranked ∙ sym (worked_when_taken _ _ _ (none else_broken_ne0)) }

@@ -16,21 +16,18 @@ use Rattle.digits.proofs.decimal.Goals.{After-is_below_zero, After-size-n}
 
 -- what the two calls answer of the number
 size_is : (c : After-size-n) → c.size-n.result ≡ nat_abs c.args.number
-size_is c = let b = c in c.size-n.ensures ∙ ap nat_abs (to_z-of_z w64 b.args.number b.ranges.number)
+size_is c = c.size-n.ensures ∙ ap nat_abs (to_z-of_z w64 c.args.number c.ranges.number)
 
 sign_is : (c : After-is_below_zero) → c.is_below_zero.result ≡ below_zero c.args.number
-sign_is c =
-    let b = c in c.is_below_zero.ensures ∙ ap below_zero (to_z-of_z w64 b.args.number b.ranges.number)
+sign_is c = c.is_below_zero.ensures ∙ ap below_zero (to_z-of_z w64 c.args.number c.ranges.number)
 
 pub decimal_places-k-requires : goal.decimal_places-k-requires
-decimal_places-k-requires c = let b = c in omega (arith, size_most b.args.number b.ranges.number, size_is c)
+decimal_places-k-requires c = omega (arith, size_most c.args.number c.ranges.number, size_is c)
 
 pub returns-then-is_below_zero : goal.returns-then-is_below_zero
 returns-then-is_below_zero c =
-    let b = c in
-    let s = c in
-    let a = s.args in
-    let e : decimal a.number ≡ 45 ∷ unsigned s.size-n.result =
+    let a = c.args in
+    let e : decimal a.number ≡ 45 ∷ unsigned c.size-n.result =
     decimal_below a.number (sym (sign_is ((goal.at.returns-then-is_below_zero c).After-is_below_zero)) ∙ c.if-is_below_zero.true)
     ∙ ap (λ n. 45 ∷ unsigned n) (sym (size_is ((goal.at.returns-then-is_below_zero c).After-size-n))) in
     let many = ap length e in record {
@@ -43,10 +40,8 @@ returns-then-is_below_zero c =
 
 pub returns : goal.returns
 returns c =
-    let b = c in
-    let s = c in
-    let a = s.args in
-    let e : decimal a.number ≡ unsigned s.size-n.result =
+    let a = c.args in
+    let e : decimal a.number ≡ unsigned c.size-n.result =
     decimal_not_below a.number (sym (sign_is ((goal.at.returns c).After-is_below_zero)) ∙ c.if-is_below_zero.false) ∙ ap unsigned (sym (size_is ((goal.at.returns c).After-size-n))) in
     let many = ap length e in record {
       length = omega arith;

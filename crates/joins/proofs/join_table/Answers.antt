@@ -34,11 +34,9 @@ clear-requires c = tt
 
 pub count_joins-requires : goal.count_joins-requires
 count_joins-requires c =
-    let b = c in
-    let g = good ((goal.at.count_joins-requires c).Else-number-ne0) in record { n_bound = g.zones; categories_len = g.categories_fit; weights_len = g.weights_fit; weights_value = g.light; categories_value = g.low; entries_value = b.clear.ensures ∙ ap (table (λ k. pos 0)) g.room_fit }
+    let g = good ((goal.at.count_joins-requires c).Else-number-ne0) in record { n_bound = g.zones; categories_len = g.categories_fit; weights_len = g.weights_fit; weights_value = g.light; categories_value = g.low; entries_value = c.clear.ensures ∙ ap (table (λ k. pos 0)) g.room_fit }
 
 pub returns : goal.returns
 unfolding joins_left
 returns c =
-    let w = c in
-    let z = taken ((goal.at.returns c).Else-number-ne0) in record { number = sym z; lent = w.count_joins.ensures ∙ sym (worked_when_taken _ _ _ z) }
+    let z = taken ((goal.at.returns c).Else-number-ne0) in record { number = sym z; lent = c.count_joins.ensures ∙ sym (worked_when_taken _ _ _ z) }

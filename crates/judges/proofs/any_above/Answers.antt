@@ -23,20 +23,18 @@ loop-i-smaller c = omega arith
 
 pub loop-i-preserved : goal.loop-i-preserved
 loop-i-preserved c =
-    let b = c in
-    let a = b.args in
+    let a = c.args in
     let t = test a.limit a.numbers.now in
-    let i = b.loop-i.i in (
+    let i = c.loop-i.i in (
       omega arith,
       elim c.if-numbers-i.branch [
         | then-numbers-i w ↦ w.found-is ∙ some_found t (i + 1) i (omega arith) (lt-ltb _ _ w.if-numbers-i.true)
-        | else-numbers-i w ↦ w.found-is ∙ b.loop-i.invariant.1 ∙ some_same t i (le-ltb _ _ w.if-numbers-i.false)
+        | else-numbers-i w ↦ w.found-is ∙ c.loop-i.invariant.1 ∙ some_same t i (le-ltb _ _ w.if-numbers-i.false)
       ],
     )
 
 pub returns : goal.returns
 unfolding any_above
 returns c =
-    let b = c in
-    let a = b.args in
-    b.loop-i.invariant.1 ∙ ap (some (test a.limit a.numbers.now)) (omega arith)
+    let a = c.args in
+    c.loop-i.invariant.1 ∙ ap (some (test a.limit a.numbers.now)) (omega arith)

@@ -76,26 +76,23 @@ bounds-numbers-i c = omega arith
 
 pub overflow_cast-x : goal.overflow_cast-x
 overflow_cast-x c =
-    let b = c in
-    fit w64 (number_is (at b.args.numbers.now b.loop-i.i) c.x-1.given) tt
+    fit w64 (number_is (at c.args.numbers.now c.loop-i.i) c.x-1.given) tt
 
 pub returns-then-x-high : goal.returns-then-x-high
 unfolding any_beyond
 returns-then-x-high c =
-    let b = c in
-    let a = b.args in
+    let a = c.args in
     let x = a.numbers.now in
-    some_found (test a.limit x) (length x) b.loop-i.i (omega arith)
-    (high a.limit (at x b.loop-i.i) (omega arith) c.x-1.given c.if-x-high.true)
+    some_found (test a.limit x) (length x) c.loop-i.i (omega arith)
+    (high a.limit (at x c.loop-i.i) (omega arith) c.x-1.given c.if-x-high.true)
 
 pub returns-then-x-low : goal.returns-then-x-low
 unfolding any_beyond
 returns-then-x-low c =
-    let b = c in
-    let a = b.args in
+    let a = c.args in
     let x = a.numbers.now in
-    some_found (test a.limit x) (length x) b.loop-i.i (omega arith)
-    (low a.limit (at x b.loop-i.i) (omega arith) c.x-1.given c.if-x-low.true)
+    some_found (test a.limit x) (length x) c.loop-i.i (omega arith)
+    (low a.limit (at x c.loop-i.i) (omega arith) c.x-1.given c.if-x-low.true)
 
 pub overflow_add-i : goal.overflow_add-i
 overflow_add-i c = omega arith
@@ -105,16 +102,14 @@ loop-i-smaller c = omega arith
 
 pub loop-i-preserved : goal.loop-i-preserved
 loop-i-preserved c =
-    let b = c in
-    let a = b.args in
+    let a = c.args in
     let x = a.numbers.now in
     let passed =
-    neither a.limit (at x b.loop-i.i) (omega arith) c.x-1.given c.if-x-high.false c.if-x-low.false in
-    (omega arith, some_more (test a.limit x) b.loop-i.i b.loop-i.invariant.1 passed)
+    neither a.limit (at x c.loop-i.i) (omega arith) c.x-1.given c.if-x-high.false c.if-x-low.false in
+    (omega arith, some_more (test a.limit x) c.loop-i.i c.loop-i.invariant.1 passed)
 
 pub returns : goal.returns
 unfolding any_beyond
 returns c =
-    let b = c in
-    let a = b.args in
-    some_done (test a.limit a.numbers.now) b.loop-i.i _ (omega arith) b.loop-i.invariant.1
+    let a = c.args in
+    some_done (test a.limit a.numbers.now) c.loop-i.i _ (omega arith) c.loop-i.invariant.1

@@ -37,9 +37,8 @@ loop-i-init c = (omega arith, omega arith, some_zero _)
 pub returns-then-place-weights : goal.returns-then-place-weights
 unfolding any_on_diagonal
 returns-then-place-weights c =
-    let b = c in
-    let a = b.args in
-    rest_behind a.n a.weights.now b.loop-i.i b.loop-i.invariant.2 (omega arith)
+    let a = c.args in
+    rest_behind a.n a.weights.now c.loop-i.i c.loop-i.invariant.2 (omega arith)
 
 pub bounds-weights-place : goal.bounds-weights-place
 bounds-weights-place c = omega arith
@@ -47,10 +46,9 @@ bounds-weights-place c = omega arith
 pub returns-then-weights-place-gt0 : goal.returns-then-weights-place-gt0
 unfolding any_on_diagonal pair_at
 returns-then-weights-place-gt0 c =
-    let b = c in
-    let a = b.args in
-    let here = ap (λ k. get_or a.weights.now k 0) b.loop-i.invariant.1 in
-    some_found (test a.n a.weights.now) a.n b.loop-i.i (omega arith) (sym (ap (ltb 0) here) ∙ lt-ltb _ _ c.if-weights-place-gt0.true)
+    let a = c.args in
+    let here = ap (λ k. get_or a.weights.now k 0) c.loop-i.invariant.1 in
+    some_found (test a.n a.weights.now) a.n c.loop-i.i (omega arith) (sym (ap (ltb 0) here) ∙ lt-ltb _ _ c.if-weights-place-gt0.true)
 
 pub overflow_sub-weights : goal.overflow_sub-weights
 overflow_sub-weights c = omega arith
@@ -62,17 +60,15 @@ passed : (c : Else-weights-place-gt0) →
     some (test a.n a.weights.now) (b.loop-i.i + 1) ≡ false
 unfolding pair_at
 passed c =
-    let b = c in
-    let a = b.args in
-    let here = ap (λ k. get_or a.weights.now k 0) b.loop-i.invariant.1 in
-    some_more (test a.n a.weights.now) b.loop-i.i b.loop-i.invariant.2 (sym (ap (ltb 0) here) ∙ le-ltb _ _ c.if-weights-place-gt0.false)
+    let a = c.args in
+    let here = ap (λ k. get_or a.weights.now k 0) c.loop-i.invariant.1 in
+    some_more (test a.n a.weights.now) c.loop-i.i c.loop-i.invariant.2 (sym (ap (ltb 0) here) ∙ le-ltb _ _ c.if-weights-place-gt0.false)
 
 pub returns-then-weights-place : goal.returns-then-weights-place
 unfolding any_on_diagonal
 returns-then-weights-place c =
-    let b = c in
-    let a = b.args in
-    rest_behind a.n a.weights.now (b.loop-i.i + 1) (passed ((goal.at.returns-then-weights-place c).Else-weights-place-gt0)) (omega arith)
+    let a = c.args in
+    rest_behind a.n a.weights.now (c.loop-i.i + 1) (passed ((goal.at.returns-then-weights-place c).Else-weights-place-gt0)) (omega arith)
 
 pub overflow_add-place : goal.overflow_add-place
 overflow_add-place c = omega arith
@@ -92,6 +88,5 @@ loop-i-preserved c = (omega arith, omega arith, passed ((goal.at.loop-i-preserve
 pub returns : goal.returns
 unfolding any_on_diagonal
 returns c =
-    let b = c in
-    let a = b.args in
-    some_done (test a.n a.weights.now) b.loop-i.i _ (omega arith) b.loop-i.invariant.2
+    let a = c.args in
+    some_done (test a.n a.weights.now) c.loop-i.i _ (omega arith) c.loop-i.invariant.2

@@ -21,9 +21,8 @@ by_second x a b e f = rw (e, f) refl
 
 two : (c : Joined-q-lt1) → c.if-q-lt1.value ≡ (lt_z c.args.q (pos 1) || beyond ratio_limit c.args.p)
 two c =
-    let a = c in
-    let q = ap (λ (z : ℤ). lt_z z (pos 1)) (to_z-of_z w64 a.args.q a.ranges.q) in
-    let p = ap nat_abs (to_z-of_z w64 a.args.p a.ranges.p) in
+    let q = ap (λ (z : ℤ). lt_z z (pos 1)) (to_z-of_z w64 c.args.q c.ranges.q) in
+    let p = ap nat_abs (to_z-of_z w64 c.args.p c.ranges.p) in
     elim c.if-q-lt1.branch [
       | then-q-lt1 w ↦ by_first _ _ _ (w.value-is ∙ q) (sym q ∙ w.if-q-lt1.true)
       | else-q-lt1 w ↦ by_second _ _ _ (w.value-is ∙ ap (ltb ratio_limit) (w.size.ensures ∙ p)) (sym q ∙ w.if-q-lt1.false)
@@ -34,8 +33,7 @@ three :
     let a = c.args in
     c.if-size-gt-LIMIT.value ≡ (lt_z a.q (pos 1) || beyond ratio_limit a.p || beyond ratio_limit a.q)
 three c =
-    let a = c in
-    let q = ap nat_abs (to_z-of_z w64 a.args.q a.ranges.q) in
+    let q = ap nat_abs (to_z-of_z w64 c.args.q c.ranges.q) in
     let first = two ((goal.at.Joined-size-gt-LIMIT c).Joined-q-lt1) in
     elim c.if-size-gt-LIMIT.branch [
       | then-size-gt-LIMIT w ↦ by_first _ _ _ (w.value-is ∙ first) (sym first ∙ w.if-size-gt-LIMIT.true)

@@ -37,11 +37,10 @@ scaled-requires c =
 
 pub returns : goal.returns
 returns c =
-    let s = c in
     let by = c.widened-by in
     let x = c.long_division-x in
     let m = c.half_to_even-m in
     c.scaled.ensures
-    ∙ joined s.args.a s.args.q by.result.divisor by.result.doublings
+    ∙ joined c.args.a c.args.q by.result.divisor by.result.doublings
     x.result.whole x.result.rest x.result.halvings m.result
-    s.requires.q_nonzero by.ensures x.ensures m.ensures
+    c.requires.q_nonzero by.ensures x.ensures m.ensures

@@ -25,10 +25,8 @@ slice_bounds-bytes_in-end c = sym (length-take-le _ c.args.text.now (omega arith
 
 pub returns : goal.returns
 returns c =
-    let f = c in
-    let s = c in
-    let a = s.args in
-    let start = s.least-start.result in
-    let fits = f.least-fits.result in
+    let a = c.args in
+    let start = c.least-start.result in
+    let fits = c.least-fits.result in
     let put = filled a.text.now a.page.now _ start fits (omega arith) (omega arith) c.bytes_in.ensures in
-    puts_fitting a.page.now a.text.now a.at start fits s.least-start.ensures f.least-fits.ensures put
+    puts_fitting a.page.now a.text.now a.at start fits c.least-start.ensures c.least-fits.ensures put

@@ -15,10 +15,9 @@ put_byte-place-requires c = tt
 pub slice_bounds-put-end : goal.slice_bounds-put-end
 unfolding bits
 slice_bounds-put-end c =
-    let d = c in
-    let number = d.args.bits in
+    let number = c.args.bits in
     let sixteen : length (hexadecimal number) ≡ 16 = omega (arith, bits_width number) in
-    sym (ap length d.hexadecimal.ensures ∙ sixteen)
+    sym (ap length c.hexadecimal.ensures ∙ sixteen)
 
 pub put-requires : goal.put-requires
 put-requires c = tt
@@ -26,7 +25,4 @@ put-requires c = tt
 pub returns : goal.returns
 unfolding bits
 returns c =
-    let b = c in
-    let s = c in
-    let d = c in
-    puts_as (puts_then s.put_byte-place.ensures b.put.ensures) (ap (λ l. 32 ∷ l) d.hexadecimal.ensures)
+    puts_as (puts_then c.put_byte-place.ensures c.put.ensures) (ap (λ l. 32 ∷ l) c.hexadecimal.ensures)

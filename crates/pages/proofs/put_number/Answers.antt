@@ -56,6 +56,4 @@ put-requires c = tt
 
 pub returns : goal.returns
 returns c =
-    let b = c in
-    let s = c in
-    puts_as (puts_then s.put_byte-place.ensures b.put.ensures) (ap (λ l. 32 ∷ l) (front ((goal.at.returns c).After-decimal-k)))
+    puts_as (puts_then c.put_byte-place.ensures c.put.ensures) (ap (λ l. 32 ∷ l) (front ((goal.at.returns c).After-decimal-k)))

@@ -49,12 +49,11 @@ loop-i-smaller c = omega arith
 
 pub loop-i-preserved : goal.loop-i-preserved
 loop-i-preserved c =
-    let b = c in
-    let l = b.loop-i in
-    let list = b.args.list.now in
+    let l = c.loop-i in
+    let list = c.args.list.now in
     let number = get_or list l.i (pos 0) in
     let fits : SFits w64 number = search rules in
-    let puts = puts_as b.put_number-place.ensures (ap printed (to_z-of_z w64 number fits)) in
+    let puts = puts_as c.put_number-place.ensures (ap printed (to_z-of_z w64 number fits)) in
     let all : (k : ℕ) → k < l.i + 1 → SFits w64 (get_or list k (pos 0)) = λ k p. one_more list l.i l.invariant.1.1 fits k p in
     (omega arith, (puts_each_next printed list l.i (pos 0) (omega arith) l.invariant.1.0 puts, all))
 

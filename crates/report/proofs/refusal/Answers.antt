@@ -11,12 +11,9 @@ pub returns-then-page-ne16384 : goal.returns-then-page-ne16384
 returns-then-page-ne16384 c = let a = c.args in let all = line_by_page a.number a.page.now c.if-page-ne16384.true in record { number = all.0; length = all.1.0; page = all.1.1 }
 
 pub put_line-requires : goal.put_line-requires
-put_line-requires c = let e = c in record { short = record { letters = omega arith; items = omega arith }; room = omega (arith, e.if-page-ne16384.false) }
+put_line-requires c = record { short = record { letters = omega arith; items = omega arith }; room = omega (arith, c.if-page-ne16384.false) }
 
 pub returns : goal.returns
 unfolding refusal_line
-returns c =
-    let b = c in
-    let e = c in
-    let s = c in let all = line_by_text s.args.number s.args.page.now e.if-page-ne16384.false
-    (put_as b.put_line.ensures (rw (nat w64 s.args.number 255 (omega (arith, s.ranges.number.fits)) tt).same)) in record { number = all.0; length = all.1.0; page = all.1.1 }
+returns c = let all = line_by_text c.args.number c.args.page.now c.if-page-ne16384.false
+    (put_as c.put_line.ensures (rw (nat w64 c.args.number 255 (omega (arith, c.ranges.number.fits)) tt).same)) in record { number = all.0; length = all.1.0; page = all.1.1 }

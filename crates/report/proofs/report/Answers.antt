@@ -11,6 +11,4 @@ put_report-requires c = omega (arith, c.if-page-ne16384.false)
 
 pub returns : goal.returns
 returns c =
-    let b = c in
-    let e = c in
-    let a = e.args in let all = by_image a.image.now a.page.now e.if-page-ne16384.false _ _ b.put_report.ensures in record { number = all.0; length = all.1.0; page = all.1.1 }
+    let a = c.args in let all = by_image a.image.now a.page.now c.if-page-ne16384.false _ _ c.put_report.ensures in record { number = all.0; length = all.1.0; page = all.1.1 }

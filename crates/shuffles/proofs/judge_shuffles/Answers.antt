@@ -27,11 +27,13 @@ module _ (c : Else-n-gt64) where
 
 -- the rows that the code counts are the shuffles
 counted : (c : Else-rows-gt499) → let b = c in shuffle_count (n ((goal.at.Else-rows-gt499 c).Else-n-gt64)) (long ((goal.at.Else-rows-gt499 c).Else-n-gt64)) ≡ long ((goal.at.Else-rows-gt499 c).Else-n-gt64) / n ((goal.at.Else-rows-gt499 c).Else-n-gt64)
-counted c = let b = c in all_rows (n ((goal.at.Else-rows-gt499 c).Else-n-gt64)) (long ((goal.at.Else-rows-gt499 c).Else-n-gt64)) c.if-rows-gt499.false
+counted c =
+    let else_n_gt64 = (goal.at.Else-rows-gt499 c).Else-n-gt64 in
+    all_rows (n else_n_gt64) (long else_n_gt64) c.if-rows-gt499.false
 
 -- and the list has nothing beside them
 whole : (c : Else-shuffles-rows) → let b = c in long ((goal.at.Else-shuffles-rows c).Else-n-gt64) ≡ shuffle_count (n ((goal.at.Else-shuffles-rows c).Else-n-gt64)) (long ((goal.at.Else-shuffles-rows c).Else-n-gt64)) * n ((goal.at.Else-shuffles-rows c).Else-n-gt64)
-whole c = let b = c in c.if-shuffles-rows.false ∙ ap (λ r. r * n ((goal.at.Else-shuffles-rows c).Else-n-gt64)) (sym (counted ((goal.at.Else-shuffles-rows c).Else-rows-gt499)))
+whole c = c.if-shuffles-rows.false ∙ ap (λ r. r * n ((goal.at.Else-shuffles-rows c).Else-n-gt64)) (sym (counted ((goal.at.Else-shuffles-rows c).Else-rows-gt499)))
 
 -- what the search finds is what the last rule asks
 searched :
@@ -51,19 +53,21 @@ returns-then-n-gt64 c = simp (le-ltb _ _ c.if-n-lt2.false, lt-ltb _ _ c.if-n-gt6
 pub returns-then-rows-gt499 : goal.returns-then-rows-gt499
 unfolding shuffle_refusal
 returns-then-rows-gt499 c =
-    let b = c in
-    let e = too_many (n ((goal.at.returns-then-rows-gt499 c).Else-n-gt64)) (long ((goal.at.returns-then-rows-gt499 c).Else-n-gt64)) (some_zones ((goal.at.returns-then-rows-gt499 c).Else-n-gt64)) c.if-rows-gt499.true in
-    simp (le-ltb _ _ b.if-n-lt2.false, le-ltb _ _ b.if-n-gt64.false, ne_eqb _ _ e)
+    let else_n_gt64 = (goal.at.returns-then-rows-gt499 c).Else-n-gt64 in
+    let e = too_many (n else_n_gt64) (long else_n_gt64) (some_zones else_n_gt64) c.if-rows-gt499.true in
+    simp (le-ltb _ _ c.if-n-lt2.false, le-ltb _ _ c.if-n-gt64.false, ne_eqb _ _ e)
 
 pub overflow_mul-rows : goal.overflow_mul-rows
-overflow_mul-rows c = let b = c in omega (arith, N.div-mul-le_self (long ((goal.at.overflow_mul-rows c).Else-n-gt64)) (n ((goal.at.overflow_mul-rows c).Else-n-gt64)))
+overflow_mul-rows c =
+    let else_n_gt64 = (goal.at.overflow_mul-rows c).Else-n-gt64 in
+    omega (arith, N.div-mul-le_self (long else_n_gt64) (n else_n_gt64))
 
 pub returns-then-shuffles-rows : goal.returns-then-shuffles-rows
 unfolding shuffle_refusal
 returns-then-shuffles-rows c =
-    let b = c in
-    let e : long ((goal.at.returns-then-shuffles-rows c).Else-n-gt64) ≡ shuffle_count (n ((goal.at.returns-then-shuffles-rows c).Else-n-gt64)) (long ((goal.at.returns-then-shuffles-rows c).Else-n-gt64)) * n ((goal.at.returns-then-shuffles-rows c).Else-n-gt64) → ⊥ = λ q. c.if-shuffles-rows.true (q ∙ ap (λ r. r * n ((goal.at.returns-then-shuffles-rows c).Else-n-gt64)) (counted ((goal.at.returns-then-shuffles-rows c).Else-rows-gt499))) in
-    simp (le-ltb _ _ b.if-n-lt2.false, le-ltb _ _ b.if-n-gt64.false, ne_eqb _ _ e)
+    let else_n_gt64 = (goal.at.returns-then-shuffles-rows c).Else-n-gt64 in
+    let e : long else_n_gt64 ≡ shuffle_count (n else_n_gt64) (long else_n_gt64) * n else_n_gt64 → ⊥ = λ q. c.if-shuffles-rows.true (q ∙ ap (λ r. r * n else_n_gt64) (counted ((goal.at.returns-then-shuffles-rows c).Else-rows-gt499))) in
+    simp (le-ltb _ _ c.if-n-lt2.false, le-ltb _ _ c.if-n-gt64.false, ne_eqb _ _ e)
 
 pub any_lacking-requires : goal.any_lacking-requires
 any_lacking-requires c = record { n_bound = c.if-n-gt64.false; rows_bound = c.if-rows-gt499.false; shuffles_len = c.if-shuffles-rows.false }
@@ -71,13 +75,9 @@ any_lacking-requires c = record { n_bound = c.if-n-gt64.false; rows_bound = c.if
 pub returns-then-any_lacking : goal.returns-then-any_lacking
 unfolding shuffle_refusal
 returns-then-any_lacking c =
-    let e = c in
-    let b = c in
-    simp (le-ltb _ _ b.if-n-lt2.false, le-ltb _ _ b.if-n-gt64.false, eq-eqb _ _ (whole ((goal.at.returns-then-any_lacking c).Else-shuffles-rows)), searched ((goal.at.returns-then-any_lacking c).After-any_lacking) ∙ c.if-any_lacking.true)
+    simp (le-ltb _ _ c.if-n-lt2.false, le-ltb _ _ c.if-n-gt64.false, eq-eqb _ _ (whole ((goal.at.returns-then-any_lacking c).Else-shuffles-rows)), searched ((goal.at.returns-then-any_lacking c).After-any_lacking) ∙ c.if-any_lacking.true)
 
 pub returns : goal.returns
 unfolding shuffle_refusal
 returns c =
-    let e = c in
-    let b = c in
-    simp (le-ltb _ _ b.if-n-lt2.false, le-ltb _ _ b.if-n-gt64.false, eq-eqb _ _ (whole ((goal.at.returns c).Else-shuffles-rows)), searched ((goal.at.returns c).After-any_lacking) ∙ c.if-any_lacking.false)
+    simp (le-ltb _ _ c.if-n-lt2.false, le-ltb _ _ c.if-n-gt64.false, eq-eqb _ _ (whole ((goal.at.returns c).Else-shuffles-rows)), searched ((goal.at.returns c).After-any_lacking) ∙ c.if-any_lacking.false)

@@ -25,16 +25,15 @@ loop-k-smaller c = omega arith
 
 pub loop-k-preserved : goal.loop-k-preserved
 loop-k-preserved c =
-    let b = c in
-    let bytes = b.args.bytes.now in
-    let is : c.if-k-bytes.number ≡ byte_at bytes b.loop-k.k =
+    let bytes = c.args.bytes.now in
+    let is : c.if-k-bytes.number ≡ byte_at bytes c.loop-k.k =
     elim c.if-k-bytes.branch [
       | then-k-bytes w ↦ w.number-is
-      | else-k-bytes w ↦ w.number-is ∙ sym (byte_beyond bytes b.loop-k.k w.if-k-bytes.false)
+      | else-k-bytes w ↦ w.number-is ∙ sym (byte_beyond bytes c.loop-k.k w.if-k-bytes.false)
     ] in (
       omega arith,
-      length-set b.loop-k.numbers b.loop-k.k _ ∙ b.loop-k.invariant.1,
-      stored (byte_at bytes) 0 _ b.loop-k.numbers b.loop-k.k (omega arith) is b.loop-k.invariant.2,
+      length-set c.loop-k.numbers c.loop-k.k _ ∙ c.loop-k.invariant.1,
+      stored (byte_at bytes) 0 _ c.loop-k.numbers c.loop-k.k (omega arith) is c.loop-k.invariant.2,
     )
 
 pub shape_of-numbers : goal.shape_of-numbers

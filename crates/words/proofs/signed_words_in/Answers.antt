@@ -37,13 +37,12 @@ loop-k-smaller c = omega arith
 
 pub loop-k-preserved : goal.loop-k-preserved
 loop-k-preserved c =
-    let b = c in
-    let bytes = b.args.bytes.now in
+    let bytes = c.args.bytes.now in
     let number = c.signed_word-number.result in
     let is = to_z-of_z w32 number (sfits_of c.signed_word-number.type_inv) ∙ c.signed_word-number.ensures ∙ ap (to_z w32) c.word_at.ensures in (
       omega arith,
-      length-set b.loop-k.numbers b.loop-k.k _ ∙ b.loop-k.invariant.1,
-      stored (number_at bytes) (pos 0) _ b.loop-k.numbers b.loop-k.k (omega arith) is b.loop-k.invariant.2,
+      length-set c.loop-k.numbers c.loop-k.k _ ∙ c.loop-k.invariant.1,
+      stored (number_at bytes) (pos 0) _ c.loop-k.numbers c.loop-k.k (omega arith) is c.loop-k.invariant.2,
     )
 
 pub shape_of-numbers : goal.shape_of-numbers

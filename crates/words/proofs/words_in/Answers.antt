@@ -29,11 +29,10 @@ loop-k-smaller c = omega arith
 
 pub loop-k-preserved : goal.loop-k-preserved
 loop-k-preserved c =
-    let b = c in
-    let bytes = b.args.bytes.now in (
+    let bytes = c.args.bytes.now in (
       omega arith,
-      length-set b.loop-k.numbers b.loop-k.k _ ∙ b.loop-k.invariant.1,
-      stored (number_at bytes) 0 _ b.loop-k.numbers b.loop-k.k (omega arith) c.word_at-number.ensures b.loop-k.invariant.2,
+      length-set c.loop-k.numbers c.loop-k.k _ ∙ c.loop-k.invariant.1,
+      stored (number_at bytes) 0 _ c.loop-k.numbers c.loop-k.k (omega arith) c.word_at-number.ensures c.loop-k.invariant.2,
     )
 
 pub shape_of-numbers : goal.shape_of-numbers

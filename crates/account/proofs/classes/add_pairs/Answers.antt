@@ -107,57 +107,71 @@ module _ (c : After-squared_difference-square) where
   each (suc (suc place)) = (rd w64 squares_is tt).same
 
 pub overflow_mul-row : goal.overflow_mul-row
-overflow_mul-row c = let s = c in omega (arith, within (n ((goal.at.overflow_mul-row c).Start)) (i ((goal.at.overflow_mul-row c).Start)) (i ((goal.at.overflow_mul-row c).Start)) (inside ((goal.at.overflow_mul-row c).Start)) (inside ((goal.at.overflow_mul-row c).Start)), few (n ((goal.at.overflow_mul-row c).Start)) (zones ((goal.at.overflow_mul-row c).Start)))
+overflow_mul-row c =
+    let start = (goal.at.overflow_mul-row c).Start in
+    omega (arith, within (n start) (i start) (i start) (inside start) (inside start), few (n start) (zones start))
 
 pub offset_bounds-values-i : goal.offset_bounds-values-i
-offset_bounds-values-i c = let s = c in omega (arith, inside ((goal.at.offset_bounds-values-i c).Start), zones ((goal.at.offset_bounds-values-i c).Start))
+offset_bounds-values-i c =
+    let start = (goal.at.offset_bounds-values-i c).Start in
+    omega (arith, inside start, zones start)
 
 pub bounds-values-i : goal.bounds-values-i
-bounds-values-i c = let s = c in omega (arith, inside ((goal.at.bounds-values-i c).Start), s.requires.class_job.job.valued.near.count)
+bounds-values-i c = omega (arith, inside ((goal.at.bounds-values-i c).Start), c.requires.class_job.job.valued.near.count)
 
 pub loop-j-init : goal.loop-j-init
 loop-j-init c =
-    let s = c in
-    (omega arith, no_pairs (n ((goal.at.loop-j-init c).Start)) (values ((goal.at.loop-j-init c).Start)) (weights ((goal.at.loop-j-init c).Start)) (classes ((goal.at.loop-j-init c).Start)) (i ((goal.at.loop-j-init c).Start)) _ s.requires.parts_value)
+    let start = (goal.at.loop-j-init c).Start in
+    (omega arith, no_pairs (n start) (values start) (weights start) (classes start) (i start) _ c.requires.parts_value)
 
 pub overflow_add-pair : goal.overflow_add-pair
 overflow_add-pair c = omega (arith, pair_in c, few (n (start c)) (zones (start c)))
 
 pub bounds-classes-pair : goal.bounds-classes-pair
-bounds-classes-pair c = omega (arith, pair_in ((goal.at.bounds-classes-pair c).In-loop-j), (start ((goal.at.bounds-classes-pair c).In-loop-j)).requires.class_job.count)
+bounds-classes-pair c =
+    let in_loop_j = (goal.at.bounds-classes-pair c).In-loop-j in
+    omega (arith, pair_in in_loop_j, (start in_loop_j).requires.class_job.count)
 
 pub overflow_cast-k : goal.overflow_cast-k
 overflow_cast-k c = omega (arith, low ((goal.at.overflow_cast-k c).In-loop-j))
 
 pub bounds-weights-pair : goal.bounds-weights-pair
-bounds-weights-pair c = let t = c in omega (arith, pair_in ((goal.at.bounds-weights-pair c).In-loop-j), (start ((goal.at.bounds-weights-pair c).In-loop-j)).requires.class_job.job.weighted.count)
+bounds-weights-pair c =
+    let in_loop_j = (goal.at.bounds-weights-pair c).In-loop-j in
+    omega (arith, pair_in in_loop_j, (start in_loop_j).requires.class_job.job.weighted.count)
 
 pub overflow_cast-weight : goal.overflow_cast-weight
 overflow_cast-weight c =
-    let t = c in
-    let s = start ((goal.at.overflow_cast-weight c).In-loop-j) in
-    fits_le w64 (pos (get_or (weights s) (i s * n s + j ((goal.at.overflow_cast-weight c).In-loop-j)) 0)) 9 (s.requires.class_job.job.weighted.light (i s * n s + j ((goal.at.overflow_cast-weight c).In-loop-j)) (pair_in ((goal.at.overflow_cast-weight c).In-loop-j))) tt
+    let in_loop_j = (goal.at.overflow_cast-weight c).In-loop-j in
+    let s = start in_loop_j in
+    fits_le w64 (pos (get_or (weights s) (i s * n s + j in_loop_j) 0)) 9 (s.requires.class_job.job.weighted.light (i s * n s + j in_loop_j) (pair_in in_loop_j)) tt
 
 pub offset_bounds-d-j : goal.offset_bounds-d-j
-offset_bounds-d-j c = let t = c in omega (arith, passing ((goal.at.offset_bounds-d-j c).In-loop-j), zones (start ((goal.at.offset_bounds-d-j c).In-loop-j)))
+offset_bounds-d-j c =
+    let in_loop_j = (goal.at.offset_bounds-d-j c).In-loop-j in
+    omega (arith, passing in_loop_j, zones (start in_loop_j))
 
 pub bounds-d-j : goal.bounds-d-j
 bounds-d-j c =
-    let t = c in
-    let s = start ((goal.at.bounds-d-j c).In-loop-j) in
-    omega (arith, passing ((goal.at.bounds-d-j c).In-loop-j), (deviations_sized (values s) (n s) s.args.d.now s.requires.class_job.job.valued s.requires.d_value).count)
+    let in_loop_j = (goal.at.bounds-d-j c).In-loop-j in
+    let s = start in_loop_j in
+    omega (arith, passing in_loop_j, (deviations_sized (values s) (n s) s.args.d.now s.requires.class_job.job.valued s.requires.d_value).count)
 
 pub offset_bounds-values-j : goal.offset_bounds-values-j
-offset_bounds-values-j c = let t = c in omega (arith, passing ((goal.at.offset_bounds-values-j c).In-loop-j), zones (start ((goal.at.offset_bounds-values-j c).In-loop-j)))
+offset_bounds-values-j c =
+    let in_loop_j = (goal.at.offset_bounds-values-j c).In-loop-j in
+    omega (arith, passing in_loop_j, zones (start in_loop_j))
 
 pub bounds-values-j : goal.bounds-values-j
-bounds-values-j c = let t = c in omega (arith, passing ((goal.at.bounds-values-j c).In-loop-j), (start ((goal.at.bounds-values-j c).In-loop-j)).requires.class_job.job.valued.near.count)
+bounds-values-j c =
+    let in_loop_j = (goal.at.bounds-values-j c).In-loop-j in
+    omega (arith, passing in_loop_j, (start in_loop_j).requires.class_job.job.valued.near.count)
 
 pub squared_difference-square-requires : goal.squared_difference-square-requires
 squared_difference-square-requires c =
-    let t = c in
-    let s = start ((goal.at.squared_difference-square-requires c).In-loop-j) in
-    let v = s.requires.class_job.job.valued in record { a_bound = read_le (values s) (n s) v (i s) (inside s); b_bound = read_le (values s) (n s) v (j ((goal.at.squared_difference-square-requires c).In-loop-j)) (passing ((goal.at.squared_difference-square-requires c).In-loop-j)) }
+    let in_loop_j = (goal.at.squared_difference-square-requires c).In-loop-j in
+    let s = start in_loop_j in
+    let v = s.requires.class_job.job.valued in record { a_bound = read_le (values s) (n s) v (i s) (inside s); b_bound = read_le (values s) (n s) v (j in_loop_j) (passing in_loop_j) }
 
 pub overflow_mul-weight : goal.overflow_mul-weight
 overflow_mul-weight c = fit w64 (cross_is (turn ((goal.at.overflow_mul-weight c).After-squared_difference-square))) tt
@@ -167,13 +181,14 @@ overflow_mul-weight-in-loop-j c = fit w64 (squares_is ((goal.at.overflow_mul-wei
 
 pub add_row-requires : goal.add_row-requires
 add_row-requires c =
-    let t = turn ((goal.at.add_row-requires c).After-squared_difference-square) in
+    let after_squared_difference_square = (goal.at.add_row-requires c).After-squared_difference-square in
+    let t = turn after_squared_difference_square in
     let s = start t in
     let b = t.loop-j in
     let sized = pairs_sized (n s) (values s) (weights s) (classes s) s.requires.class_job (i s) (j t) _ (inside s) b.invariant.0 b.invariant.1 in
     let weight = added_small (weight_is t) (omega arith) in
     let cross = added_small (rd w64 (cross_is t) tt) (omega arith) in
-    let squares = added_small (rd w64 (squares_is ((goal.at.add_row-requires c).After-squared_difference-square)) tt) (omega arith) in record { sized = sized; k_bound = omega (arith, low t); weight_bound = weight; cross_bound = cross; squares_bound = squares }
+    let squares = added_small (rd w64 (squares_is after_squared_difference_square) tt) (omega arith) in record { sized = sized; k_bound = omega (arith, low t); weight_bound = weight; cross_bound = cross; squares_bound = squares }
 
 pub overflow_add-j : goal.overflow_add-j
 overflow_add-j c = let t = turn ((goal.at.overflow_add-j c).After-squared_difference-square) in omega (arith, passing t, zones (start t))
@@ -184,22 +199,21 @@ loop-j-smaller c = omega (arith, passing (turn ((goal.at.loop-j-smaller c).After
 pub loop-j-preserved : goal.loop-j-preserved
 unfolding pair_at
 loop-j-preserved c =
-    let d = c in
-    let t = turn ((goal.at.loop-j-preserved c).After-squared_difference-square) in
+    let after_squared_difference_square = (goal.at.loop-j-preserved c).After-squared_difference-square in
+    let t = turn after_squared_difference_square in
     let s = start t in
     let b = t.loop-j in (
       omega (arith, passing t),
-      one_pair (n s) (values s) (weights s) (classes s) (i s) (j t) (added ((goal.at.loop-j-preserved c).After-squared_difference-square)) b.parts _ b.invariant.1
-          c.add_row.ensures (each ((goal.at.loop-j-preserved c).After-squared_difference-square)),
+      one_pair (n s) (values s) (weights s) (classes s) (i s) (j t) (added after_squared_difference_square) b.parts _ b.invariant.1
+          c.add_row.ensures (each after_squared_difference_square),
     )
 
 pub shape_of-parts : goal.shape_of-parts
 shape_of-parts c =
-    let s = c in
-    ap length c.loop-j.invariant.1 ∙ rows_length _ 9 3 ∙ sym (ap length s.requires.parts_value ∙ rows_length _ 9 3)
+    ap length c.loop-j.invariant.1 ∙ rows_length _ 9 3 ∙ sym (ap length c.requires.parts_value ∙ rows_length _ 9 3)
 
 pub returns : goal.returns
 returns c =
-    let s = c in
+    let start = (goal.at.returns c).Start in
     let b = c.loop-j in
-    all_pairs (n ((goal.at.returns c).Start)) (values ((goal.at.returns c).Start)) (weights ((goal.at.returns c).Start)) (classes ((goal.at.returns c).Start)) (i ((goal.at.returns c).Start)) b.j b.parts (omega (arith, b.invariant.0)) b.invariant.1
+    all_pairs (n start) (values start) (weights start) (classes start) (i start) b.j b.parts (omega (arith, b.invariant.0)) b.invariant.1

@@ -12,7 +12,7 @@ use mir.Syntax.{w64}
 use mir.Val.{to_z}
 use Rattle.whole.specs.Sum.{sum}
 use Rattle.whole.specs.Table.{table, table_rows, at, pair_at}
-use Rattle.whole.proofs.Accumulate.{Bounded, acc_none, acc_more, acc_done}
+use Rattle.whole.proofs.Accumulate.{Bounded, running_none, running_more, running_done}
 use Rattle.whole.proofs.Machine.{Is, told, rd, is_*, to, fit, r64}
 use Rattle.whole.proofs.SumSize.{sum_size}
 use Rattle.whole.proofs.Table.{stored}
@@ -109,7 +109,7 @@ module _ (t : In-loop-k) where
   own_more :
       Is (to_z w64 t.loop-k.own-bits +ℤ added.cross)
       (sum (λ q. zones_class_local (n start) (values start) (weights start) (classes start) q (i start)) (k + 1)) 849346560000000000
-  own_more = acc_more (runs start) k (to_z w64 t.loop-k.own-bits) (omega (arith, low)) t.loop-k.invariant.1.1 (rd w64 local_is tt)
+  own_more = running_more (runs start) k (to_z w64 t.loop-k.own-bits) (omega (arith, low)) t.loop-k.invariant.1.1 (rd w64 local_is tt)
 
   each : (place : ℕ) → sum_at added place ≡ zone_sum (n start) (values start) (weights start) (classes start) k place (i start)
   each zero = (part_is (k * 3) 0 (omega arith) (omega arith)).same
@@ -125,22 +125,24 @@ slice_bounds-add_pairs-end c = refl
 
 pub add_pairs-requires : goal.add_pairs-requires
 unfolding table table_rows
-add_pairs-requires c = let s = c in record { class_job = s.requires.class_job; d_value = s.requires.d_value; i_lt_n = inside ((goal.at.add_pairs-requires c).Start); parts_value = refl }
+add_pairs-requires c = record { class_job = c.requires.class_job; d_value = c.requires.d_value; i_lt_n = inside ((goal.at.add_pairs-requires c).Start); parts_value = refl }
 
 pub offset_bounds-d-i : goal.offset_bounds-d-i
-offset_bounds-d-i c = let s = c in omega (arith, inside ((goal.at.offset_bounds-d-i c).Start), zones ((goal.at.offset_bounds-d-i c).Start))
+offset_bounds-d-i c =
+    let start = (goal.at.offset_bounds-d-i c).Start in
+    omega (arith, inside start, zones start)
 
 pub bounds-d-i : goal.bounds-d-i
 bounds-d-i c =
-    let s = c in
-    omega (arith, inside ((goal.at.bounds-d-i c).Start), (deviations_sized (values ((goal.at.bounds-d-i c).Start)) (n ((goal.at.bounds-d-i c).Start)) s.args.d.now s.requires.class_job.job.valued s.requires.d_value).count)
+    let start = (goal.at.bounds-d-i c).Start in
+    omega (arith, inside start, (deviations_sized (values start) (n start) c.args.d.now c.requires.class_job.job.valued c.requires.d_value).count)
 
 pub loop-k-init : goal.loop-k-init
 loop-k-init c =
-    let s = c in
-    let none : (k : ℕ) → k < 9 → i ((goal.at.loop-k-init c).Start) ≡ zones_in (i ((goal.at.loop-k-init c).Start)) 0 k = λ k p. rw (le-ltb k 0 (omega arith)) refl in (
+    let start = (goal.at.loop-k-init c).Start in
+    let none : (k : ℕ) → k < 9 → i start ≡ zones_in (i start) 0 k = λ k p. rw (le-ltb k 0 (omega arith)) refl in (
       omega arith,
-      (same_zones (n ((goal.at.loop-k-init c).Start)) (values ((goal.at.loop-k-init c).Start)) (weights ((goal.at.loop-k-init c).Start)) (classes ((goal.at.loop-k-init c).Start)) (λ k. i ((goal.at.loop-k-init c).Start)) (zones_in (i ((goal.at.loop-k-init c).Start)) 0) _ _ none s.requires.zoned, acc_none _),
+      (same_zones (n start) (values start) (weights start) (classes start) (λ k. i start) (zones_in (i start) 0) _ _ none c.requires.zoned, running_none _),
     )
 
 pub overflow_mul-place : goal.overflow_mul-place
@@ -175,14 +177,14 @@ bounds-parts-place-in-loop-k-2 c = omega (arith, low ((goal.at.bounds-parts-plac
 
 pub add_row-requires : goal.add_row-requires
 add_row-requires c =
-    let t = c in
-    let s = start ((goal.at.add_row-requires c).In-loop-k) in
-    let b = t.loop-k in
-    let most : (q : ℕ) → q < 9 → zones_in (i s) (k ((goal.at.add_row-requires c).In-loop-k)) q ≤ n s = λ q p. omega (arith, zones_most (i s) (k ((goal.at.add_row-requires c).In-loop-k)) q, inside s) in
-    let sized = zones_sized (n s) (values s) (weights s) (classes s) s.requires.class_job (zones_in (i s) (k ((goal.at.add_row-requires c).In-loop-k))) _ _ most b.invariant.1.0 in
-    let weight = added_small (part_is ((goal.at.add_row-requires c).In-loop-k) (k ((goal.at.add_row-requires c).In-loop-k) * 3) 0 (omega arith) (omega arith)) (omega arith) in
-    let cross = added_small (rd w64 (local_is ((goal.at.add_row-requires c).In-loop-k)) tt) (omega arith) in
-    let squares = added_small (part_is ((goal.at.add_row-requires c).In-loop-k) (k ((goal.at.add_row-requires c).In-loop-k) * 3 + 2) 2 refl (omega arith)) (omega arith) in record { sized = sized; k_bound = omega (arith, low ((goal.at.add_row-requires c).In-loop-k)); weight_bound = weight; cross_bound = cross; squares_bound = squares }
+    let in_loop_k = (goal.at.add_row-requires c).In-loop-k in
+    let s = start in_loop_k in
+    let b = c.loop-k in
+    let most : (q : ℕ) → q < 9 → zones_in (i s) (k in_loop_k) q ≤ n s = λ q p. omega (arith, zones_most (i s) (k in_loop_k) q, inside s) in
+    let sized = zones_sized (n s) (values s) (weights s) (classes s) s.requires.class_job (zones_in (i s) (k in_loop_k)) _ _ most b.invariant.1.0 in
+    let weight = added_small (part_is in_loop_k (k in_loop_k * 3) 0 (omega arith) (omega arith)) (omega arith) in
+    let cross = added_small (rd w64 (local_is in_loop_k) tt) (omega arith) in
+    let squares = added_small (part_is in_loop_k (k in_loop_k * 3 + 2) 2 refl (omega arith)) (omega arith) in record { sized = sized; k_bound = omega (arith, low in_loop_k); weight_bound = weight; cross_bound = cross; squares_bound = squares }
 
 pub overflow_mul-local-in-loop-k : goal.overflow_mul-local-in-loop-k
 overflow_mul-local-in-loop-k c = let t = turn c in omega (arith, local_in t, zones (start t))
@@ -235,7 +237,7 @@ module _ (c : After-loop-k) where
   -- what is stored is L(i)
   own_is : to_z w64 b.loop-k.own-bits ≡ local_of (pair_at (weights s) (n s)) (deviation_of (at (values s)) (n s)) (n s) (i s)
   own_is =
-      acc_done _ _ b.loop-k.k (to_z w64 b.loop-k.own-bits) nine b.loop-k.invariant.1.1
+      running_done _ _ b.loop-k.k (to_z w64 b.loop-k.own-bits) nine b.loop-k.invariant.1.1
       ∙ locals_together (n s) (values s) (weights s) (classes s) s.requires.class_job.low (i s) (inside s)
 
 pub offset_bounds-locals-i : goal.offset_bounds-locals-i

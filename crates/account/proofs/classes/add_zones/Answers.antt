@@ -50,27 +50,26 @@ pub clear-requires : goal.clear-requires
 clear-requires c = c.requires.rows_len
 
 pub loop-i-init : goal.loop-i-init
-loop-i-init c =
-    let s = c in (
-      omega arith,
-      (
-        no_zones _ _ _ _ _ s.args.class_locals.now c.clear.ensures s.requires.class_locals_len,
-        record { count = s.requires.locals_len; numerators = λ i p. let x : ⊥ = omega arith in absurd x },
-      ),
-    )
+loop-i-init c = (
+  omega arith,
+  (
+    no_zones _ _ _ _ _ c.args.class_locals.now c.clear.ensures c.requires.class_locals_len,
+    record { count = c.requires.locals_len; numerators = λ i p. let x : ⊥ = omega arith in absurd x },
+  ),
+)
 
 pub slice_bounds-d-end-in-loop-i : goal.slice_bounds-d-end-in-loop-i
 slice_bounds-d-end-in-loop-i c = front_le {A = ℤ} _ _ (expected c) _ (worked c).deviations.ensures (as_long c)
 
 pub slice_bounds-add_zone-end : goal.slice_bounds-add_zone-end
 slice_bounds-add_zone-end c =
-    let t = c in
-    front_length {A = ℤ} _ _ (expected ((goal.at.slice_bounds-add_zone-end c).In-loop-i)) _ (worked ((goal.at.slice_bounds-add_zone-end c).In-loop-i)).deviations.ensures (as_long ((goal.at.slice_bounds-add_zone-end c).In-loop-i))
+    let in_loop_i = (goal.at.slice_bounds-add_zone-end c).In-loop-i in
+    front_length {A = ℤ} _ _ (expected in_loop_i) _ (worked in_loop_i).deviations.ensures (as_long in_loop_i)
 
 pub add_zone-requires : goal.add_zone-requires
 add_zone-requires c =
-    let t = c in
-    let d = front {A = ℤ} _ _ (expected ((goal.at.add_zone-requires c).In-loop-i)) _ (worked ((goal.at.add_zone-requires c).In-loop-i)).deviations.ensures (as_long ((goal.at.add_zone-requires c).In-loop-i)) in record { class_job = (start ((goal.at.add_zone-requires c).In-loop-i)).requires.class_job; d_value = d; i_lt_n = t.loop-i-test.true; zoned = t.loop-i.invariant.1.0; owned = t.loop-i.invariant.1.1 }
+    let in_loop_i = (goal.at.add_zone-requires c).In-loop-i in
+    let d = front {A = ℤ} _ _ (expected in_loop_i) _ (worked in_loop_i).deviations.ensures (as_long in_loop_i) in record { class_job = (start in_loop_i).requires.class_job; d_value = d; i_lt_n = c.loop-i-test.true; zoned = c.loop-i.invariant.1.0; owned = c.loop-i.invariant.1.1 }
 
 pub overflow_add-i : goal.overflow_add-i
 overflow_add-i c = let t = turn c in omega (arith, t.loop-i-test.true, (start t).requires.class_job.job.valued.zones)

@@ -7,7 +7,7 @@ use mir.Syntax.{w64}
 use mir.Val.{to_z}
 use Rattle.whole.specs.Sum.{sum}
 use Rattle.whole.specs.Table.{at}
-use Rattle.whole.proofs.Accumulate.{Bounded, acc_none, acc_more, acc_done}
+use Rattle.whole.proofs.Accumulate.{Bounded, running_none, running_more, running_done}
 use Rattle.whole.proofs.Machine.{Is, val, rd, fit, r64}
 use Rattle.whole.proofs.SumSize.{sum_size}
 use Rattle.account.proofs.classes.nine_together.Goals as goal
@@ -38,14 +38,12 @@ turn :
     Is (to_z w64 b.loop-k.acc-bits +ℤ r64 (at b.args.rows.now (b.loop-k.k * 3 + b.args.place)))
     (sum (λ k. at b.args.rows.now (k * 3 + b.args.place)) (b.loop-k.k + 1)) 849346560000000000
 turn c =
-    let b = c in
-    let s = c in
     let low = c.loop-k-test.true in
-    acc_more (runs ((goal.at.After-acc-1 c).Start)) b.loop-k.k (to_z w64 b.loop-k.acc-bits) (omega (arith, low)) b.loop-k.invariant.1
-    (rd w64 (val (at s.args.rows.now (b.loop-k.k * 3 + s.args.place)) 94371840000000000 (s.requires.by_index b.loop-k.k low)) tt)
+    running_more (runs ((goal.at.After-acc-1 c).Start)) c.loop-k.k (to_z w64 c.loop-k.acc-bits) (omega (arith, low)) c.loop-k.invariant.1
+    (rd w64 (val (at c.args.rows.now (c.loop-k.k * 3 + c.args.place)) 94371840000000000 (c.requires.by_index c.loop-k.k low)) tt)
 
 pub loop-k-init : goal.loop-k-init
-loop-k-init c = (omega arith, acc_none _)
+loop-k-init c = (omega arith, running_none _)
 
 pub overflow_mul-acc : goal.overflow_mul-acc
 overflow_mul-acc c = omega (arith, inside c)
@@ -73,5 +71,4 @@ loop-k-preserved c = (omega (arith, c.loop-k-test.true), (rd w64 (turn c) tt).sa
 
 pub returns : goal.returns
 returns c =
-    let b = c in
-    acc_done _ _ b.loop-k.k (to_z w64 b.loop-k.acc-bits) (omega (arith, b.loop-k.invariant.0, c.loop-k-test.false)) b.loop-k.invariant.1
+    running_done _ _ c.loop-k.k (to_z w64 c.loop-k.acc-bits) (omega (arith, c.loop-k.invariant.0, c.loop-k-test.false)) c.loop-k.invariant.1

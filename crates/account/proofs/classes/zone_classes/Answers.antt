@@ -61,46 +61,42 @@ spread-spread-requires c = record { valued = c.requires.class_job.job.valued; to
 
 pub add_zones-requires : goal.add_zones-requires
 add_zones-requires c =
-    let t = c in
-    let p = t.requires in record { class_job = p.class_job; total_value = summed ((goal.at.add_zones-requires c).After-total-total); rows_len = p.rows_len; class_locals_len = p.class_locals_len; locals_len = p.locals_len }
+    let p = c.requires in record { class_job = p.class_job; total_value = summed ((goal.at.add_zones-requires c).After-total-total); rows_len = p.rows_len; class_locals_len = p.class_locals_len; locals_len = p.locals_len }
 
 pub nine_together-weight-requires : goal.nine_together-weight-requires
 nine_together-weight-requires c =
-    let z = c in
-    let a = (start ((goal.at.nine_together-weight-requires c).After-add_zones)).args in
-    let rows = z.add_zones.ensures.rows_after in
-    let g = (start ((goal.at.nine_together-weight-requires c).After-add_zones)).requires.class_job in record { place_bound = omega arith; rows_len = z.add_zones.auto.rows ∙ (start ((goal.at.nine_together-weight-requires c).After-add_zones)).requires.rows_len; by_index = weight_small a.n a.values.now a.weights.now a.classes.now g _ rows }
+    let after_add_zones = (goal.at.nine_together-weight-requires c).After-add_zones in
+    let a = (start after_add_zones).args in
+    let rows = c.add_zones.ensures.rows_after in
+    let g = (start after_add_zones).requires.class_job in record { place_bound = omega arith; rows_len = c.add_zones.auto.rows ∙ (start after_add_zones).requires.rows_len; by_index = weight_small a.n a.values.now a.weights.now a.classes.now g _ rows }
 
 pub sum_of-cross-requires : goal.sum_of-cross-requires
 sum_of-cross-requires c =
-    let z = c in
-    let g = (start ((goal.at.sum_of-cross-requires c).After-add_zones)).requires.class_job.job in record { n_bound = g.valued.zones; sized = locals_sized _ _ _ g _ z.add_zones.ensures.locals_after }
+    let g = (start ((goal.at.sum_of-cross-requires c).After-add_zones)).requires.class_job.job in record { n_bound = g.valued.zones; sized = locals_sized _ _ _ g _ c.add_zones.ensures.locals_after }
 
 pub nine_together-squares-requires : goal.nine_together-squares-requires
 nine_together-squares-requires c =
-    let z = c in
-    let a = (start ((goal.at.nine_together-squares-requires c).After-add_zones)).args in
-    let rows = z.add_zones.ensures.rows_after in
-    let g = (start ((goal.at.nine_together-squares-requires c).After-add_zones)).requires.class_job in record { place_bound = omega arith; rows_len = z.add_zones.auto.rows ∙ (start ((goal.at.nine_together-squares-requires c).After-add_zones)).requires.rows_len; by_index = squares_small a.n a.values.now a.weights.now a.classes.now g _ rows }
+    let after_add_zones = (goal.at.nine_together-squares-requires c).After-add_zones in
+    let a = (start after_add_zones).args in
+    let rows = c.add_zones.ensures.rows_after in
+    let g = (start after_add_zones).requires.class_job in record { place_bound = omega arith; rows_len = c.add_zones.auto.rows ∙ (start after_add_zones).requires.rows_len; by_index = squares_small a.n a.values.now a.weights.now a.classes.now g _ rows }
 
 pub returns : goal.returns
 returns c =
-    let p = c in
-    let w = c in
-    let z = c in
-    let m = summing ((goal.at.returns c).After-add_zones) in
-    let s = start ((goal.at.returns c).After-add_zones) in
+    let after_add_zones = (goal.at.returns c).After-add_zones in
+    let m = summing after_add_zones in
+    let s = start after_add_zones in
     let a = s.args in
     let g = s.requires.class_job in
     let r = g.job in
-    let held = z.add_zones.ensures in
-    let weight = w.nine_together-weight.ensures ∙ weight_together a.n a.values.now a.weights.now a.classes.now g _ held.rows_after in
+    let held = c.add_zones.ensures in
+    let weight = c.nine_together-weight.ensures ∙ weight_together a.n a.values.now a.weights.now a.classes.now g _ held.rows_after in
     let squares = c.nine_together-squares.ensures ∙ square_together a.n a.values.now a.weights.now a.classes.now g _ held.rows_after in record {
       result_value = same_figures a.n a.values.now a.weights.now _ _ _ _ _
           (summed ((goal.at.After-spread-spread m).After-total-total))
           (rd w64 (spread_told _ _ r.valued m.spread-spread.ensures) tt).same
           (rd w64 (weight_told _ _ r.weighted weight) tt).same
-          (rd w64 (cross_told _ _ _ r (p.sum_of-cross.ensures ∙ locals_cross _ _ _ r _ held.locals_after)) tt).same
+          (rd w64 (cross_told _ _ _ r (c.sum_of-cross.ensures ∙ locals_cross _ _ _ r _ held.locals_after)) tt).same
           (rd w64 (squares_told _ _ _ r squares) tt).same;
       rows_after = held.rows_after;
       class_locals_after = held.class_locals_after;

@@ -47,7 +47,7 @@ pub bounds-values-i : goal.bounds-values-i
 bounds-values-i c = omega arith
 
 pub overflow_cast-x : goal.overflow_cast-x
-overflow_cast-x c = let b = c in fit w64 (value_is _ _ b.requires.valued b.loop-i.i (omega arith)) tt
+overflow_cast-x c = fit w64 (value_is _ _ c.requires.valued c.loop-i.i (omega arith)) tt
 
 pub overflow_mul-deviation : goal.overflow_mul-deviation
 overflow_mul-deviation c = fit w64 (product c) tt
@@ -68,22 +68,19 @@ pub loop-i-smaller : goal.loop-i-smaller
 loop-i-smaller c = omega arith
 
 pub loop-i-preserved : goal.loop-i-preserved
-loop-i-preserved c =
-    let b = c in let a = c in (
-      omega arith,
-      (
-        simp length-set b.loop-i.invariant.1.0,
-        stored (deviation_of (at a.args.values.now) a.args.n) (pos 0) _ b.loop-i.d b.loop-i.i (omega arith)
-            (rd w64 (deviation c) tt).same b.loop-i.invariant.1.1,
-      ),
-    )
+loop-i-preserved c = (
+  omega arith,
+  (
+    simp length-set c.loop-i.invariant.1.0,
+    stored (deviation_of (at c.args.values.now) c.args.n) (pos 0) _ c.loop-i.d c.loop-i.i (omega arith)
+        (rd w64 (deviation c) tt).same c.loop-i.invariant.1.1,
+  ),
+)
 
 pub shape_of-d : goal.shape_of-d
 shape_of-d c = omega arith
 
 pub returns : goal.returns
 returns c =
-    let b = c in
-    let a = c in
-    is_table (deviation_of (at a.args.values.now) a.args.n) a.args.n (pos 0) b.loop-i.d b.loop-i.invariant.1.0
-    (λ k p. b.loop-i.invariant.1.1 k (omega arith))
+    is_table (deviation_of (at c.args.values.now) c.args.n) c.args.n (pos 0) c.loop-i.d c.loop-i.invariant.1.0
+    (λ k p. c.loop-i.invariant.1.1 k (omega arith))

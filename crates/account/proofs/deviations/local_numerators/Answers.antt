@@ -19,15 +19,14 @@ local :
     Is (r64 (at a.d.now b.loop-i.i) *ℤ r64 c.neighbour_sum-neighbours.result)
     (local_of (pair_at a.weights.now a.n) (at a.d.now) a.n b.loop-i.i) 94371840000000000
 local c =
-    let b = c in
-    let p = b.requires in
-    local_is _ _ p.weighted _ b.loop-i.i p.sized (omega arith) c.neighbour_sum-neighbours.ensures
+    let p = c.requires in
+    local_is _ _ p.weighted _ c.loop-i.i p.sized (omega arith) c.neighbour_sum-neighbours.ensures
 
 pub loop-i-init : goal.loop-i-init
 loop-i-init c = (omega arith, (omega arith, λ k p. let z : ⊥ = omega arith in absurd z))
 
 pub neighbour_sum-neighbours-requires : goal.neighbour_sum-neighbours-requires
-neighbour_sum-neighbours-requires c = let a = c in record { weighted = a.requires.weighted; sized = a.requires.sized; i_lt_n = omega arith }
+neighbour_sum-neighbours-requires c = record { weighted = c.requires.weighted; sized = c.requires.sized; i_lt_n = omega arith }
 
 pub offset_bounds-d-i : goal.offset_bounds-d-i
 offset_bounds-d-i c = omega arith
@@ -51,22 +50,20 @@ pub loop-i-smaller : goal.loop-i-smaller
 loop-i-smaller c = omega arith
 
 pub loop-i-preserved : goal.loop-i-preserved
-loop-i-preserved c =
-    let b = c in let a = b.args in (
-      omega arith,
-      (
-        simp length-set b.loop-i.invariant.1.0,
-        stored (local_of (pair_at a.weights.now a.n) (at a.d.now) a.n) (pos 0) _ b.loop-i.locals b.loop-i.i (omega arith)
-            (rd w64 (local c) tt).same b.loop-i.invariant.1.1,
-      ),
-    )
+loop-i-preserved c = let a = c.args in (
+  omega arith,
+  (
+    simp length-set c.loop-i.invariant.1.0,
+    stored (local_of (pair_at a.weights.now a.n) (at a.d.now) a.n) (pos 0) _ c.loop-i.locals c.loop-i.i (omega arith)
+        (rd w64 (local c) tt).same c.loop-i.invariant.1.1,
+  ),
+)
 
 pub shape_of-locals : goal.shape_of-locals
 shape_of-locals c = omega arith
 
 pub returns : goal.returns
 returns c =
-    let b = c in
-    let a = b.args in
-    is_table (local_of (pair_at a.weights.now a.n) (at a.d.now) a.n) a.n (pos 0) b.loop-i.locals b.loop-i.invariant.1.0
-    (λ k p. b.loop-i.invariant.1.1 k (omega arith))
+    let a = c.args in
+    is_table (local_of (pair_at a.weights.now a.n) (at a.d.now) a.n) a.n (pos 0) c.loop-i.locals c.loop-i.invariant.1.0
+    (λ k p. c.loop-i.invariant.1.1 k (omega arith))

@@ -7,7 +7,7 @@ use lib.ListN.{get_or}
 use mir.Syntax.{w64}
 use mir.Val.{to_z}
 use Rattle.whole.specs.Sum.{sum}
-use Rattle.whole.proofs.Accumulate.{acc_none, acc_more, acc_done}
+use Rattle.whole.proofs.Accumulate.{running_none, running_more, running_done}
 use Rattle.whole.proofs.Lists.{within, few}
 use Rattle.whole.proofs.Machine.{Is, val, nat, rd, is_*, fit, fits_le, r64}
 use Rattle.whole.specs.Table.{at, pair_at}
@@ -45,7 +45,7 @@ module _ (c : After-deviation-1) where
       Is (to_z w64 b.loop-j.acc-bits +ℤ r64 (cast *ℤ r64 (deviation b.loop-j.j)))
       (sum (λ j. pos (weight j) *ℤ deviation j) (b.loop-j.j + 1)) 7372800000
   turn =
-      acc_more (neighbours_run _ _ a.requires.weighted _ a.args.i a.requires.sized a.requires.i_lt_n) b.loop-j.j (to_z w64 b.loop-j.acc-bits) (omega arith)
+      running_more (neighbours_run _ _ a.requires.weighted _ a.args.i a.requires.sized a.requires.i_lt_n) b.loop-j.j (to_z w64 b.loop-j.acc-bits) (omega arith)
       b.loop-j.invariant.1
       (rd w64 term tt)
 
@@ -53,24 +53,20 @@ pub overflow_mul-row : goal.overflow_mul-row
 overflow_mul-row c = omega (arith, within c.args.n c.args.i c.args.i c.requires.i_lt_n c.requires.i_lt_n, few c.args.n c.requires.weighted.zones)
 
 pub loop-j-init : goal.loop-j-init
-loop-j-init c = (omega arith, acc_none _)
+loop-j-init c = (omega arith, running_none _)
 
 pub overflow_add-weight : goal.overflow_add-weight
 overflow_add-weight c =
-    let a = c in
-    omega (arith, within a.args.n a.args.i c.loop-j.j a.requires.i_lt_n (omega arith), few a.args.n a.requires.weighted.zones)
+    omega (arith, within c.args.n c.args.i c.loop-j.j c.requires.i_lt_n (omega arith), few c.args.n c.requires.weighted.zones)
 
 pub bounds-weights-row : goal.bounds-weights-row
 bounds-weights-row c =
-    let a = c in
-    place _ _ a.requires.weighted a.args.i c.loop-j.j a.requires.i_lt_n (omega arith)
+    place _ _ c.requires.weighted c.args.i c.loop-j.j c.requires.i_lt_n (omega arith)
 
 pub overflow_cast-weight : goal.overflow_cast-weight
 overflow_cast-weight c =
-    let b = c in
-    let a = c in
-    let inside = within a.args.n a.args.i b.loop-j.j a.requires.i_lt_n (omega arith) in
-    fits_le w64 _ 9 (a.requires.weighted.light (a.args.i * a.args.n + b.loop-j.j) inside) tt
+    let inside = within c.args.n c.args.i c.loop-j.j c.requires.i_lt_n (omega arith) in
+    fits_le w64 _ 9 (c.requires.weighted.light (c.args.i * c.args.n + c.loop-j.j) inside) tt
 
 pub offset_bounds-d-j : goal.offset_bounds-d-j
 offset_bounds-d-j c = omega arith
@@ -96,6 +92,4 @@ loop-j-preserved c = (omega arith, (rd w64 (turn c) tt).same)
 pub returns : goal.returns
 unfolding row_of
 returns c =
-    let b = c in
-    let a = c in
-    acc_done _ _ b.loop-j.j (to_z w64 b.loop-j.acc-bits) (omega arith) b.loop-j.invariant.1
+    running_done _ _ c.loop-j.j (to_z w64 c.loop-j.acc-bits) (omega arith) c.loop-j.invariant.1

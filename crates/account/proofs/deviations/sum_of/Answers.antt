@@ -5,7 +5,7 @@ use lib.IntN.{◌+ℤ◌}
 use mir.Syntax.{w64}
 use mir.Val.{to_z}
 use Rattle.whole.specs.Sum.{sum}
-use Rattle.whole.proofs.Accumulate.{acc_none, acc_more, acc_done}
+use Rattle.whole.proofs.Accumulate.{running_none, running_more, running_done}
 use Rattle.whole.proofs.Machine.{Is, val, rd, fit, r64}
 use Rattle.whole.specs.Table.{at}
 use Rattle.account.proofs.Running.{locals_run}
@@ -19,13 +19,11 @@ turn :
     let l = at b.args.locals.now in
     Is (to_z w64 b.loop-i.acc-bits +ℤ r64 (l b.loop-i.i)) (sum l (b.loop-i.i + 1)) 6039797760000000000
 turn c =
-    let b = c in
-    let a = c in
-    acc_more (locals_run _ _ a.requires.n_bound a.requires.sized) b.loop-i.i (to_z w64 b.loop-i.acc-bits) (omega arith) b.loop-i.invariant.1
-    (rd w64 (val (at a.args.locals.now b.loop-i.i) 94371840000000000 (a.requires.sized.size b.loop-i.i (omega arith))) tt)
+    running_more (locals_run _ _ c.requires.n_bound c.requires.sized) c.loop-i.i (to_z w64 c.loop-i.acc-bits) (omega arith) c.loop-i.invariant.1
+    (rd w64 (val (at c.args.locals.now c.loop-i.i) 94371840000000000 (c.requires.sized.size c.loop-i.i (omega arith))) tt)
 
 pub loop-i-init : goal.loop-i-init
-loop-i-init c = (omega arith, acc_none _)
+loop-i-init c = (omega arith, running_none _)
 
 pub offset_bounds-locals-i : goal.offset_bounds-locals-i
 offset_bounds-locals-i c = omega arith
@@ -47,6 +45,4 @@ loop-i-preserved c = (omega arith, (rd w64 (turn c) tt).same)
 
 pub returns : goal.returns
 returns c =
-    let b = c in
-    let a = c in
-    acc_done _ _ b.loop-i.i (to_z w64 b.loop-i.acc-bits) (omega arith) b.loop-i.invariant.1
+    running_done _ _ c.loop-i.i (to_z w64 c.loop-i.acc-bits) (omega arith) c.loop-i.invariant.1

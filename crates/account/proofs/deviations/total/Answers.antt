@@ -5,7 +5,7 @@ use lib.IntN.{◌+ℤ◌}
 use mir.Syntax.{w64}
 use mir.Val.{to_z}
 use Rattle.whole.specs.Sum.{sum}
-use Rattle.whole.proofs.Accumulate.{acc_none, acc_more, acc_done}
+use Rattle.whole.proofs.Accumulate.{running_none, running_more, running_done}
 use Rattle.whole.proofs.Machine.{Is, rd, fit, r32, r64}
 use Rattle.whole.specs.Table.{at}
 use Rattle.account.specs.Measures.{total_of}
@@ -21,13 +21,11 @@ turn :
     let x = at b.args.values.now in
     Is (to_z w64 b.loop-i.acc-bits +ℤ r64 (r32 (x b.loop-i.i))) (sum x (b.loop-i.i + 1)) 6400000
 turn c =
-    let b = c in
-    let a = c in
-    acc_more (total_runs _ _ a.requires) b.loop-i.i (to_z w64 b.loop-i.acc-bits) (omega arith) b.loop-i.invariant.1
-    (rd w64 (value_is _ _ a.requires b.loop-i.i (omega arith)) tt)
+    running_more (total_runs _ _ c.requires) c.loop-i.i (to_z w64 c.loop-i.acc-bits) (omega arith) c.loop-i.invariant.1
+    (rd w64 (value_is _ _ c.requires c.loop-i.i (omega arith)) tt)
 
 pub loop-i-init : goal.loop-i-init
-loop-i-init c = (omega arith, acc_none _)
+loop-i-init c = (omega arith, running_none _)
 
 pub offset_bounds-values-i : goal.offset_bounds-values-i
 offset_bounds-values-i c = omega arith
@@ -36,7 +34,7 @@ pub bounds-values-i : goal.bounds-values-i
 bounds-values-i c = omega arith
 
 pub overflow_cast-acc : goal.overflow_cast-acc
-overflow_cast-acc c = let b = c in fit w64 (value_is _ _ b.requires b.loop-i.i (omega arith)) tt
+overflow_cast-acc c = fit w64 (value_is _ _ c.requires c.loop-i.i (omega arith)) tt
 
 pub overflow_add-acc : goal.overflow_add-acc
 overflow_add-acc c = fit w64 (turn c) tt
@@ -52,4 +50,4 @@ loop-i-preserved c = (omega arith, (rd w64 (turn c) tt).same)
 
 pub returns : goal.returns
 unfolding total_of
-returns c = let b = c in acc_done _ _ b.loop-i.i (to_z w64 b.loop-i.acc-bits) (omega arith) b.loop-i.invariant.1
+returns c = running_done _ _ c.loop-i.i (to_z w64 c.loop-i.acc-bits) (omega arith) c.loop-i.invariant.1

@@ -8,7 +8,7 @@ use mir.Syntax.{w64}
 use mir.Val.{to_z}
 use Rattle.whole.specs.Integer.{square}
 use Rattle.whole.specs.Sum.{sum}
-use Rattle.whole.proofs.Accumulate.{acc_none, acc_more, acc_done}
+use Rattle.whole.proofs.Accumulate.{running_none, running_more, running_done}
 use Rattle.whole.proofs.Lists.{within, few}
 use Rattle.whole.proofs.Machine.{Is, nat, rd, is_*, fit, fits_le, r64}
 use Rattle.whole.specs.Table.{at, pair_at}
@@ -49,7 +49,7 @@ module _ (c : After-squared_difference) where
       Is (to_z w64 b.loop-j.acc-bits +ℤ r64 (cast *ℤ r64 c.squared_difference.result))
       (sum (λ j. pos (weight j) *ℤ apart j) (b.loop-j.j + 1)) 23040000000000
   turn =
-      acc_more (row_squares_run _ _ _ a.requires.job a.args.i a.requires.i_lt_n) b.loop-j.j (to_z w64 b.loop-j.acc-bits) (omega arith) b.loop-j.invariant.1
+      running_more (row_squares_run _ _ _ a.requires.job a.args.i a.requires.i_lt_n) b.loop-j.j (to_z w64 b.loop-j.acc-bits) (omega arith) b.loop-j.invariant.1
       (rd w64 term tt)
 
 pub offset_bounds-values-i : goal.offset_bounds-values-i
@@ -60,33 +60,27 @@ bounds-values-i c = omega arith
 
 pub overflow_mul-row : goal.overflow_mul-row
 overflow_mul-row c =
-    let a = c in
-    omega (arith, within a.args.n a.args.i a.args.i a.requires.i_lt_n a.requires.i_lt_n, few a.args.n a.requires.job.valued.zones)
+    omega (arith, within c.args.n c.args.i c.args.i c.requires.i_lt_n c.requires.i_lt_n, few c.args.n c.requires.job.valued.zones)
 
 pub loop-j-init : goal.loop-j-init
-loop-j-init c = (omega arith, acc_none _)
+loop-j-init c = (omega arith, running_none _)
 
 pub overflow_add-weight : goal.overflow_add-weight
 overflow_add-weight c =
-    let a = c in
     omega (
       arith,
-      within a.args.n a.args.i c.loop-j.j a.requires.i_lt_n (omega arith),
-      few a.args.n a.requires.job.valued.zones,
+      within c.args.n c.args.i c.loop-j.j c.requires.i_lt_n (omega arith),
+      few c.args.n c.requires.job.valued.zones,
     )
 
 pub bounds-weights-row : goal.bounds-weights-row
 bounds-weights-row c =
-    let b = c in
-    let a = c in
-    place _ _ a.requires.job.weighted a.args.i b.loop-j.j a.requires.i_lt_n (omega arith)
+    place _ _ c.requires.job.weighted c.args.i c.loop-j.j c.requires.i_lt_n (omega arith)
 
 pub overflow_cast-weight : goal.overflow_cast-weight
 overflow_cast-weight c =
-    let b = c in
-    let a = c in
-    let inside = within a.args.n a.args.i b.loop-j.j a.requires.i_lt_n (omega arith) in
-    fits_le w64 _ 9 (a.requires.job.weighted.light (a.args.i * a.args.n + b.loop-j.j) inside) tt
+    let inside = within c.args.n c.args.i c.loop-j.j c.requires.i_lt_n (omega arith) in
+    fits_le w64 _ 9 (c.requires.job.weighted.light (c.args.i * c.args.n + c.loop-j.j) inside) tt
 
 pub offset_bounds-values-j : goal.offset_bounds-values-j
 offset_bounds-values-j c = omega arith
@@ -95,9 +89,7 @@ pub bounds-values-j : goal.bounds-values-j
 bounds-values-j c = omega arith
 
 pub squared_difference-requires : goal.squared_difference-requires
-squared_difference-requires c =
-    let b = c in
-    let a = c in record { a_bound = read_le _ _ a.requires.job.valued a.args.i a.requires.i_lt_n; b_bound = read_le _ _ a.requires.job.valued b.loop-j.j (omega arith) }
+squared_difference-requires c = record { a_bound = read_le _ _ c.requires.job.valued c.args.i c.requires.i_lt_n; b_bound = read_le _ _ c.requires.job.valued c.loop-j.j (omega arith) }
 
 pub overflow_mul-acc : goal.overflow_mul-acc
 overflow_mul-acc c = fit w64 (term c) tt
@@ -117,6 +109,4 @@ loop-j-preserved c = (omega arith, (rd w64 (turn c) tt).same)
 pub returns : goal.returns
 unfolding row_of
 returns c =
-    let b = c in
-    let a = c in
-    acc_done _ _ b.loop-j.j (to_z w64 b.loop-j.acc-bits) (omega arith) b.loop-j.invariant.1
+    running_done _ _ c.loop-j.j (to_z w64 c.loop-j.acc-bits) (omega arith) c.loop-j.invariant.1

@@ -7,7 +7,7 @@ use mir.Syntax.{w64}
 use mir.Val.{to_z}
 use Rattle.whole.specs.Integer.{square}
 use Rattle.whole.specs.Sum.{sum}
-use Rattle.whole.proofs.Accumulate.{acc_none, acc_more, acc_done}
+use Rattle.whole.proofs.Accumulate.{running_none, running_more, running_done}
 use Rattle.whole.proofs.Machine.{Is, rd, is_*, fit, r32, r64}
 use Rattle.whole.specs.Table.{at}
 use Rattle.account.proofs.Reading.{value_is}
@@ -32,10 +32,10 @@ module _ (c : After-x-1) where
       Is (to_z w64 b.loop-i.acc-bits +ℤ r64 (r64 (r32 (x b.loop-i.i)) *ℤ r64 (r32 (x b.loop-i.i))))
       (sum (λ i. square (x i)) (b.loop-i.i + 1)) 640000000000
   turn =
-      acc_more (square_runs _ _ b.requires) b.loop-i.i (to_z w64 b.loop-i.acc-bits) (omega arith) b.loop-i.invariant.1 (rd w64 product tt)
+      running_more (square_runs _ _ b.requires) b.loop-i.i (to_z w64 b.loop-i.acc-bits) (omega arith) b.loop-i.invariant.1 (rd w64 product tt)
 
 pub loop-i-init : goal.loop-i-init
-loop-i-init c = (omega arith, acc_none _)
+loop-i-init c = (omega arith, running_none _)
 
 pub offset_bounds-values-i : goal.offset_bounds-values-i
 offset_bounds-values-i c = omega arith
@@ -44,7 +44,7 @@ pub bounds-values-i : goal.bounds-values-i
 bounds-values-i c = omega arith
 
 pub overflow_cast-x : goal.overflow_cast-x
-overflow_cast-x c = let b = c in fit w64 (value_is _ _ b.requires b.loop-i.i (omega arith)) tt
+overflow_cast-x c = fit w64 (value_is _ _ c.requires c.loop-i.i (omega arith)) tt
 
 pub overflow_mul-acc : goal.overflow_mul-acc
 overflow_mul-acc c = fit w64 (product c) tt
@@ -62,4 +62,4 @@ pub loop-i-preserved : goal.loop-i-preserved
 loop-i-preserved c = (omega arith, (rd w64 (turn c) tt).same)
 
 pub returns : goal.returns
-returns c = let b = c in acc_done _ _ b.loop-i.i (to_z w64 b.loop-i.acc-bits) (omega arith) b.loop-i.invariant.1
+returns c = running_done _ _ c.loop-i.i (to_z w64 c.loop-i.acc-bits) (omega arith) c.loop-i.invariant.1

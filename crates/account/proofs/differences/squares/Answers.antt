@@ -7,7 +7,7 @@ use mir.Syntax.{w64}
 use mir.Val.{to_z}
 use Rattle.whole.specs.Integer.{square}
 use Rattle.whole.specs.Sum.{sum}
-use Rattle.whole.proofs.Accumulate.{acc_none, acc_more, acc_done}
+use Rattle.whole.proofs.Accumulate.{running_none, running_more, running_done}
 use Rattle.whole.proofs.Machine.{Is, told, rd, fit, r64}
 use Rattle.whole.specs.Table.{at, pair_at}
 use Rattle.account.specs.Measures.{row_of, pairs_of, squares_of}
@@ -25,14 +25,12 @@ turn :
     (sum (λ i. row_of (pair_at a.weights.now a.n) (λ i j. square (x i -ℤ x j)) i a.n) (b.loop-i.i + 1)) 1474560000000000
 unfolding row_of
 turn c =
-    let b = c in
-    let a = c in
-    let run = row_squares_run _ _ _ a.requires b.loop-i.i (omega arith) in
-    acc_more (squares_run _ _ _ a.requires) b.loop-i.i (to_z w64 b.loop-i.acc-bits) (omega arith) b.loop-i.invariant.1
-    (rd w64 (told _ 23040000000000 c.row_squares-acc.ensures (run.bound a.args.n (N.le_refl a.args.n))) tt)
+    let run = row_squares_run _ _ _ c.requires c.loop-i.i (omega arith) in
+    running_more (squares_run _ _ _ c.requires) c.loop-i.i (to_z w64 c.loop-i.acc-bits) (omega arith) c.loop-i.invariant.1
+    (rd w64 (told _ 23040000000000 c.row_squares-acc.ensures (run.bound c.args.n (N.le_refl c.args.n))) tt)
 
 pub loop-i-init : goal.loop-i-init
-loop-i-init c = (omega arith, acc_none _)
+loop-i-init c = (omega arith, running_none _)
 
 pub row_squares-acc-requires : goal.row_squares-acc-requires
 row_squares-acc-requires c = record { job = c.requires; i_lt_n = omega arith }
@@ -52,5 +50,4 @@ loop-i-preserved c = (omega arith, (rd w64 (turn c) tt).same)
 pub returns : goal.returns
 unfolding squares_of pairs_of
 returns c =
-    let b = c in
-    acc_done _ _ b.loop-i.i (to_z w64 b.loop-i.acc-bits) (omega arith) b.loop-i.invariant.1
+    running_done _ _ c.loop-i.i (to_z w64 c.loop-i.acc-bits) (omega arith) c.loop-i.invariant.1

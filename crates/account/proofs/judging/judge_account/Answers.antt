@@ -32,16 +32,15 @@ returns-then-sizes-ne0 c = by_number _ _ _ _ (by_sizes _ _ _ (lent ((goal.at.ret
 
 pub judge_job-requires : goal.judge_job-requires
 judge_job-requires c =
-    let b = c in
-    let f = fitting _ _ _ (lent ((goal.at.judge_job-requires c).After-judge_sizes-sizes)) (sizes_good ((goal.at.judge_job-requires c).Else-sizes-ne0)) in record { le_n = f.two; n_bound = f.zones; values_len = f.values_fit; weights_len = f.weights_fit; zones_len = (a ((goal.at.judge_job-requires c).After-judge_sizes-sizes)).requires }
+    let after_judge_sizes_sizes = (goal.at.judge_job-requires c).After-judge_sizes-sizes in
+    let f = fitting _ _ _ (lent after_judge_sizes_sizes) (sizes_good ((goal.at.judge_job-requires c).Else-sizes-ne0)) in record { le_n = f.two; n_bound = f.zones; values_len = f.values_fit; weights_len = f.weights_fit; zones_len = (a after_judge_sizes_sizes).requires }
 
 pub returns : goal.returns
 unfolding job_rules
 returns c =
-    let j = c in
-    let e = c in
-    let g = (a ((goal.at.returns c).After-judge_sizes-sizes)).args in
+    let after_judge_sizes_sizes = (goal.at.returns c).After-judge_sizes-sizes in
+    let g = (a after_judge_sizes_sizes).args in
     let number = first_broken (job_rules g.n g.values.now g.weights.now) in
     as_job _ _ _ _
-    (then_job g.n g.values.now g.weights.now (lent ((goal.at.returns c).After-judge_sizes-sizes)) [] number (sizes_good ((goal.at.returns c).Else-sizes-ne0)) refl)
-    j.judge_job.ensures
+    (then_job g.n g.values.now g.weights.now (lent after_judge_sizes_sizes) [] number (sizes_good ((goal.at.returns c).Else-sizes-ne0)) refl)
+    c.judge_job.ensures

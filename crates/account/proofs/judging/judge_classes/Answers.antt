@@ -50,21 +50,21 @@ judge_class_sizes-sizes-requires c = tt
 pub returns-then-sizes-ne0 : goal.returns-then-sizes-ne0
 unfolding class_rules
 returns-then-sizes-ne0 c =
-    let b = c in
-    by_number _ _ _ _ (by_sizes _ _ _ (lent ((goal.at.returns-then-sizes-ne0 c).After-judge_class_sizes-sizes)) (last ((goal.at.returns-then-sizes-ne0 c).After-judge_class_sizes-sizes)) _ b.judge_class_sizes-sizes.ensures c.if-sizes-ne0.true) c.if-sizes-ne0.true
+    let after_judge_class_sizes_sizes = (goal.at.returns-then-sizes-ne0 c).After-judge_class_sizes-sizes in
+    by_number _ _ _ _ (by_sizes _ _ _ (lent after_judge_class_sizes_sizes) (last after_judge_class_sizes_sizes) _ c.judge_class_sizes-sizes.ensures c.if-sizes-ne0.true) c.if-sizes-ne0.true
 
 pub judge_job-job-requires : goal.judge_job-job-requires
 judge_job-job-requires c =
-    let b = c in
-    let f = fitting _ _ _ (lent ((goal.at.judge_job-job-requires c).After-judge_class_sizes-sizes)) (sizes_good ((goal.at.judge_job-job-requires c).Else-sizes-ne0)) in record { le_n = f.two; n_bound = f.zones; values_len = f.values_fit; weights_len = f.weights_fit; zones_len = (a ((goal.at.judge_job-job-requires c).After-judge_class_sizes-sizes)).requires }
+    let after_judge_class_sizes_sizes = (goal.at.judge_job-job-requires c).After-judge_class_sizes-sizes in
+    let f = fitting _ _ _ (lent after_judge_class_sizes_sizes) (sizes_good ((goal.at.judge_job-job-requires c).Else-sizes-ne0)) in record { le_n = f.two; n_bound = f.zones; values_len = f.values_fit; weights_len = f.weights_fit; zones_len = (a after_judge_class_sizes_sizes).requires }
 
 pub returns-then-number-ne0 : goal.returns-then-number-ne0
 unfolding class_rules
 returns-then-number-ne0 c =
-    let j = c in
-    let b = ((goal.at.Else-sizes-ne0 (sized ((goal.at.returns-then-number-ne0 c).After-judge_job-job))).After-judge_class_sizes-sizes) in
+    let after_judge_job_job = (goal.at.returns-then-number-ne0 c).After-judge_job-job in
+    let b = ((goal.at.Else-sizes-ne0 (sized after_judge_job_job)).After-judge_class_sizes-sizes) in
     by_number _ _ _ _
-    (by_job _ _ _ (lent b) (last b) _ (sizes_good (sized ((goal.at.returns-then-number-ne0 c).After-judge_job-job))) j.judge_job-job.ensures.number c.if-number-ne0.true)
+    (by_job _ _ _ (lent b) (last b) _ (sizes_good (sized after_judge_job_job)) c.judge_job-job.ensures.number c.if-number-ne0.true)
     c.if-number-ne0.true
 
 pub any_above-requires : goal.any_above-requires
@@ -73,20 +73,19 @@ any_above-requires c = tt
 pub returns-then-any_above : goal.returns-then-any_above
 unfolding class_rules
 returns-then-any_above c =
-    let k = c in
-    let j = c in
-    let b = ((goal.at.Else-sizes-ne0 (sized ((goal.at.returns-then-any_above c).After-judge_job-job))).After-judge_class_sizes-sizes) in
+    let after_judge_job_job = (goal.at.returns-then-any_above c).After-judge_job-job in
+    let b = ((goal.at.Else-sizes-ne0 (sized after_judge_job_job)).After-judge_class_sizes-sizes) in
     by_number _ _ _ _
-    (by_rest _ _ _ (lent b) (last b) _ (sizes_good (sized ((goal.at.returns-then-any_above c).After-judge_job-job))) (job_good ((goal.at.returns-then-any_above c).Else-number-ne0))
+    (by_rest _ _ _ (lent b) (last b) _ (sizes_good (sized after_judge_job_job)) (job_good ((goal.at.returns-then-any_above c).Else-number-ne0))
     (rw (sym c.any_above.ensures ∙ c.if-any_above.true) refl))
     (λ z. let q : ◌≡◌ {A = ℕ} 9 0 = z in omega arith)
 
 pub returns : goal.returns
 unfolding class_rules
 returns c =
-    let k = c in
-    let j = c in
-    let b = ((goal.at.Else-sizes-ne0 (sized ((goal.at.returns c).After-judge_job-job))).After-judge_class_sizes-sizes) in
-    with_zones _ _ _ _ _ j.judge_job-job.ensures (job_good ((goal.at.returns c).Else-number-ne0)) refl
-    (by_rest _ _ _ (lent b) (last b) _ (sizes_good (sized ((goal.at.returns c).After-judge_job-job))) (job_good ((goal.at.returns c).Else-number-ne0))
-    (rw (sym c.any_above.ensures ∙ c.if-any_above.false) k.if-number-ne0.false))
+    let after_judge_job_job = (goal.at.returns c).After-judge_job-job in
+    let else_number_ne0 = (goal.at.returns c).Else-number-ne0 in
+    let b = ((goal.at.Else-sizes-ne0 (sized after_judge_job_job)).After-judge_class_sizes-sizes) in
+    with_zones _ _ _ _ _ c.judge_job-job.ensures (job_good else_number_ne0) refl
+    (by_rest _ _ _ (lent b) (last b) _ (sizes_good (sized after_judge_job_job)) (job_good else_number_ne0)
+    (rw (sym c.any_above.ensures ∙ c.if-any_above.false) c.if-number-ne0.false))

@@ -74,9 +74,9 @@ returns-in-Refused c = absurd (never ((goal.at.returns-in-Refused c).After-keep)
 
 pub returns-in-Kept : goal.returns-in-Kept
 returns-in-Kept c =
-    let b = c in
-    let k = asked ((goal.at.returns-in-Kept c).In-Kept) in
-    let l = lying ((goal.at.returns-in-Kept c).In-Kept) in record {
+    let in_kept = (goal.at.returns-in-Kept c).In-Kept in
+    let k = asked in_kept in
+    let l = lying in_kept in record {
       number = by_sums (n k) (values k) (weights k) (good k) _ l.zones (none k) _ c.judge_sums-sums.ensures;
       many = λ z. l.as_many;
       front = λ z. l.zones;

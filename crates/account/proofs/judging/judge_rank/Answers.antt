@@ -66,14 +66,14 @@ judge_sizes-sizes-requires c = tt
 pub returns-then-sizes-ne0 : goal.returns-then-sizes-ne0
 unfolding rank_refusal rank_rules call_rules
 returns-then-sizes-ne0 c =
-    let b = c in
-    let s = (a ((goal.at.returns-then-sizes-ne0 c).After-judge_sizes-sizes)).args in
+    let after_judge_sizes_sizes = (goal.at.returns-then-sizes-ne0 c).After-judge_sizes-sizes in
+    let s = (a after_judge_sizes_sizes).args in
     let lengths = job_lengths s.n (length s.values.now) (length s.weights.now) in
     by_number _ _ _ _
-    (sizes_first s.n (lengths ((s.n, s.n) ∷ [])) (lengths (lent ((goal.at.returns-then-sizes-ne0 c).After-judge_sizes-sizes)))
-    (job_rules s.n s.values.now s.weights.now ++ last ((goal.at.returns-then-sizes-ne0 c).After-judge_sizes-sizes)) _
-    (also_misfits s.n (length s.values.now) (length s.weights.now) (lent ((goal.at.returns-then-sizes-ne0 c).After-judge_sizes-sizes)))
-    b.judge_sizes-sizes.ensures
+    (sizes_first s.n (lengths ((s.n, s.n) ∷ [])) (lengths (lent after_judge_sizes_sizes))
+    (job_rules s.n s.values.now s.weights.now ++ last after_judge_sizes_sizes) _
+    (also_misfits s.n (length s.values.now) (length s.weights.now) (lent after_judge_sizes_sizes))
+    c.judge_sizes-sizes.ensures
     c.if-sizes-ne0.true)
     c.if-sizes-ne0.true
 
@@ -83,13 +83,12 @@ judge_shuffles-listed-requires c = tt
 pub returns-then-listed-eq2 : goal.returns-then-listed-eq2
 unfolding rank_refusal rank_rules
 returns-then-listed-eq2 c =
-    let j = c in
-    let b = c in
-    let s = (a ((goal.at.returns-then-listed-eq2 c).After-judge_sizes-sizes)).args in
+    let after_judge_sizes_sizes = (goal.at.returns-then-listed-eq2 c).After-judge_sizes-sizes in
+    let s = (a after_judge_sizes_sizes).args in
     let f = sized ((goal.at.returns-then-listed-eq2 c).Else-sizes-ne0) in
-    let misfit = refused_by_2 s.n s.shuffles.now f.two f.zones (sym j.judge_shuffles-listed.ensures ∙ c.if-listed-eq2.true) in
-    let some : j.judge_shuffles-listed.result ≡ 0 → ⊥ = λ z. let q : ◌≡◌ {A = ℕ} 0 2 = sym z ∙ c.if-listed-eq2.true in omega arith in
-    by_number _ _ _ _ (by_sizes _ _ _ (lent ((goal.at.returns-then-listed-eq2 c).After-judge_sizes-sizes)) (last ((goal.at.returns-then-listed-eq2 c).After-judge_sizes-sizes)) _ (c.if-listed-eq2.true ∙ sym (unfitted _ _ _ _ (lent ((goal.at.returns-then-listed-eq2 c).After-judge_sizes-sizes)) f misfit)) some) some
+    let misfit = refused_by_2 s.n s.shuffles.now f.two f.zones (sym c.judge_shuffles-listed.ensures ∙ c.if-listed-eq2.true) in
+    let some : c.judge_shuffles-listed.result ≡ 0 → ⊥ = λ z. let q : ◌≡◌ {A = ℕ} 0 2 = sym z ∙ c.if-listed-eq2.true in omega arith in
+    by_number _ _ _ _ (by_sizes _ _ _ (lent after_judge_sizes_sizes) (last after_judge_sizes_sizes) _ (c.if-listed-eq2.true ∙ sym (unfitted _ _ _ _ (lent after_judge_sizes_sizes) f misfit)) some) some
 
 pub judge_job-job-requires : goal.judge_job-job-requires
 judge_job-job-requires c =
@@ -99,19 +98,17 @@ judge_job-job-requires c =
 pub returns-then-number-ne0 : goal.returns-then-number-ne0
 unfolding rank_refusal rank_rules
 returns-then-number-ne0 c =
-    let j = c in
-    let d = c in
-    let b = ((goal.at.Else-sizes-ne0 (e ((goal.at.returns-then-number-ne0 c).Else-listed-eq2))).After-judge_sizes-sizes) in
+    let else_listed_eq2 = (goal.at.returns-then-number-ne0 c).Else-listed-eq2 in
+    let b = ((goal.at.Else-sizes-ne0 (e else_listed_eq2)).After-judge_sizes-sizes) in
     by_number _ _ _ _
-    (by_job _ _ _ (lent b) (last b) _ (sizes_good ((goal.at.returns-then-number-ne0 c).Else-listed-eq2)) j.judge_job-job.ensures.number c.if-number-ne0.true)
+    (by_job _ _ _ (lent b) (last b) _ (sizes_good else_listed_eq2) c.judge_job-job.ensures.number c.if-number-ne0.true)
     c.if-number-ne0.true
 
 pub returns : goal.returns
 unfolding rank_refusal rank_rules
 returns c =
-    let j = c in
-    let d = c in
-    let b = ((goal.at.Else-sizes-ne0 (e ((goal.at.returns c).Else-listed-eq2))).After-judge_sizes-sizes) in
-    let none = sym j.judge_job-job.ensures.number ∙ c.if-number-ne0.false in
-    with_zones _ _ _ _ _ j.judge_job-job.ensures none refl
-    (by_rest _ _ _ (lent b) (last b) _ (sizes_good ((goal.at.returns c).Else-listed-eq2)) none (listed ((goal.at.returns c).Else-listed-eq2)))
+    let else_listed_eq2 = (goal.at.returns c).Else-listed-eq2 in
+    let b = ((goal.at.Else-sizes-ne0 (e else_listed_eq2)).After-judge_sizes-sizes) in
+    let none = sym c.judge_job-job.ensures.number ∙ c.if-number-ne0.false in
+    with_zones _ _ _ _ _ c.judge_job-job.ensures none refl
+    (by_rest _ _ _ (lent b) (last b) _ (sizes_good else_listed_eq2) none (listed else_listed_eq2))

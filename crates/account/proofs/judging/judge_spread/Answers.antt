@@ -23,8 +23,7 @@ spread-requires c = record { valued = c.requires; total_value = summed c }
 
 pub returns-then-spread-eq0 : goal.returns-then-spread-eq0
 returns-then-spread-eq0 c =
-    let s = c in
-    rw (zero_yes w64 (spread_told _ _ s.requires s.spread.ensures) tt c.if-spread-eq0.true) refl
+    rw (zero_yes w64 (spread_told _ _ c.requires c.spread.ensures) tt c.if-spread-eq0.true) refl
 
 pub returns : goal.returns
-returns c = let s = c in rw (zero_no w64 s.spread.ensures c.if-spread-eq0.false) refl
+returns c = rw (zero_no w64 c.spread.ensures c.if-spread-eq0.false) refl

@@ -67,12 +67,10 @@ judge_spread-requires c = c.requires.valued
 
 pub returns-then-many-values : goal.returns-then-many-values
 returns-then-many-values c =
-    let t = c in
-    let s = c in
-    let values = s.args.values.now in
-    let zones = s.args.zones.now in
-    let all = gathered_all zones (length values) s.requires.zones t.if-many-values.true values refl in
-    by_spread values zones values (sym all) (ne_eqb _ _ t.if-many-eq0.false) _ c.judge_spread.ensures
+    let values = c.args.values.now in
+    let zones = c.args.zones.now in
+    let all = gathered_all zones (length values) c.requires.zones c.if-many-values.true values refl in
+    by_spread values zones values (sym all) (ne_eqb _ _ c.if-many-eq0.false) _ c.judge_spread.ensures
 
 pub slice_bounds-space-end : goal.slice_bounds-space-end
 slice_bounds-space-end c = room c
@@ -81,13 +79,12 @@ pub slice_bounds-kept_values-end : goal.slice_bounds-kept_values-end
 slice_bounds-kept_values-end c = sym (length-take-le _ _ (room ((goal.at.slice_bounds-kept_values-end c).Else-many-values)))
 
 pub gather_values-requires : goal.gather_values-requires
-gather_values-requires c = let e = c in record { zones = e.requires.zones; out_len = length-take-le _ _ (room ((goal.at.gather_values-requires c).Else-many-values)) }
+gather_values-requires c = record { zones = c.requires.zones; out_len = length-take-le _ _ (room ((goal.at.gather_values-requires c).Else-many-values)) }
 
 pub judge_spread-requires-2 : goal.judge_spread-requires-2
 judge_spread-requires-2 c = valued ((goal.at.judge_spread-requires-2 c).After-gather_values)
 
 pub returns : goal.returns
 returns c =
-    let g = c in
-    let e = c in
-    by_spread (s ((goal.at.returns c).After-gather_values)).args.values.now (s ((goal.at.returns c).After-gather_values)).args.zones.now _ g.gather_values.ensures (ne_eqb _ _ e.if-many-eq0.false) _ c.judge_spread-2.ensures
+    let after_gather_values = (goal.at.returns c).After-gather_values in
+    by_spread (s after_gather_values).args.values.now (s after_gather_values).args.zones.now _ c.gather_values.ensures (ne_eqb _ _ c.if-many-eq0.false) _ c.judge_spread-2.ensures

@@ -34,34 +34,38 @@ bounds-zones-k c = c.if-k-many.true
 
 pub overflow_cast-zones : goal.overflow_cast-zones
 overflow_cast-zones c =
-    let b = c in
-    omega (arith, (rises ((goal.at.overflow_cast-zones c).In-loop-i)).below b.loop-i.k c.if-k-many.true, (rises ((goal.at.overflow_cast-zones c).In-loop-i)).most)
+    let in_loop_i = (goal.at.overflow_cast-zones c).In-loop-i in
+    omega (arith, (rises in_loop_i).below c.loop-i.k c.if-k-many.true, (rises in_loop_i).most)
 
 pub overflow_add-k : goal.overflow_add-k
-overflow_add-k c = let b = c in omega (arith, c.if-k-many.true, (rises ((goal.at.overflow_add-k c).In-loop-i)).few, (rises ((goal.at.overflow_add-k c).In-loop-i)).most)
+overflow_add-k c =
+    let in_loop_i = (goal.at.overflow_add-k c).In-loop-i in
+    omega (arith, c.if-k-many.true, (rises in_loop_i).few, (rises in_loop_i).most)
 
 pub overflow_cast-places : goal.overflow_cast-places
-overflow_cast-places c = let b = c in omega (arith, place_few ((goal.at.overflow_cast-places c).Joined-k-many), (rises ((goal.at.overflow_cast-places c).In-loop-i)).few, (rises ((goal.at.overflow_cast-places c).In-loop-i)).most)
+overflow_cast-places c =
+    let in_loop_i = (goal.at.overflow_cast-places c).In-loop-i in
+    omega (arith, place_few ((goal.at.overflow_cast-places c).Joined-k-many), (rises in_loop_i).few, (rises in_loop_i).most)
 
 pub bounds-places-i : goal.bounds-places-i
-bounds-places-i c = let b = c in omega (arith, b.loop-i.invariant.long, b.loop-i-test.true)
+bounds-places-i c = omega (arith, c.loop-i.invariant.long, c.loop-i-test.true)
 
 pub overflow_add-i : goal.overflow_add-i
-overflow_add-i c = let b = c in omega (arith, b.loop-i-test.true, (rises ((goal.at.overflow_add-i c).In-loop-i)).most)
+overflow_add-i c = omega (arith, c.loop-i-test.true, (rises ((goal.at.overflow_add-i c).In-loop-i)).most)
 
 pub loop-i-smaller : goal.loop-i-smaller
 loop-i-smaller c = omega (arith, c.loop-i-test.true)
 
 pub loop-i-preserved : goal.loop-i-preserved
 loop-i-preserved c =
-    let b = c in
-    let n = (start ((goal.at.loop-i-preserved c).In-loop-i)).args.n in
-    let l = b.loop-i in
-    let h = b.loop-i-test.true in
+    let in_loop_i = (goal.at.loop-i-preserved c).In-loop-i in
+    let n = (start in_loop_i).args.n in
+    let l = c.loop-i in
+    let h = c.loop-i-test.true in
     let j = c.if-k-many.k in
     let v = c.if-k-many.place in
-    let found = placed_found (zones ((goal.at.loop-i-preserved c).In-loop-i)) n (rises ((goal.at.loop-i-preserved c).In-loop-i)) l.i l.k l.places l.invariant h j v in
-    let lacking = placed_lacking (zones ((goal.at.loop-i-preserved c).In-loop-i)) n (rises ((goal.at.loop-i-preserved c).In-loop-i)) l.i l.k l.places l.invariant h j v in
+    let found = placed_found (zones in_loop_i) n (rises in_loop_i) l.i l.k l.places l.invariant h j v in
+    let lacking = placed_lacking (zones in_loop_i) n (rises in_loop_i) l.i l.k l.places l.invariant h j v in
     elim c.if-k-many.branch [
       | then-k-many+then-zones-k w ↦ found w.if-k-many.true w.if-zones-k.true w.k-is w.place-is
       | then-k-many+else-zones-k w ↦ lacking (λ p. omega (arith, w.if-zones-k.false, l.invariant.next p)) w.k-is w.place-is

@@ -11,7 +11,7 @@ use Rattle.account.proofs.keeping.gather_pairs.Goals as goal
 use Rattle.account.proofs.keeping.gather_pairs.Goals.{In-loop-k, Start}
 
 pub loop-k-init : goal.loop-k-init
-loop-k-init c = let a = c in (omega arith, (a.requires.out_len, rows_none _ _ a.args.out.now))
+loop-k-init c = (omega arith, (c.requires.out_len, rows_none _ _ c.args.out.now))
 
 -- the zone at hand, and its row
 module _ (c : In-loop-k) where
@@ -37,7 +37,9 @@ pub bounds-zones-k : goal.bounds-zones-k
 bounds-zones-k c = c.loop-k-test.true
 
 pub overflow_cast-zone : goal.overflow_cast-zone
-overflow_cast-zone c = let b = c in omega (arith, below ((goal.at.overflow_cast-zone c).In-loop-k), (s ((goal.at.overflow_cast-zone c).In-loop-k)).requires.zones.most)
+overflow_cast-zone c =
+    let in_loop_k = (goal.at.overflow_cast-zone c).In-loop-k in
+    omega (arith, below in_loop_k, (s in_loop_k).requires.zones.most)
 
 pub overflow_mul-first : goal.overflow_mul-first
 overflow_mul-first c = omega (arith, ends ((goal.at.overflow_mul-first c).In-loop-k))
@@ -50,28 +52,28 @@ slice_bounds-gather_row-count c = omega arith
 
 pub gather_row-requires : goal.gather_row-requires
 gather_row-requires c =
-    let b = c in
-    let p = (s ((goal.at.gather_row-requires c).In-loop-k)).requires in record { zones = p.zones; pairs_len = p.pairs_len; zone_lt_n = below ((goal.at.gather_row-requires c).In-loop-k); out_len = mid_len (k ((goal.at.gather_row-requires c).In-loop-k) * many ((goal.at.gather_row-requires c).In-loop-k)) (k ((goal.at.gather_row-requires c).In-loop-k) * many ((goal.at.gather_row-requires c).In-loop-k) + many ((goal.at.gather_row-requires c).In-loop-k)) b.loop-k.out (room ((goal.at.gather_row-requires c).In-loop-k)) ∙ omega arith }
+    let in_loop_k = (goal.at.gather_row-requires c).In-loop-k in
+    let p = (s in_loop_k).requires in record { zones = p.zones; pairs_len = p.pairs_len; zone_lt_n = below in_loop_k; out_len = mid_len (k in_loop_k * many in_loop_k) (k in_loop_k * many in_loop_k + many in_loop_k) c.loop-k.out (room in_loop_k) ∙ omega arith }
 
 pub overflow_add-k : goal.overflow_add-k
 overflow_add-k c =
-    let b = c in
-    omega (arith, b.loop-k-test.true, (s ((goal.at.overflow_add-k c).In-loop-k)).requires.zones.few, (s ((goal.at.overflow_add-k c).In-loop-k)).requires.zones.most)
+    let in_loop_k = (goal.at.overflow_add-k c).In-loop-k in
+    omega (arith, c.loop-k-test.true, (s in_loop_k).requires.zones.few, (s in_loop_k).requires.zones.most)
 
 pub loop-k-smaller : goal.loop-k-smaller
 loop-k-smaller c = omega (arith, c.loop-k-test.true)
 
 pub loop-k-preserved : goal.loop-k-preserved
 loop-k-preserved c =
-    let b = c in
+    let in_loop_k = (goal.at.loop-k-preserved c).In-loop-k in
     let row = c.gather_row.ensures in
-    let l = b.loop-k in
-    let a = (s ((goal.at.loop-k-preserved c).In-loop-k)).args in
+    let l = c.loop-k in
+    let a = (s in_loop_k).args in
     let f : ℕ → ℕ → ℕ = λ k. gathered_pair a.n a.pairs.now a.zones.now (get_or a.zones.now k 0) in (
-      omega (arith, b.loop-k-test.true),
+      omega (arith, c.loop-k-test.true),
       (
-        row_length f (many ((goal.at.loop-k-preserved c).In-loop-k)) (k ((goal.at.loop-k-preserved c).In-loop-k)) l.out _ (room ((goal.at.loop-k-preserved c).In-loop-k)) l.invariant.1.1 row ∙ l.invariant.1.0,
-        row_written f (many ((goal.at.loop-k-preserved c).In-loop-k)) (k ((goal.at.loop-k-preserved c).In-loop-k)) l.out _ (room ((goal.at.loop-k-preserved c).In-loop-k)) l.invariant.1.1 row,
+        row_length f (many in_loop_k) (k in_loop_k) l.out _ (room in_loop_k) l.invariant.1.1 row ∙ l.invariant.1.0,
+        row_written f (many in_loop_k) (k in_loop_k) l.out _ (room in_loop_k) l.invariant.1.1 row,
       ),
     )
 

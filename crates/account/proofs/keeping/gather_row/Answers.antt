@@ -31,21 +31,27 @@ pub bounds-zones-k : goal.bounds-zones-k
 bounds-zones-k c = c.loop-k-test.true
 
 pub overflow_cast-other : goal.overflow_cast-other
-overflow_cast-other c = let b = c in omega (arith, (s ((goal.at.overflow_cast-other c).In-loop-k)).requires.zones.most, below ((goal.at.overflow_cast-other c).In-loop-k))
+overflow_cast-other c =
+    let in_loop_k = (goal.at.overflow_cast-other c).In-loop-k in
+    omega (arith, (s in_loop_k).requires.zones.most, below in_loop_k)
 
 pub overflow_add-out : goal.overflow_add-out
-overflow_add-out c = let b = c in omega (arith, ends ((goal.at.overflow_add-out c).In-loop-k), below ((goal.at.overflow_add-out c).In-loop-k))
+overflow_add-out c =
+    let in_loop_k = (goal.at.overflow_add-out c).In-loop-k in
+    omega (arith, ends in_loop_k, below in_loop_k)
 
 pub bounds-pairs-row : goal.bounds-pairs-row
 bounds-pairs-row c =
-    let b = c in
-    omega (arith, row_end _ _ (s ((goal.at.bounds-pairs-row c).In-loop-k)).requires.zone_lt_n, (s ((goal.at.bounds-pairs-row c).In-loop-k)).requires.pairs_len, below ((goal.at.bounds-pairs-row c).In-loop-k))
+    let in_loop_k = (goal.at.bounds-pairs-row c).In-loop-k in
+    omega (arith, row_end _ _ (s in_loop_k).requires.zone_lt_n, (s in_loop_k).requires.pairs_len, below in_loop_k)
 
 pub bounds-out-k : goal.bounds-out-k
-bounds-out-k c = let b = c in omega (arith, b.loop-k.invariant.1.0, b.loop-k-test.true)
+bounds-out-k c = omega (arith, c.loop-k.invariant.1.0, c.loop-k-test.true)
 
 pub overflow_add-k : goal.overflow_add-k
-overflow_add-k c = let b = c in omega (arith, (s ((goal.at.overflow_add-k c).In-loop-k)).requires.zones.few, (s ((goal.at.overflow_add-k c).In-loop-k)).requires.zones.most, b.loop-k-test.true)
+overflow_add-k c =
+    let in_loop_k = (goal.at.overflow_add-k c).In-loop-k in
+    omega (arith, (s in_loop_k).requires.zones.few, (s in_loop_k).requires.zones.most, c.loop-k-test.true)
 
 pub loop-k-smaller : goal.loop-k-smaller
 loop-k-smaller c = omega (arith, c.loop-k-test.true)
@@ -53,14 +59,13 @@ loop-k-smaller c = omega (arith, c.loop-k-test.true)
 pub loop-k-preserved : goal.loop-k-preserved
 unfolding pair_at
 loop-k-preserved c =
-    let b = c in
     let a = (s ((goal.at.loop-k-preserved c).In-loop-k)).args in
-    let l = b.loop-k in (
-      omega (arith, b.loop-k-test.true),
+    let l = c.loop-k in (
+      omega (arith, c.loop-k-test.true),
       (
         simp length-set l.invariant.1.0,
         stored (gathered_pair a.n a.pairs.now a.zones.now a.zone) 0 _ l.out l.k
-            (omega (arith, l.invariant.1.0, b.loop-k-test.true)) refl l.invariant.1.1,
+            (omega (arith, l.invariant.1.0, c.loop-k-test.true)) refl l.invariant.1.1,
       ),
     )
 

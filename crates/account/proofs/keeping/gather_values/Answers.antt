@@ -29,10 +29,14 @@ pub bounds-zones-k : goal.bounds-zones-k
 bounds-zones-k c = c.loop-k-test.true
 
 pub overflow_cast-zone : goal.overflow_cast-zone
-overflow_cast-zone c = let b = c in omega (arith, below ((goal.at.overflow_cast-zone c).In-loop-k), (s ((goal.at.overflow_cast-zone c).In-loop-k)).requires.zones.most)
+overflow_cast-zone c =
+    let in_loop_k = (goal.at.overflow_cast-zone c).In-loop-k in
+    omega (arith, below in_loop_k, (s in_loop_k).requires.zones.most)
 
 pub offset_bounds-values-zone : goal.offset_bounds-values-zone
-offset_bounds-values-zone c = let b = c in omega (arith, below ((goal.at.offset_bounds-values-zone c).In-loop-k), (s ((goal.at.offset_bounds-values-zone c).In-loop-k)).requires.zones.most)
+offset_bounds-values-zone c =
+    let in_loop_k = (goal.at.offset_bounds-values-zone c).In-loop-k in
+    omega (arith, below in_loop_k, (s in_loop_k).requires.zones.most)
 
 pub bounds-values-zone : goal.bounds-values-zone
 bounds-values-zone c = below ((goal.at.bounds-values-zone c).In-loop-k)
@@ -41,7 +45,7 @@ pub offset_bounds-out-k : goal.offset_bounds-out-k
 offset_bounds-out-k c = omega (arith, few ((goal.at.offset_bounds-out-k c).In-loop-k))
 
 pub bounds-out-k : goal.bounds-out-k
-bounds-out-k c = let b = c in omega (arith, b.loop-k.invariant.1.0, b.loop-k-test.true)
+bounds-out-k c = omega (arith, c.loop-k.invariant.1.0, c.loop-k-test.true)
 
 pub overflow_add-k : goal.overflow_add-k
 overflow_add-k c = omega (arith, few ((goal.at.overflow_add-k c).In-loop-k))
@@ -51,14 +55,13 @@ loop-k-smaller c = omega (arith, c.loop-k-test.true)
 
 pub loop-k-preserved : goal.loop-k-preserved
 loop-k-preserved c =
-    let b = c in
     let a = (s ((goal.at.loop-k-preserved c).In-loop-k)).args in
-    let l = b.loop-k in (
-      omega (arith, b.loop-k-test.true),
+    let l = c.loop-k in (
+      omega (arith, c.loop-k-test.true),
       (
         simp length-set l.invariant.1.0,
         stored (λ q. at a.values.now (get_or a.zones.now q 0)) (pos 0) _ l.out l.k
-            (omega (arith, l.invariant.1.0, b.loop-k-test.true))
+            (omega (arith, l.invariant.1.0, c.loop-k-test.true))
             (to_z-of_z w32 _ (record { sfits = c.out-1.given }))
             l.invariant.1.1,
       ),

@@ -77,13 +77,13 @@ pub overflow_add-zone : goal.overflow_add-zone
 overflow_add-zone c = omega (arith, c.loop-p-test.true, row_end (start ((goal.at.overflow_add-zone c).At-loop-p)).requires.shuffle.row)
 
 pub bounds-shuffles-row : goal.bounds-shuffles-row
-bounds-shuffles-row c = let b = c in omega (arith, b.loop-p-test.true, (start ((goal.at.bounds-shuffles-row c).At-loop-p)).requires.shuffle.row.there)
+bounds-shuffles-row c = omega (arith, c.loop-p-test.true, (start ((goal.at.bounds-shuffles-row c).At-loop-p)).requires.shuffle.row.there)
 
 pub overflow_cast-zone : goal.overflow_cast-zone
-overflow_cast-zone c = let b = c in omega (arith, zone_below ((goal.at.overflow_cast-zone c).In-loop-p), (start ((goal.at.overflow_cast-zone c).At-loop-p)).requires.shuffle.row.zones)
+overflow_cast-zone c = omega (arith, zone_below ((goal.at.overflow_cast-zone c).In-loop-p), (start ((goal.at.overflow_cast-zone c).At-loop-p)).requires.shuffle.row.zones)
 
 pub bounds-places-zone : goal.bounds-places-zone
-bounds-places-zone c = let b = c in omega (arith, zone_below ((goal.at.bounds-places-zone c).In-loop-p), (start ((goal.at.bounds-places-zone c).At-loop-p)).requires.places_len)
+bounds-places-zone c = omega (arith, zone_below ((goal.at.bounds-places-zone c).In-loop-p), (start ((goal.at.bounds-places-zone c).At-loop-p)).requires.places_len)
 
 pub overflow_cast-place : goal.overflow_cast-place
 overflow_cast-place c = omega (arith, c.shared_slice_known-in-loop-p-1.given (zone ((goal.at.overflow_cast-place c).In-loop-p)))
@@ -92,10 +92,12 @@ pub bounds-out-k : goal.bounds-out-k
 bounds-out-k c = room ((goal.at.bounds-out-k c).In-loop-p) c.if-place-out.true
 
 pub overflow_add-k : goal.overflow_add-k
-overflow_add-k c = let b = c in omega (arith, few ((goal.at.overflow_add-k c).At-loop-p), (start ((goal.at.overflow_add-k c).At-loop-p)).requires.shuffle.row.zones)
+overflow_add-k c =
+    let at_loop_p = (goal.at.overflow_add-k c).At-loop-p in
+    omega (arith, few at_loop_p, (start at_loop_p).requires.shuffle.row.zones)
 
 pub overflow_add-p : goal.overflow_add-p
-overflow_add-p c = let b = c in omega (arith, b.loop-p-test.true, (start ((goal.at.overflow_add-p c).At-loop-p)).requires.shuffle.row.zones)
+overflow_add-p c = omega (arith, c.loop-p-test.true, (start ((goal.at.overflow_add-p c).At-loop-p)).requires.shuffle.row.zones)
 
 pub loop-p-smaller : goal.loop-p-smaller
 loop-p-smaller c = omega (arith, c.loop-p-test.true)
@@ -103,20 +105,20 @@ loop-p-smaller c = omega (arith, c.loop-p-test.true)
 pub loop-p-preserved : goal.loop-p-preserved
 unfolding pair_at
 loop-p-preserved c =
-    let b = c in
-    let l = b.loop-p in
+    let at_loop_p = (goal.at.loop-p-preserved c).At-loop-p in
+    let l = c.loop-p in
     let h = c.loop-p-test.true in
     let j = c.if-place-out.k in
     let new = c.if-place-out.out in
-    let with-place = taken_yes (places ((goal.at.loop-p-preserved c).At-loop-p)) (many ((goal.at.loop-p-preserved c).At-loop-p)) (n ((goal.at.loop-p-preserved c).At-loop-p)) (row ((goal.at.loop-p-preserved c).At-loop-p)) (all ((goal.at.loop-p-preserved c).At-loop-p)) (fits ((goal.at.loop-p-preserved c).At-loop-p)) l.p l.k l.out l.invariant h j new in
-    let without = taken_no (places ((goal.at.loop-p-preserved c).At-loop-p)) (many ((goal.at.loop-p-preserved c).At-loop-p)) (n ((goal.at.loop-p-preserved c).At-loop-p)) (row ((goal.at.loop-p-preserved c).At-loop-p)) (all ((goal.at.loop-p-preserved c).At-loop-p)) (fits ((goal.at.loop-p-preserved c).At-loop-p)) l.p l.k l.out l.invariant h j new in
-    elim c.if-place-out.branch [ then-place-out w ↦ with-place (omega (arith, w.if-place-out.true, l.invariant.long)) w.out-is w.k-is | else-place-out w ↦ without (omega (arith, w.if-place-out.false, l.invariant.long)) w.out-is w.k-is ]
+    let with_place = taken_yes (places at_loop_p) (many at_loop_p) (n at_loop_p) (row at_loop_p) (all at_loop_p) (fits at_loop_p) l.p l.k l.out l.invariant h j new in
+    let without = taken_no (places at_loop_p) (many at_loop_p) (n at_loop_p) (row at_loop_p) (all at_loop_p) (fits at_loop_p) l.p l.k l.out l.invariant h j new in
+    elim c.if-place-out.branch [ then-place-out w ↦ with_place (omega (arith, w.if-place-out.true, l.invariant.long)) w.out-is w.k-is | else-place-out w ↦ without (omega (arith, w.if-place-out.false, l.invariant.long)) w.out-is w.k-is ]
 
 pub shape_of-out : goal.shape_of-out
 shape_of-out c = c.loop-p.invariant.long
 
 pub returns : goal.returns
 returns c =
-    let b = c in
-    let l = b.loop-p in
-    taken_all (places ((goal.at.returns c).At-loop-p)) (many ((goal.at.returns c).At-loop-p)) (n ((goal.at.returns c).At-loop-p)) (row ((goal.at.returns c).At-loop-p)) (all ((goal.at.returns c).At-loop-p)) (fits ((goal.at.returns c).At-loop-p)) l.p l.k l.out l.invariant c.loop-p-test.false
+    let at_loop_p = (goal.at.returns c).At-loop-p in
+    let l = c.loop-p in
+    taken_all (places at_loop_p) (many at_loop_p) (n at_loop_p) (row at_loop_p) (all at_loop_p) (fits at_loop_p) l.p l.k l.out l.invariant c.loop-p-test.false

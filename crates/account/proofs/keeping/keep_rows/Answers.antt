@@ -60,7 +60,7 @@ module _ (c : In-loop-r) where
   as_written part e = e ∙ ap (λ m. table (placed m r) m) as_long
 
 pub loop-r-init : goal.loop-r-init
-loop-r-init c = let s = c in (omega arith, (s.requires.out_len, rows_none _ _ s.args.out.now))
+loop-r-init c = (omega arith, (c.requires.out_len, rows_none _ _ c.args.out.now))
 
 pub overflow_mul-first : goal.overflow_mul-first
 overflow_mul-first c = omega (arith, row_end (row c))
@@ -73,24 +73,24 @@ slice_bounds-keep_row-count c = omega arith
 
 pub keep_row-requires : goal.keep_row-requires
 keep_row-requires c =
-    let b = c in
-    let a = (start ((goal.at.keep_row-requires c).In-loop-r)).args in record { shuffle = shuffle_there a.shuffles.now a.n a.rows (r ((goal.at.keep_row-requires c).In-loop-r)) (all ((goal.at.keep_row-requires c).In-loop-r)) b.loop-r-test.true; places_len = (start ((goal.at.keep_row-requires c).In-loop-r)).requires.places_len; n_value = ap (λ m. count (λ i. ltb (get_or a.places.now i 0) m) a.n) (as_long ((goal.at.keep_row-requires c).In-loop-r)) ∙ (start ((goal.at.keep_row-requires c).In-loop-r)).requires.n_value ∙ sym (as_long ((goal.at.keep_row-requires c).In-loop-r)) }
+    let in_loop_r = (goal.at.keep_row-requires c).In-loop-r in
+    let a = (start in_loop_r).args in record { shuffle = shuffle_there a.shuffles.now a.n a.rows (r in_loop_r) (all in_loop_r) c.loop-r-test.true; places_len = (start in_loop_r).requires.places_len; n_value = ap (λ m. count (λ i. ltb (get_or a.places.now i 0) m) a.n) (as_long in_loop_r) ∙ (start in_loop_r).requires.n_value ∙ sym (as_long in_loop_r) }
 
 pub overflow_add-r : goal.overflow_add-r
-overflow_add-r c = let b = c in omega (arith, b.loop-r-test.true, (all ((goal.at.overflow_add-r c).In-loop-r)).few)
+overflow_add-r c = omega (arith, c.loop-r-test.true, (all ((goal.at.overflow_add-r c).In-loop-r)).few)
 
 pub loop-r-smaller : goal.loop-r-smaller
 loop-r-smaller c = omega (arith, c.loop-r-test.true)
 
 pub loop-r-preserved : goal.loop-r-preserved
 loop-r-preserved c =
-    let b = c in
-    let l = b.loop-r in
-    let written = as_written ((goal.at.loop-r-preserved c).In-loop-r) _ c.keep_row.ensures in (
-      omega (arith, b.loop-r-test.true),
+    let in_loop_r = (goal.at.loop-r-preserved c).In-loop-r in
+    let l = c.loop-r in
+    let written = as_written in_loop_r _ c.keep_row.ensures in (
+      omega (arith, c.loop-r-test.true),
       (
-        row_length (placed ((goal.at.loop-r-preserved c).In-loop-r) (many ((goal.at.loop-r-preserved c).In-loop-r))) (many ((goal.at.loop-r-preserved c).In-loop-r)) (r ((goal.at.loop-r-preserved c).In-loop-r)) (out ((goal.at.loop-r-preserved c).In-loop-r)) _ (row ((goal.at.loop-r-preserved c).In-loop-r)).there l.invariant.1.1 written ∙ l.invariant.1.0,
-        row_written (placed ((goal.at.loop-r-preserved c).In-loop-r) (many ((goal.at.loop-r-preserved c).In-loop-r))) (many ((goal.at.loop-r-preserved c).In-loop-r)) (r ((goal.at.loop-r-preserved c).In-loop-r)) (out ((goal.at.loop-r-preserved c).In-loop-r)) _ (row ((goal.at.loop-r-preserved c).In-loop-r)).there l.invariant.1.1 written,
+        row_length (placed in_loop_r (many in_loop_r)) (many in_loop_r) (r in_loop_r) (out in_loop_r) _ (row in_loop_r).there l.invariant.1.1 written ∙ l.invariant.1.0,
+        row_written (placed in_loop_r (many in_loop_r)) (many in_loop_r) (r in_loop_r) (out in_loop_r) _ (row in_loop_r).there l.invariant.1.1 written,
       ),
     )
 

@@ -37,9 +37,8 @@ value :
     let a = b.args in
     to_z w64 c.if-place-numbers.number-bits ≡ at_place a.places.now (length a.numbers.now) (at a.numbers.now) b.loop-i.i
 value c =
-    let b = c in
-    let numbers = b.args.numbers.now in
-    let place = get_or b.args.places.now b.loop-i.i 0 in
+    let numbers = c.args.numbers.now in
+    let place = get_or c.args.places.now c.loop-i.i 0 in
     elim c.if-place-numbers.branch [
       | then-place-numbers w ↦ w.number-is ∙ to_z-of_z w64 (at numbers place) (record { sfits = w.number-1.given }) ∙ sym (ap (λ t. cond t (at numbers place) (pos 0)) (lt-ltb place (length numbers) w.if-place-numbers.true))
       | else-place-numbers w ↦ w.number-is ∙ sym (ap (λ t. cond t (at numbers place) (pos 0)) (le-ltb place (length numbers) w.if-place-numbers.false))
@@ -47,30 +46,27 @@ value c =
 
 pub offset_bounds-out-i : goal.offset_bounds-out-i
 offset_bounds-out-i c =
-    let b = c in
-    omega (arith, b.well_formed.1.1.0.1, b.requires, c.loop-i-test.true)
+    omega (arith, c.well_formed.1.1.0.1, c.requires, c.loop-i-test.true)
 
 pub bounds-out-i : goal.bounds-out-i
-bounds-out-i c = let b = c in omega (arith, b.loop-i.invariant.1.0, b.loop-i-test.true)
+bounds-out-i c = omega (arith, c.loop-i.invariant.1.0, c.loop-i-test.true)
 
 pub overflow_add-i : goal.overflow_add-i
 overflow_add-i c =
-    let b = c in
-    omega (arith, b.well_formed.0.0, c.loop-i-test.true)
+    omega (arith, c.well_formed.0.0, c.loop-i-test.true)
 
 pub loop-i-smaller : goal.loop-i-smaller
 loop-i-smaller c = omega (arith, c.loop-i-test.true)
 
 pub loop-i-preserved : goal.loop-i-preserved
 loop-i-preserved c =
-    let b = c in
-    let a = b.args in
-    let l = b.loop-i in (
-      omega (arith, b.loop-i-test.true),
+    let a = c.args in
+    let l = c.loop-i in (
+      omega (arith, c.loop-i-test.true),
       (
         simp length-set l.invariant.1.0,
         stored (at_place a.places.now (length a.numbers.now) (at a.numbers.now)) (pos 0) _ l.out l.i
-            (omega (arith, l.invariant.1.0, b.loop-i-test.true)) (value c) l.invariant.1.1,
+            (omega (arith, l.invariant.1.0, c.loop-i-test.true)) (value c) l.invariant.1.1,
       ),
     )
 

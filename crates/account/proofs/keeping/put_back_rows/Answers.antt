@@ -51,7 +51,7 @@ module _
   of_row out t = t ∙ table_cong by_part by_row (length places) (pos 0) (λ i h. same i)
 
 pub loop-k-init : goal.loop-k-init
-loop-k-init c = let s = c in (omega arith, (s.requires.out_len, rows_none _ _ s.args.out.now))
+loop-k-init c = (omega arith, (c.requires.out_len, rows_none _ _ c.args.out.now))
 
 -- the class at hand, its row of the numbers and its row of what is written
 module _ (c : In-loop-k) where
@@ -105,8 +105,8 @@ slice_bounds-put_back-count-in-loop-k c = omega arith
 
 pub put_back-requires : goal.put_back-requires
 put_back-requires c =
-    let b = c in
-    mid_len (k ((goal.at.put_back-requires c).In-loop-k) * n ((goal.at.put_back-requires c).In-loop-k)) (k ((goal.at.put_back-requires c).In-loop-k) * n ((goal.at.put_back-requires c).In-loop-k) + n ((goal.at.put_back-requires c).In-loop-k)) b.loop-k.out (room ((goal.at.put_back-requires c).In-loop-k)) ∙ apart (k ((goal.at.put_back-requires c).In-loop-k) * n ((goal.at.put_back-requires c).In-loop-k)) (n ((goal.at.put_back-requires c).In-loop-k))
+    let in_loop_k = (goal.at.put_back-requires c).In-loop-k in
+    mid_len (k in_loop_k * n in_loop_k) (k in_loop_k * n in_loop_k + n in_loop_k) c.loop-k.out (room in_loop_k) ∙ apart (k in_loop_k * n in_loop_k) (n in_loop_k)
 
 pub overflow_add-k : goal.overflow_add-k
 overflow_add-k c = omega (arith, c.loop-k-test.true)
@@ -116,17 +116,17 @@ loop-k-smaller c = omega (arith, c.loop-k-test.true)
 
 pub loop-k-preserved : goal.loop-k-preserved
 loop-k-preserved c =
-    let b = c in
-    let l = b.loop-k in
-    let a = (s ((goal.at.loop-k-preserved c).In-loop-k)).args in
+    let in_loop_k = (goal.at.loop-k-preserved c).In-loop-k in
+    let l = c.loop-k in
+    let a = (s in_loop_k).args in
     let f : ℕ → ℕ → ℤ = λ k. at_place a.places.now a.many (λ p. at a.numbers.now (k * a.many + p)) in
-    let part = ap (λ t. take t (drop (k ((goal.at.loop-k-preserved c).In-loop-k) * many ((goal.at.loop-k-preserved c).In-loop-k)) a.numbers.now)) (apart (k ((goal.at.loop-k-preserved c).In-loop-k) * many ((goal.at.loop-k-preserved c).In-loop-k)) (many ((goal.at.loop-k-preserved c).In-loop-k))) in
+    let part = ap (λ t. take t (drop (k in_loop_k * many in_loop_k) a.numbers.now)) (apart (k in_loop_k * many in_loop_k) (many in_loop_k)) in
     let told = c.put_back.ensures in
-    let row = of_row a.places.now a.numbers.now _ (k ((goal.at.loop-k-preserved c).In-loop-k) * many ((goal.at.loop-k-preserved c).In-loop-k)) (many ((goal.at.loop-k-preserved c).In-loop-k)) part (from_ends ((goal.at.loop-k-preserved c).In-loop-k)) _ told in (
-      omega (arith, b.loop-k-test.true),
+    let row = of_row a.places.now a.numbers.now _ (k in_loop_k * many in_loop_k) (many in_loop_k) part (from_ends in_loop_k) _ told in (
+      omega (arith, c.loop-k-test.true),
       (
-        row_length f (n ((goal.at.loop-k-preserved c).In-loop-k)) (k ((goal.at.loop-k-preserved c).In-loop-k)) l.out _ (room ((goal.at.loop-k-preserved c).In-loop-k)) l.invariant.1.1 row ∙ l.invariant.1.0,
-        row_written f (n ((goal.at.loop-k-preserved c).In-loop-k)) (k ((goal.at.loop-k-preserved c).In-loop-k)) l.out _ (room ((goal.at.loop-k-preserved c).In-loop-k)) l.invariant.1.1 row,
+        row_length f (n in_loop_k) (k in_loop_k) l.out _ (room in_loop_k) l.invariant.1.1 row ∙ l.invariant.1.0,
+        row_written f (n in_loop_k) (k in_loop_k) l.out _ (room in_loop_k) l.invariant.1.1 row,
       ),
     )
 

@@ -137,7 +137,9 @@ pub slice_bounds-kept_values-end : goal.slice_bounds-kept_values-end
 slice_bounds-kept_values-end c = sym (length-take-le _ _ (most ((goal.at.slice_bounds-kept_values-end c).Start)))
 
 pub gather_values-requires : goal.gather_values-requires
-gather_values-requires c = let s = c in record { zones = rw (good ((goal.at.gather_values-requires c).Start)).job.valued.near.count (rising ((goal.at.gather_values-requires c).Start)); out_len = length-take-le _ _ (most ((goal.at.gather_values-requires c).Start)) }
+gather_values-requires c =
+    let start = (goal.at.gather_values-requires c).Start in
+    record { zones = rw (good start).job.valued.near.count (rising start); out_len = length-take-le _ _ (most start) }
 
 pub slice_bounds-weight_space-end : goal.slice_bounds-weight_space-end
 slice_bounds-weight_space-end c = room c
@@ -147,8 +149,8 @@ slice_bounds-kept_weights-end c = sym (length-take-le _ _ (room ((goal.at.slice_
 
 pub gather_pairs-requires : goal.gather_pairs-requires
 gather_pairs-requires c =
-    let r = c in
-    let s = begun ((goal.at.gather_pairs-requires c).After-pair_room-weight_space) in record { zones = rising s; pairs_len = (good s).job.weighted.count; out_len = length-take-le _ _ (room ((goal.at.gather_pairs-requires c).After-pair_room-weight_space)) }
+    let after_pair_room_weight_space = (goal.at.gather_pairs-requires c).After-pair_room-weight_space in
+    let s = begun after_pair_room_weight_space in record { zones = rising s; pairs_len = (good s).job.weighted.count; out_len = length-take-le _ _ (room after_pair_room_weight_space) }
 
 pub slice_bounds-class_space-end : goal.slice_bounds-class_space-end
 slice_bounds-class_space-end c = room2 c
@@ -158,8 +160,8 @@ slice_bounds-kept_classes-end c = sym (length-take-le _ _ (room2 ((goal.at.slice
 
 pub gather_pairs-requires-2 : goal.gather_pairs-requires-2
 gather_pairs-requires-2 c =
-    let r = c in
-    let s = begun2 ((goal.at.gather_pairs-requires-2 c).After-pair_room-class_space) in record { zones = rising s; pairs_len = (good s).count; out_len = length-take-le _ _ (room2 ((goal.at.gather_pairs-requires-2 c).After-pair_room-class_space)) }
+    let after_pair_room_class_space = (goal.at.gather_pairs-requires-2 c).After-pair_room-class_space in
+    let s = begun2 after_pair_room_class_space in record { zones = rising s; pairs_len = (good s).count; out_len = length-take-le _ _ (room2 after_pair_room_class_space) }
 
 pub overflow_mul-nine : goal.overflow_mul-nine
 overflow_mul-nine c = omega (arith, nine_most (start ((goal.at.overflow_mul-nine c).After-gather_pairs-2)))
@@ -178,8 +180,8 @@ slice_bounds-kept_locals-end c = sym (length-take-le _ _ (most (start ((goal.at.
 
 pub zone_classes-sums-requires : goal.zone_classes-sums-requires
 zone_classes-sums-requires c =
-    let g = c in
-    let s = start ((goal.at.zone_classes-sums-requires c).After-gather_pairs-2) in record { class_job = gathered_job (n s) (values s) (weights s) (classes s) (kept ((goal.at.zone_classes-sums-requires c).After-gather_pairs-2)) (good s); rows_len = s.requires.rows_len; class_locals_len = length-take-le _ _ (nine_most s); locals_len = length-take-le _ _ (most s) }
+    let after_gather_pairs = (goal.at.zone_classes-sums-requires c).After-gather_pairs-2 in
+    let s = start after_gather_pairs in record { class_job = gathered_job (n s) (values s) (weights s) (classes s) (kept after_gather_pairs) (good s); rows_len = s.requires.rows_len; class_locals_len = length-take-le _ _ (nine_most s); locals_len = length-take-le _ _ (most s) }
 
 pub slice_bounds-place_space-end : goal.slice_bounds-place_space-end
 slice_bounds-place_space-end c =
@@ -196,8 +198,8 @@ find_places-requires c = let s = start (from_work ((goal.at.find_places-requires
 
 pub put_back_rows-requires : goal.put_back_rows-requires
 put_back_rows-requires c =
-    let p = c in
-    let s = entry ((goal.at.put_back_rows-requires c).After-find_places) in record { places_len_bound = omega (arith, placed ((goal.at.put_back_rows-requires c).After-find_places), (good s).job.valued.zones); many_bound = most s; numbers_len = (work ((goal.at.put_back_rows-requires c).After-find_places)).zone_classes-sums.auto.class_locals ∙ length-take-le _ _ (nine_most s); out_len = s.requires.class_locals_len ∙ ap (λ t. 9 * t) (sym (placed ((goal.at.put_back_rows-requires c).After-find_places))) }
+    let after_find_places = (goal.at.put_back_rows-requires c).After-find_places in
+    let s = entry after_find_places in record { places_len_bound = omega (arith, placed after_find_places, (good s).job.valued.zones); many_bound = most s; numbers_len = (work after_find_places).zone_classes-sums.auto.class_locals ∙ length-take-le _ _ (nine_most s); out_len = s.requires.class_locals_len ∙ ap (λ t. 9 * t) (sym (placed after_find_places)) }
 
 pub put_back-requires : goal.put_back-requires
 put_back-requires c =
@@ -206,7 +208,6 @@ put_back-requires c =
 
 pub returns : goal.returns
 returns c =
-    let b = c in
     let r = from_locals ((goal.at.returns c).After-put_back) in
     let p = from_rows r in
     let s = entry p in
@@ -218,5 +219,5 @@ returns c =
       rows_after = sums_kept (n s) (values s) (weights s) (classes s) g told.rows_after;
       class_locals_after = class_locals_back (n s) (values s) (weights s) (classes s) g (zones s) z (places p) e told.class_locals_after
           r.put_back_rows.ensures;
-      locals_after = locals_back (n s) (values s) (weights s) (classes s) g (zones s) z (places p) e told.locals_after b.put_back.ensures;
+      locals_after = locals_back (n s) (values s) (weights s) (classes s) g (zones s) z (places p) e told.locals_after c.put_back.ensures;
     }

@@ -6,12 +6,9 @@ use Rattle.account.proofs.kept_zones.job_sums.Goals as goal
 
 pub returns-then-zones-n : goal.returns-then-zones-n
 returns-then-zones-n c =
-    let b = c in
-    let t = c in
-    let s = c in
-    let n = s.args.n in
-    let values = s.args.values.now in
-    let weights = s.args.weights.now in
-    let all = sym (zones_count n weights s.args.zones.now s.requires.zones_value) ∙ t.if-zones-n.true in
-    let valued = s.requires.job.valued.near.count in
-    let weighted = s.requires.job.weighted.count in record { result_value = b.zone_sums.ensures.result_value ∙ sym (all_figures n values weights all valued weighted); locals_after = b.zone_sums.ensures.locals_after ∙ sym (all_locals n values weights all valued weighted) }
+    let n = c.args.n in
+    let values = c.args.values.now in
+    let weights = c.args.weights.now in
+    let all = sym (zones_count n weights c.args.zones.now c.requires.zones_value) ∙ c.if-zones-n.true in
+    let valued = c.requires.job.valued.near.count in
+    let weighted = c.requires.job.weighted.count in record { result_value = c.zone_sums.ensures.result_value ∙ sym (all_figures n values weights all valued weighted); locals_after = c.zone_sums.ensures.locals_after ∙ sym (all_locals n values weights all valued weighted) }

@@ -62,7 +62,9 @@ pub slice_bounds-kept_values-end : goal.slice_bounds-kept_values-end
 slice_bounds-kept_values-end c = sym (length-take-le _ _ (few ((goal.at.slice_bounds-kept_values-end c).Start)))
 
 pub gather_values-requires : goal.gather_values-requires
-gather_values-requires c = let s = c in record { zones = zones_rise_in (n ((goal.at.gather_values-requires c).Start)) (weights ((goal.at.gather_values-requires c).Start)) (zones ((goal.at.gather_values-requires c).Start)) s.requires.zones_value (values ((goal.at.gather_values-requires c).Start)) (job ((goal.at.gather_values-requires c).Start)); out_len = length-take-le _ _ (few ((goal.at.gather_values-requires c).Start)) }
+gather_values-requires c =
+    let start = (goal.at.gather_values-requires c).Start in
+    record { zones = zones_rise_in (n start) (weights start) (zones start) c.requires.zones_value (values start) (job start); out_len = length-take-le _ _ (few start) }
 
 -- the array has room for the pairs of the kept zones
 module _ (c : After-pair_room-weight_space) where
@@ -80,8 +82,8 @@ slice_bounds-kept_weights-end c = sym (length-take-le _ _ (pairs_there ((goal.at
 
 pub gather_pairs-requires : goal.gather_pairs-requires
 gather_pairs-requires c =
-    let r = c in
-    let s = start ((goal.at.gather_pairs-requires c).After-pair_room-weight_space) in record { zones = rise s; pairs_len = (job s).weighted.count; out_len = length-take-le _ _ (pairs_there ((goal.at.gather_pairs-requires c).After-pair_room-weight_space)) }
+    let after_pair_room_weight_space = (goal.at.gather_pairs-requires c).After-pair_room-weight_space in
+    let s = start after_pair_room_weight_space in record { zones = rise s; pairs_len = (job s).weighted.count; out_len = length-take-le _ _ (pairs_there after_pair_room_weight_space) }
 
 -- what is gathered
 module _ (c : After-gather_pairs) where
@@ -137,10 +139,10 @@ slice_bounds-kept_shuffles-end c = sym (length-take-le _ _ (numbers_there ((goal
 
 pub keep_rows-requires : goal.keep_rows-requires
 keep_rows-requires c =
-    let r = c in
-    let s = first ((goal.at.keep_rows-requires c).After-shuffle_room-shuffle_space) in
+    let after_shuffle_room_shuffle_space = (goal.at.keep_rows-requires c).After-shuffle_room-shuffle_space in
+    let s = first after_shuffle_room_shuffle_space in
     let e = s.requires.zones_value in
-    let told = (found ((goal.at.keep_rows-requires c).After-shuffle_room-shuffle_space)).find_places.ensures in record { shuffles = all s; places_len = places_long (n s) (weights s) (zones s) e _ told; n_value = places_count (n s) (weights s) (zones s) e s.args.rows (shuffles s) (all s) _ told; out_len = length-take-le _ _ (numbers_there ((goal.at.keep_rows-requires c).After-shuffle_room-shuffle_space)) }
+    let told = (found after_shuffle_room_shuffle_space).find_places.ensures in record { shuffles = all s; places_len = places_long (n s) (weights s) (zones s) e _ told; n_value = places_count (n s) (weights s) (zones s) e s.args.rows (shuffles s) (all s) _ told; out_len = length-take-le _ _ (numbers_there after_shuffle_room_shuffle_space) }
 
 -- the shuffles of the kept zones
 module _ (c : After-keep_rows) where
@@ -162,14 +164,15 @@ module _ (c : After-keep_rows) where
       places_found.find_places.ensures out c.keep_rows.ensures
 
 pub zone_rank-requires : goal.zone_rank-requires
-zone_rank-requires c = let k = c in record { job = kept (lists ((goal.at.zone_rank-requires c).After-keep_rows)); shuffles = kept_all ((goal.at.zone_rank-requires c).After-keep_rows) }
+zone_rank-requires c =
+    let after_keep_rows = (goal.at.zone_rank-requires c).After-keep_rows in
+    record { job = kept (lists after_keep_rows); shuffles = kept_all after_keep_rows }
 
 pub returns : goal.returns
 returns c =
-    let z = c in
-    let k = c in
-    let b = s ((goal.at.returns c).After-keep_rows) in
-    let g = lists ((goal.at.returns c).After-keep_rows) in
+    let after_keep_rows = (goal.at.returns c).After-keep_rows in
+    let b = s after_keep_rows in
+    let g = lists after_keep_rows in
     rank_kept (n b) (weights b) (zones b) b.requires.zones_value b.args.rows (shuffles b) (all b) _
-    (places_found ((goal.at.returns c).After-keep_rows)).find_places.ensures (out ((goal.at.returns c).After-keep_rows)) k.keep_rows.ensures (values b) (x g) (w g)
-    (room g).gather_values.ensures g.gather_pairs.ensures _ z.zone_rank.ensures
+    (places_found after_keep_rows).find_places.ensures (out after_keep_rows) c.keep_rows.ensures (values b) (x g) (w g)
+    (room g).gather_values.ensures g.gather_pairs.ensures _ c.zone_rank.ensures

@@ -52,7 +52,9 @@ pub slice_bounds-kept_values-end : goal.slice_bounds-kept_values-end
 slice_bounds-kept_values-end c = sym (length-take-le _ _ (few ((goal.at.slice_bounds-kept_values-end c).Start)))
 
 pub gather_values-requires : goal.gather_values-requires
-gather_values-requires c = let s = c in record { zones = zones_rise_in (n ((goal.at.gather_values-requires c).Start)) (weights ((goal.at.gather_values-requires c).Start)) (zones ((goal.at.gather_values-requires c).Start)) s.requires.zones_value (values ((goal.at.gather_values-requires c).Start)) (job ((goal.at.gather_values-requires c).Start)); out_len = length-take-le _ _ (few ((goal.at.gather_values-requires c).Start)) }
+gather_values-requires c =
+    let start = (goal.at.gather_values-requires c).Start in
+    record { zones = zones_rise_in (n start) (weights start) (zones start) c.requires.zones_value (values start) (job start); out_len = length-take-le _ _ (few start) }
 
 -- the array has room for the pairs of the kept zones
 module _ (c : After-pair_room-weight_space) where
@@ -70,8 +72,8 @@ slice_bounds-kept_weights-end c = sym (length-take-le _ _ (pairs_there ((goal.at
 
 pub gather_pairs-requires : goal.gather_pairs-requires
 gather_pairs-requires c =
-    let r = c in
-    let s = start ((goal.at.gather_pairs-requires c).After-pair_room-weight_space) in record { zones = rise s; pairs_len = (job s).weighted.count; out_len = length-take-le _ _ (pairs_there ((goal.at.gather_pairs-requires c).After-pair_room-weight_space)) }
+    let after_pair_room_weight_space = (goal.at.gather_pairs-requires c).After-pair_room-weight_space in
+    let s = start after_pair_room_weight_space in record { zones = rise s; pairs_len = (job s).weighted.count; out_len = length-take-le _ _ (pairs_there after_pair_room_weight_space) }
 
 -- what is gathered
 module _ (c : After-gather_pairs) where
@@ -99,7 +101,9 @@ pub slice_bounds-kept_locals-end : goal.slice_bounds-kept_locals-end
 slice_bounds-kept_locals-end c = sym (length-take-le _ _ (few (begun ((goal.at.slice_bounds-kept_locals-end c).After-gather_pairs))))
 
 pub zone_sums-sums-requires : goal.zone_sums-sums-requires
-zone_sums-sums-requires c = let g = c in record { job = kept ((goal.at.zone_sums-sums-requires c).After-gather_pairs); locals_len = length-take-le _ _ (few (begun ((goal.at.zone_sums-sums-requires c).After-gather_pairs))) }
+zone_sums-sums-requires c =
+    let after_gather_pairs = (goal.at.zone_sums-sums-requires c).After-gather_pairs in
+    record { job = kept after_gather_pairs; locals_len = length-take-le _ _ (few (begun after_gather_pairs)) }
 
 -- back from the sums to what is gathered
 abbrev from_sums : After-zone_sums-sums → After-gather_pairs
@@ -120,14 +124,11 @@ from_places c = ((goal.at.After-find_places c).After-zone_sums-sums)
 
 pub put_back-requires : goal.put_back-requires
 put_back-requires c =
-    let f = c in
     let s = begun (from_sums (from_places ((goal.at.put_back-requires c).After-find_places))) in
-    s.requires.locals_len ∙ sym (places_long (n s) (weights s) (zones s) s.requires.zones_value _ f.find_places.ensures)
+    s.requires.locals_len ∙ sym (places_long (n s) (weights s) (zones s) s.requires.zones_value _ c.find_places.ensures)
 
 pub returns : goal.returns
 returns c =
-    let b = c in
-    let f = c in
     let z = from_places ((goal.at.returns c).After-find_places) in
     let g = from_sums z in
     let s = begun g in
@@ -136,5 +137,5 @@ returns c =
     let q = g.gather_pairs.ensures in record {
       result_value = figures_kept (n s) (weights s) (zones s) e (values s) (x g) (w g) p q _ z.zone_sums-sums.ensures.result_value;
       locals_after = locals_back (n s) (weights s) (zones s) e (values s) (x g) (w g) p q _ _ _ z.zone_sums-sums.ensures.locals_after
-          f.find_places.ensures b.put_back.ensures;
+          c.find_places.ensures c.put_back.ensures;
     }

@@ -53,11 +53,9 @@ zone_classes-requires c = let p = (start ((goal.at.zone_classes-requires c).Then
 
 pub returns-then-zones-n : goal.returns-then-zones-n
 returns-then-zones-n c =
-    let z = c in
-    let t = c in
     let s = start ((goal.at.returns-then-zones-n c).Then-zones-n) in
     let a = s.args in let all = as_kept a.n a.values.now a.weights.now a.classes.now s.requires.class_job a.zones.now s.requires.zones_value
-    t.if-zones-n.true (z.zone_classes.ensures.result_value, (z.zone_classes.ensures.rows_after, (z.zone_classes.ensures.class_locals_after, z.zone_classes.ensures.locals_after))) in record { result_value = all.0; rows_after = all.1.0; class_locals_after = all.1.1.0; locals_after = all.1.1.1 }
+    c.if-zones-n.true (c.zone_classes.ensures.result_value, (c.zone_classes.ensures.rows_after, (c.zone_classes.ensures.class_locals_after, c.zone_classes.ensures.locals_after))) in record { result_value = all.0; rows_after = all.1.0; class_locals_after = all.1.1.0; locals_after = all.1.1.1 }
 
 pub classes_of_kept-requires : goal.classes_of_kept-requires
 classes_of_kept-requires c = record { class_job = c.requires.class_job; zones_value = c.requires.zones_value; rows_len = c.requires.rows_len; class_locals_len = c.requires.class_locals_len; locals_len = c.requires.locals_len }

@@ -5,10 +5,8 @@ use Rattle.account.proofs.kept_zones.work_rank.Goals as goal
 
 pub returns-then-zones-n : goal.returns-then-zones-n
 returns-then-zones-n c =
-    let t = c in
-    let s = c in
-    let n = s.args.n in
-    let weights = s.args.weights.now in
-    let all = sym (zones_count n weights s.args.zones.now s.requires.zones_value) ∙ t.if-zones-n.true in
-    rank_of_all n s.args.values.now weights all s.requires.job s.args.rows s.args.shuffles.now s.requires.shuffles _
+    let n = c.args.n in
+    let weights = c.args.weights.now in
+    let all = sym (zones_count n weights c.args.zones.now c.requires.zones_value) ∙ c.if-zones-n.true in
+    rank_of_all n c.args.values.now weights all c.requires.job c.args.rows c.args.shuffles.now c.requires.shuffles _
     c.zone_rank.ensures

@@ -8,7 +8,7 @@ use mir.Syntax.{w64}
 use mir.Val.{to_z}
 use Rattle.whole.specs.Sum.{sum}
 use Rattle.whole.specs.Table.{at, pair_at}
-use Rattle.whole.proofs.Accumulate.{acc_none, acc_more, acc_done}
+use Rattle.whole.proofs.Accumulate.{running_none, running_more, running_done}
 use Rattle.whole.proofs.Machine.{Is, rd, fit, r64}
 use Rattle.account.specs.Measures.{local_of}
 use Rattle.account.proofs.Adding.{locals_sum}
@@ -33,13 +33,13 @@ module _ (c : After-deviation-1) where
       Is (to_z w64 b.loop-i.acc-bits +ℤ r64 (r64 (at a.args.d.now b.loop-i.i) *ℤ r64 c.neighbour_sum-neighbours.result))
       (sum (local_of (pair_at a.args.weights.now a.args.n) (at a.args.d.now) a.args.n) (b.loop-i.i + 1))
       6039797760000000000
-  turn = acc_more (cross_runs _ _ a.requires.weighted _ a.requires.sized) b.loop-i.i (to_z w64 b.loop-i.acc-bits) (omega arith) b.loop-i.invariant.1 (rd w64 local tt)
+  turn = running_more (cross_runs _ _ a.requires.weighted _ a.requires.sized) b.loop-i.i (to_z w64 b.loop-i.acc-bits) (omega arith) b.loop-i.invariant.1 (rd w64 local tt)
 
 pub loop-i-init : goal.loop-i-init
-loop-i-init c = (omega arith, acc_none _)
+loop-i-init c = (omega arith, running_none _)
 
 pub neighbour_sum-neighbours-requires : goal.neighbour_sum-neighbours-requires
-neighbour_sum-neighbours-requires c = let a = c in record { weighted = a.requires.weighted; sized = a.requires.sized; i_lt_n = omega arith }
+neighbour_sum-neighbours-requires c = record { weighted = c.requires.weighted; sized = c.requires.sized; i_lt_n = omega arith }
 
 pub offset_bounds-d-i : goal.offset_bounds-d-i
 offset_bounds-d-i c = omega arith
@@ -64,6 +64,5 @@ loop-i-preserved c = (omega arith, (rd w64 (turn c) tt).same)
 
 pub returns : goal.returns
 returns c =
-    let b = c in
-    let p = b.requires in
-    acc_done _ _ b.loop-i.i (to_z w64 b.loop-i.acc-bits) (omega arith) b.loop-i.invariant.1 ∙ locals_sum _ _ _
+    let p = c.requires in
+    running_done _ _ c.loop-i.i (to_z w64 c.loop-i.acc-bits) (omega arith) c.loop-i.invariant.1 ∙ locals_sum _ _ _

@@ -55,13 +55,13 @@ module _ (c : After-shuffle_cross-cross) where
       (omega (arith, m.0), omega (arith, m.1), omega (arith, m.2))
 
 pub cross_sum-own-requires : goal.cross_sum-own-requires
-cross_sum-own-requires c = let a = c in record { weighted = a.requires.weighted; sized = a.requires.sized }
+cross_sum-own-requires c = record { weighted = c.requires.weighted; sized = c.requires.sized }
 
 pub loop-r-init : goal.loop-r-init
 loop-r-init c = (omega arith, none_yet _ _)
 
 pub shuffle_cross-cross-requires : goal.shuffle_cross-cross-requires
-shuffle_cross-cross-requires c = let a = c in record { weighted = a.requires.weighted; sized = a.requires.sized; shuffle = shuffle_there _ _ _ _ a.requires.shuffles c.loop-r-test.true }
+shuffle_cross-cross-requires c = record { weighted = c.requires.weighted; sized = c.requires.sized; shuffle = shuffle_there _ _ _ _ c.requires.shuffles c.loop-r-test.true }
 
 pub overflow_add-less : goal.overflow_add-less
 overflow_add-less c = omega (arith, (small ((goal.at.overflow_add-less c).After-shuffle_cross-cross)).0)
@@ -80,17 +80,16 @@ loop-r-smaller c = omega arith
 
 pub loop-r-preserved : goal.loop-r-preserved
 loop-r-preserved c =
-    let k = c in
-    let t = (b ((goal.at.loop-r-preserved c).After-shuffle_cross-cross)).loop-r.invariant.1 in (
+    let after_shuffle_cross_cross = (goal.at.loop-r-preserved c).After-shuffle_cross-cross in
+    let t = (b after_shuffle_cross_cross).loop-r.invariant.1 in (
       omega arith,
       elim c.if-cross-own.branch [
-        | then-cross-own w ↦ rw (w.less-is, w.equal-is, w.greater-is) (one_less (numbers ((goal.at.loop-r-preserved c).After-shuffle_cross-cross)) (own ((goal.at.loop-r-preserved c).After-shuffle_cross-cross)) t (less ((goal.at.loop-r-preserved c).After-shuffle_cross-cross) _ w.if-cross-own.true))
-        | else-cross-own+then-own-cross w ↦ rw (w.less-is, w.equal-is, w.greater-is) (one_greater (numbers ((goal.at.loop-r-preserved c).After-shuffle_cross-cross)) (own ((goal.at.loop-r-preserved c).After-shuffle_cross-cross)) t (more ((goal.at.loop-r-preserved c).After-shuffle_cross-cross) _ w.if-own-cross.true))
-        | else-cross-own+else-own-cross w ↦ rw (w.less-is, w.equal-is, w.greater-is) (one_equal (numbers ((goal.at.loop-r-preserved c).After-shuffle_cross-cross)) (own ((goal.at.loop-r-preserved c).After-shuffle_cross-cross)) t (less ((goal.at.loop-r-preserved c).After-shuffle_cross-cross) _ w.if-cross-own.false) (more ((goal.at.loop-r-preserved c).After-shuffle_cross-cross) _ w.if-own-cross.false))
+        | then-cross-own w ↦ rw (w.less-is, w.equal-is, w.greater-is) (one_less (numbers after_shuffle_cross_cross) (own after_shuffle_cross_cross) t (less after_shuffle_cross_cross _ w.if-cross-own.true))
+        | else-cross-own+then-own-cross w ↦ rw (w.less-is, w.equal-is, w.greater-is) (one_greater (numbers after_shuffle_cross_cross) (own after_shuffle_cross_cross) t (more after_shuffle_cross_cross _ w.if-own-cross.true))
+        | else-cross-own+else-own-cross w ↦ rw (w.less-is, w.equal-is, w.greater-is) (one_equal (numbers after_shuffle_cross_cross) (own after_shuffle_cross_cross) t (less after_shuffle_cross_cross _ w.if-cross-own.false) (more after_shuffle_cross_cross _ w.if-own-cross.false))
       ],
     )
 
 pub returns : goal.returns
 returns c =
-    let b = c in
-    tallied _ _ b.loop-r.invariant.1 ∙ ap (compared _ _) (omega arith)
+    tallied _ _ c.loop-r.invariant.1 ∙ ap (compared _ _) (omega arith)

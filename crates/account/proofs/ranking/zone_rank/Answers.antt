@@ -54,23 +54,26 @@ slice_bounds-deviations-end c = sym (length-take-le _ _ c.requires.job.valued.zo
 
 pub deviations-requires : goal.deviations-requires
 deviations-requires c =
-    let t = c in
-    let v = t.requires.job.valued in record { valued = v; total_value = (rd w64 (total_told _ _ v t.total-total.ensures) tt).same; d_len = length-take-le _ _ v.zones }
+    let v = c.requires.job.valued in record { valued = v; total_value = (rd w64 (total_told _ _ v c.total-total.ensures) tt).same; d_len = length-take-le _ _ v.zones }
 
 pub slice_bounds-d-end-2 : goal.slice_bounds-d-end-2
-slice_bounds-d-end-2 c = let b = c in front_le {A = ℤ} _ _ (expected ((goal.at.slice_bounds-d-end-2 c).After-deviations)) _ b.deviations.ensures (as_long ((goal.at.slice_bounds-d-end-2 c).After-deviations))
+slice_bounds-d-end-2 c =
+    let after_deviations = (goal.at.slice_bounds-d-end-2 c).After-deviations in
+    front_le {A = ℤ} _ _ (expected after_deviations) _ c.deviations.ensures (as_long after_deviations)
 
 pub slice_bounds-tally-end : goal.slice_bounds-tally-end
-slice_bounds-tally-end c = let b = c in front_length {A = ℤ} _ _ (expected ((goal.at.slice_bounds-tally-end c).After-deviations)) _ b.deviations.ensures (as_long ((goal.at.slice_bounds-tally-end c).After-deviations))
+slice_bounds-tally-end c =
+    let after_deviations = (goal.at.slice_bounds-tally-end c).After-deviations in
+    front_length {A = ℤ} _ _ (expected after_deviations) _ c.deviations.ensures (as_long after_deviations)
 
 pub tally-requires : goal.tally-requires
 tally-requires c =
-    let b = c in
-    let w = (a ((goal.at.tally-requires c).After-deviations)).requires in
-    let d = front {A = ℤ} _ _ (expected ((goal.at.tally-requires c).After-deviations)) _ b.deviations.ensures (as_long ((goal.at.tally-requires c).After-deviations)) in record { weighted = w.job.weighted; sized = deviations_sized _ _ _ w.job.valued d; shuffles = w.shuffles }
+    let after_deviations = (goal.at.tally-requires c).After-deviations in
+    let w = (a after_deviations).requires in
+    let d = front {A = ℤ} _ _ (expected after_deviations) _ c.deviations.ensures (as_long after_deviations) in record { weighted = w.job.weighted; sized = deviations_sized _ _ _ w.job.valued d; shuffles = w.shuffles }
 
 pub returns : goal.returns
 unfolding zones_rank
 returns c =
-    let b = c in
-    c.tally.ensures ∙ same ((goal.at.returns c).After-deviations) _ (front {A = ℤ} _ _ (expected ((goal.at.returns c).After-deviations)) _ b.deviations.ensures (as_long ((goal.at.returns c).After-deviations)))
+    let after_deviations = (goal.at.returns c).After-deviations in
+    c.tally.ensures ∙ same after_deviations _ (front {A = ℤ} _ _ (expected after_deviations) _ c.deviations.ensures (as_long after_deviations))

@@ -21,10 +21,8 @@ zone_below :
     get_or a.shuffles.now (a.r * a.n + b.loop-i.i) 0 < a.n
 unfolding pair_at
 zone_below c =
-    let b = c in
-    let a = c in
-    let row = pair_at a.args.shuffles.now a.args.n a.args.r in
-    (full row a.args.n a.requires.shuffle.full).into b.loop-i.i c.loop-i-test.true
+    let row = pair_at c.args.shuffles.now c.args.n c.args.r in
+    (full row c.args.n c.requires.shuffle.full).into c.loop-i.i c.loop-i-test.true
 
 pub overflow_mul-row : goal.overflow_mul-row
 overflow_mul-row c = omega (arith, row_end c.requires.shuffle.row)
@@ -62,13 +60,12 @@ loop-i-smaller c = omega arith
 pub loop-i-preserved : goal.loop-i-preserved
 unfolding pair_at
 loop-i-preserved c =
-    let b = c in
-    let a = b.args in
-    let inv = b.loop-i.invariant.1 in (
+    let a = c.args in
+    let inv = c.loop-i.invariant.1 in (
       omega arith,
       (
         simp length-set inv.0,
-        stored (λ k. at a.d.now (pair_at a.shuffles.now a.n a.r k)) (pos 0) _ b.loop-i.moved b.loop-i.i (omega arith)
+        stored (λ k. at a.d.now (pair_at a.shuffles.now a.n a.r k)) (pos 0) _ c.loop-i.moved c.loop-i.i (omega arith)
             (to_z-of_z w64 _ (record { sfits = c.moved-1.given }))
             inv.1,
       ),
@@ -79,7 +76,6 @@ shape_of-moved c = omega arith
 
 pub returns : goal.returns
 returns c =
-    let b = c in
-    let a = b.args in
-    is_table (λ k. at a.d.now (pair_at a.shuffles.now a.n a.r k)) a.n (pos 0) b.loop-i.moved b.loop-i.invariant.1.0
-    (λ k p. b.loop-i.invariant.1.1 k (omega arith))
+    let a = c.args in
+    is_table (λ k. at a.d.now (pair_at a.shuffles.now a.n a.r k)) a.n (pos 0) c.loop-i.moved c.loop-i.invariant.1.0
+    (λ k p. c.loop-i.invariant.1.1 k (omega arith))

@@ -24,22 +24,20 @@ held :
     (c : After-local_numerators) →
     let a = c.args in
     c.local_numerators.new.locals ≡ zones_locals a.n a.values.now a.weights.now
-held c = let a = c in locals_are _ _ _ a.requires.job _ _ a.requires.d_value c.local_numerators.ensures
+held c = locals_are _ _ _ c.requires.job _ _ c.requires.d_value c.local_numerators.ensures
 
 pub local_numerators-requires : goal.local_numerators-requires
 local_numerators-requires c =
-    let a = c in
-    let r = a.requires.job in record { weighted = r.weighted; sized = deviations_sized _ _ _ r.valued a.requires.d_value; locals_len = a.requires.locals_len }
+    let r = c.requires.job in record { weighted = r.weighted; sized = deviations_sized _ _ _ r.valued c.requires.d_value; locals_len = c.requires.locals_len }
 
 pub sum_of-cross-requires : goal.sum_of-cross-requires
-sum_of-cross-requires c = let a = c in record { n_bound = a.requires.job.valued.zones; sized = locals_sized _ _ _ a.requires.job _ (held ((goal.at.sum_of-cross-requires c).After-local_numerators)) }
+sum_of-cross-requires c = record { n_bound = c.requires.job.valued.zones; sized = locals_sized _ _ _ c.requires.job _ (held ((goal.at.sum_of-cross-requires c).After-local_numerators)) }
 
 pub returns : goal.returns
 returns c =
-    let a = c in
-    let r = a.requires.job in
+    let r = c.requires.job in
     let locals = held ((goal.at.returns c).After-local_numerators) in record {
-      value = same (pair_at a.args.weights.now a.args.n) (at a.args.values.now) a.args.n _ _ _
+      value = same (pair_at c.args.weights.now c.args.n) (at c.args.values.now) c.args.n _ _ _
           (rd w64 (weight_told _ _ r.weighted c.weight_sum-weight.ensures) tt).same
           (rd w64 (cross_told _ _ _ r (c.sum_of-cross.ensures ∙ locals_cross _ _ _ r _ locals)) tt).same
           (rd w64 (squares_told _ _ _ r c.squares-squares.ensures) tt).same;

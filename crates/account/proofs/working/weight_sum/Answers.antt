@@ -59,8 +59,7 @@ loop-k-preserved c =
 -- all of them
 small : (c : After-loop-k) → c.loop-k.acc ≤ 36864
 small c =
-    let s = c in
-    omega (arith, c.loop-k.invariant.0, c.loop-k.invariant.1.1, s.requires.count, few s.args.n s.requires.zones)
+    omega (arith, c.loop-k.invariant.0, c.loop-k.invariant.1.1, c.requires.count, few c.args.n c.requires.zones)
 
 pub overflow_cast-result : goal.overflow_cast-result
 overflow_cast-result c = fits_le w64 (pos c.loop-k.acc) 36864 (small c) tt
@@ -68,9 +67,8 @@ overflow_cast-result c = fits_le w64 (pos c.loop-k.acc) 36864 (small c) tt
 pub returns : goal.returns
 returns c =
     let l = c.loop-k in
-    let s = c in
-    let end : l.k ≡ s.args.n * s.args.n = omega (arith, l.invariant.0, s.requires.count, c.loop-k-test.false) in
+    let end : l.k ≡ c.args.n * c.args.n = omega (arith, l.invariant.0, c.requires.count, c.loop-k-test.false) in
     (nat w64 l.acc 36864 (small c) tt).same
     ∙ l.invariant.1.0
-    ∙ ap (sum (λ t. pos (get_or s.args.weights.now t 0))) end
-    ∙ flat_weight _ _ s.requires
+    ∙ ap (sum (λ t. pos (get_or c.args.weights.now t 0))) end
+    ∙ flat_weight _ _ c.requires

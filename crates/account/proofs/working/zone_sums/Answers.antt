@@ -55,31 +55,33 @@ slice_bounds-deviations-end c = sym (length-take-le _ _ c.requires.job.valued.zo
 
 pub deviations-requires : goal.deviations-requires
 deviations-requires c =
-    let t = c in
-    let v = t.requires.job.valued in record { valued = v; total_value = summed ((goal.at.deviations-requires c).After-total-total); d_len = length-take-le _ _ v.zones }
+    let v = c.requires.job.valued in record { valued = v; total_value = summed ((goal.at.deviations-requires c).After-total-total); d_len = length-take-le _ _ v.zones }
 
 pub slice_bounds-d-end-2 : goal.slice_bounds-d-end-2
-slice_bounds-d-end-2 c = let b = c in front_le {A = ℤ} _ _ (expected ((goal.at.slice_bounds-d-end-2 c).After-deviations)) _ b.deviations.ensures (as_long ((goal.at.slice_bounds-d-end-2 c).After-deviations))
+slice_bounds-d-end-2 c =
+    let after_deviations = (goal.at.slice_bounds-d-end-2 c).After-deviations in
+    front_le {A = ℤ} _ _ (expected after_deviations) _ c.deviations.ensures (as_long after_deviations)
 
 pub slice_bounds-pair_sums-end : goal.slice_bounds-pair_sums-end
-slice_bounds-pair_sums-end c = let b = c in front_length {A = ℤ} _ _ (expected ((goal.at.slice_bounds-pair_sums-end c).After-deviations)) _ b.deviations.ensures (as_long ((goal.at.slice_bounds-pair_sums-end c).After-deviations))
+slice_bounds-pair_sums-end c =
+    let after_deviations = (goal.at.slice_bounds-pair_sums-end c).After-deviations in
+    front_length {A = ℤ} _ _ (expected after_deviations) _ c.deviations.ensures (as_long after_deviations)
 
 pub pair_sums-pairs-requires : goal.pair_sums-pairs-requires
-pair_sums-pairs-requires c = let b = c in record { job = (a ((goal.at.pair_sums-pairs-requires c).After-deviations)).requires.job; d_value = front {A = ℤ} _ _ (expected ((goal.at.pair_sums-pairs-requires c).After-deviations)) _ b.deviations.ensures (as_long ((goal.at.pair_sums-pairs-requires c).After-deviations)); locals_len = (a ((goal.at.pair_sums-pairs-requires c).After-deviations)).requires.locals_len }
+pair_sums-pairs-requires c =
+    let after_deviations = (goal.at.pair_sums-pairs-requires c).After-deviations in
+    record { job = (a after_deviations).requires.job; d_value = front {A = ℤ} _ _ (expected after_deviations) _ c.deviations.ensures (as_long after_deviations); locals_len = (a after_deviations).requires.locals_len }
 
 pub returns : goal.returns
 returns c =
-    let b = c in
-    let d = c in
-    let m = c in
     let s = a ((goal.at.returns c).After-deviations) in
     let r = s.requires.job in
-    let p = parts (pair_at s.args.weights.now s.args.n) (at s.args.values.now) s.args.n _ b.pair_sums-pairs.ensures.value in record {
+    let p = parts (pair_at s.args.weights.now s.args.n) (at s.args.values.now) s.args.n _ c.pair_sums-pairs.ensures.value in record {
       result_value = same_figures s.args.n s.args.values.now s.args.weights.now _ _ _ _ _
           (summed ((goal.at.returns c).After-total-total))
-          (rd w64 (spread_told _ _ r.valued m.spread-spread.ensures) tt).same
+          (rd w64 (spread_told _ _ r.valued c.spread-spread.ensures) tt).same
           (rd w64 (weight_told _ _ r.weighted p.0) tt).same
           (rd w64 (cross_told _ _ _ r p.1) tt).same
           (rd w64 (squares_told _ _ _ r p.2) tt).same;
-      locals_after = b.pair_sums-pairs.ensures.locals_after;
+      locals_after = c.pair_sums-pairs.ensures.locals_after;
     }

@@ -22,9 +22,9 @@ use Rattle.coefficients.proofs.working.report_sized.Goals.{After-class_account, 
 
 -- the same by other names
 reportable_same :
-    {sums : Sums} {rows rows' of_classes of-classes' locals locals' : List ℤ} →
-    rows' ≡ rows → of-classes' ≡ of_classes → locals' ≡ locals →
-    Reportable sums rows of_classes locals → Reportable sums rows' of-classes' locals'
+    {sums : Sums} {rows rows' of_classes of_classes' locals locals' : List ℤ} →
+    rows' ≡ rows → of_classes' ≡ of_classes → locals' ≡ locals →
+    Reportable sums rows of_classes locals → Reportable sums rows' of_classes' locals'
 reportable_same e f g r = rw (e, f, g) r
 
 -- what the class account answered and left

@@ -74,7 +74,6 @@ tested b = ((goal.at.After-plain_report-report b).Else-has_pair-ne9)
 
 pub put_pair-requires : goal.put_pair-requires
 put_pair-requires c =
-    let w = c in
     let b = in_reported ((goal.at.put_pair-requires c).In-Reported) in
     let e = tested b in
     let a = (start ((goal.at.Else-has_pair-ne9 e).After-judge_sizes-sizes)).args in
@@ -84,12 +83,11 @@ put_pair-requires c =
       readable_pair = pair_readable a.n a.values.now a.weights.now a.classes.now a.globals.now a.locals.now a.pairs.now
           a.has_pair.now (fit ((goal.at.Else-has_pair-ne9 e).Else-sizes-ne0)) e.if-pairs-ne18.false e.if-has_pair-ne9.false _ _ refl
           (length-take-le _ _ (zones ((goal.at.Else-has_pair-ne9 e).Else-sizes-ne0)))
-          _ _ _ said.number said.whole said.pairs said.figures _ w.in-Reported.is;
+          _ _ _ said.number said.whole said.pairs said.figures _ c.in-Reported.is;
     }
 
 pub put_pairs-requires : goal.put_pairs-requires
 put_pairs-requires c =
-    let w = c in
     let b = in_reported ((goal.at.put_pairs-requires c).In-Reported) in
     let e = tested b in
     let a = (start ((goal.at.Else-has_pair-ne9 e).After-judge_sizes-sizes)).args in
@@ -98,12 +96,11 @@ put_pairs-requires c =
       readable_pairs = pairs_readable a.n a.values.now a.weights.now a.classes.now a.globals.now a.locals.now a.pairs.now
           a.has_pair.now (fit ((goal.at.Else-has_pair-ne9 e).Else-sizes-ne0)) e.if-pairs-ne18.false e.if-has_pair-ne9.false _ _ refl
           (length-take-le _ _ (zones ((goal.at.Else-has_pair-ne9 e).Else-sizes-ne0)))
-          _ _ _ said.number said.whole said.pairs said.figures _ w.in-Reported.is;
+          _ _ _ said.number said.whole said.pairs said.figures _ c.in-Reported.is;
     }
 
 pub returns-in-Refused : goal.returns-in-Refused
 returns-in-Refused c =
-    let w = c in
     let b = in_refused ((goal.at.returns-in-Refused c).In-Refused) in
     let e = tested b in
     let a = (start ((goal.at.Else-has_pair-ne9 e).After-judge_sizes-sizes)).args in
@@ -128,10 +125,6 @@ returns-in-Refused c =
 
 pub returns-in-Reported : goal.returns-in-Reported
 returns-in-Reported c =
-    let having = c in
-    let pairs = c in
-    let pair = c in
-    let w = c in
     let b = in_reported ((goal.at.returns-in-Reported c).In-Reported) in
     let e = tested b in
     let a = (start ((goal.at.Else-has_pair-ne9 e).After-judge_sizes-sizes)).args in
@@ -156,6 +149,6 @@ returns-in-Reported c =
     _
     _
     _
-    pair.put_pair.ensures
-    pairs.put_pairs.ensures
-    having.put_having.ensures in record { number = all.0; globals = all.1.0; figures = all.1.1.0; pairs = all.1.1.1.0; having = all.1.1.1.1 }
+    c.put_pair.ensures
+    c.put_pairs.ensures
+    c.put_having.ensures in record { number = all.0; globals = all.1.0; figures = all.1.1.0; c = all.1.1.1.0; c = all.1.1.1.1 }

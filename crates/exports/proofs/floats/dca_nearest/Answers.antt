@@ -34,18 +34,18 @@ returns-then-out-ne1 c = let a = c.args in let all = nearest_by_length a.p a.q a
 
 pub float_to_bits-out : goal.float_to_bits-out
 float_to_bits-out c =
-    let b = c in
-    let a = b.args in
-    float_readable a.p a.q a.out.now b.if-out-ne1.false _ (number ((goal.at.float_to_bits-out c).After-nearest)) (figures ((goal.at.float_to_bits-out c).After-nearest)) _ c.in-Rounded.is
+    let after_nearest = (goal.at.float_to_bits-out c).After-nearest in
+    let a = c.args in
+    float_readable a.p a.q a.out.now c.if-out-ne1.false _ (number after_nearest) (figures after_nearest) _ c.in-Rounded.is
 
 pub returns-in-Refused : goal.returns-in-Refused
 returns-in-Refused c =
-    let b = c in
-    let a = b.args in let all = nearest_by_refusal a.p a.q a.out.now b.if-out-ne1.false _ (number ((goal.at.returns-in-Refused c).After-nearest)) (figures ((goal.at.returns-in-Refused c).After-nearest)) _
+    let after_nearest = (goal.at.returns-in-Refused c).After-nearest in
+    let a = c.args in let all = nearest_by_refusal a.p a.q a.out.now c.if-out-ne1.false _ (number after_nearest) (figures after_nearest) _
     c.in-Refused.is in record { number = all.0; lent = all.1 }
 
 pub returns-in-Rounded : goal.returns-in-Rounded
 returns-in-Rounded c =
-    let b = c in
-    let a = b.args in let all = nearest_by_float a.p a.q a.out.now b.if-out-ne1.false _ (number ((goal.at.returns-in-Rounded c).After-nearest)) (figures ((goal.at.returns-in-Rounded c).After-nearest)) _
+    let after_nearest = (goal.at.returns-in-Rounded c).After-nearest in
+    let a = c.args in let all = nearest_by_float a.p a.q a.out.now c.if-out-ne1.false _ (number after_nearest) (figures after_nearest) _
     c.in-Rounded.is in record { number = all.0; lent = all.1 }

@@ -12,34 +12,29 @@ returns-then-counts-ne6 c =
 
 pub returns-in-Refused : goal.returns-in-Refused
 returns-in-Refused c =
-    let b = c in
-    let e = c in
-    let a = e.args in let all = read_by_refusal a.image.now
+    let a = c.args in let all = read_by_refusal a.image.now
     (buffers a.values.now a.categories.now a.weights.now a.places.now a.bands.now a.shuffles.now)
     a.counts.now
-    e.if-counts-ne6.false
+    c.if-counts-ne6.false
     _
     _
-    b.read.ensures.number
-    b.read.ensures.counts
-    b.read.ensures.lent
+    c.read.ensures.number
+    c.read.ensures.counts
+    c.read.ensures.lent
     _
     c.in-Refused.is in record { number = all.0; lent = all.1.0; counts = all.1.1 }
 
 pub returns-in-Read : goal.returns-in-Read
 returns-in-Read c =
-    let m = c in
-    let b = c in
-    let e = c in
-    let a = e.args in let all = read_by_counts a.image.now
+    let a = c.args in let all = read_by_counts a.image.now
     (buffers a.values.now a.categories.now a.weights.now a.places.now a.bands.now a.shuffles.now)
     a.counts.now
-    e.if-counts-ne6.false
+    c.if-counts-ne6.false
     _
     _
-    b.read.ensures.number
-    b.read.ensures.counts
-    b.read.ensures.lent
+    c.read.ensures.number
+    c.read.ensures.counts
+    c.read.ensures.lent
     _
     _
     c.in-Read.is

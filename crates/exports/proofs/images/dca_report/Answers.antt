@@ -7,19 +7,12 @@ returns-then-filled-ne1 c = let a = c.args in let all = report_by_place a.image.
 
 pub returns-in-Refused : goal.returns-in-Refused
 returns-in-Refused c =
-    let k = c in
-    let b = c in
-    let e = c in
-    let a = e.args in
-    let said = b.report.ensures in let all = report_by_refusal a.image.now a.text.now a.filled.now e.if-filled-ne1.false _ _ said.number said.length
+    let a = c.args in
+    let said = c.report.ensures in let all = report_by_refusal a.image.now a.text.now a.filled.now c.if-filled-ne1.false _ _ said.number said.length
     said.page _ c.in-Refused.is in record { number = all.0; text = all.1.0; filled = all.1.1 }
 
 pub returns-in-Printed : goal.returns-in-Printed
 returns-in-Printed c =
-    let p = c in
-    let k = c in
-    let b = c in
-    let e = c in
-    let a = e.args in
-    let said = b.report.ensures in let all = report_by_length a.image.now a.text.now a.filled.now e.if-filled-ne1.false _ _ said.number said.length
-    said.page _ _ c.in-Printed.is p.put_length.ensures in record { number = all.0; text = all.1.0; filled = all.1.1 }
+    let a = c.args in
+    let said = c.report.ensures in let all = report_by_length a.image.now a.text.now a.filled.now c.if-filled-ne1.false _ _ said.number said.length
+    said.page _ _ c.in-Printed.is c.put_length.ensures in record { number = all.0; text = all.1.0; filled = all.1.1 }

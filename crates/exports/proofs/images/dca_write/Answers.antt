@@ -38,8 +38,7 @@ given_told b f = ap f b.given-given.ensures
 
 pub returns-then-counts-ne5 : goal.returns-then-counts-ne5
 returns-then-counts-ne5 c =
-    let s = c in
-    let a = s.args in let all = write_by_counts (job_lists ((goal.at.returns-then-counts-ne5 c).Start))
+    let a = c.args in let all = write_by_counts (job_lists ((goal.at.returns-then-counts-ne5 c).Start))
     a.counts.now
     a.out.now
     a.filled.now
@@ -47,68 +46,63 @@ returns-then-counts-ne5 c =
 
 pub returns-then-zones-ne0 : goal.returns-then-zones-ne0
 returns-then-zones-ne0 c =
-    let b = c in
-    let s = start ((goal.at.returns-then-zones-ne0 c).After-judge_zone_count-zones) in
+    let after_judge_zone_count_zones = (goal.at.returns-then-zones-ne0 c).After-judge_zone_count-zones in
+    let s = start after_judge_zone_count_zones in
     let a = s.args in let all = write_by_zones (job_lists s)
     a.counts.now
     a.out.now
     a.filled.now
-    b.if-counts-ne5.false
+    c.if-counts-ne5.false
     _
-    (judged ((goal.at.returns-then-zones-ne0 c).After-judge_zone_count-zones))
+    (judged after_judge_zone_count_zones)
     c.if-zones-ne0.true in record { number = all.0; out = all.1.0; filled = all.1.1 }
 
 pub returns-then-filled-ne1 : goal.returns-then-filled-ne1
 returns-then-filled-ne1 c =
-    let b = c in
     let s = start ((goal.at.returns-then-filled-ne1 c).After-judge_zone_count-zones) in
     let a = s.args in let all = write_by_place (job_lists s)
     a.counts.now
     a.out.now
     a.filled.now
-    b.if-counts-ne5.false
+    c.if-counts-ne5.false
     (sound ((goal.at.returns-then-filled-ne1 c).Else-zones-ne0))
     c.if-filled-ne1.true in record { number = all.0; out = all.1.0; filled = all.1.1 }
 
 pub returns-in-Refused : goal.returns-in-Refused
 returns-in-Refused c =
-    let w = c in
-    let e = c in
-    let b = c in
-    let s = start ((goal.at.returns-in-Refused c).After-judge_zone_count-zones) in
+    let after_judge_zone_count_zones = (goal.at.returns-in-Refused c).After-judge_zone_count-zones in
+    let s = start after_judge_zone_count_zones in
     let a = s.args in let all = write_by_refusal (job_lists s)
     a.counts.now
     a.out.now
     a.filled.now
-    b.if-counts-ne5.false
+    c.if-counts-ne5.false
     (sound ((goal.at.returns-in-Refused c).Else-zones-ne0))
-    e.if-filled-ne1.false
+    c.if-filled-ne1.false
     _
     _
-    (w.write.ensures.number ∙ given_told ((goal.at.returns-in-Refused c).After-judge_zone_count-zones) (λ g. write_refusal g (job_lists s) (length a.out.now)))
-    (w.write.ensures.length ∙ given_told ((goal.at.returns-in-Refused c).After-judge_zone_count-zones) (λ g. write_length g (job_lists s) (length a.out.now)))
-    (w.write.ensures.lent ∙ given_told ((goal.at.returns-in-Refused c).After-judge_zone_count-zones) (λ g. write_left g (job_lists s) a.out.now))
+    (c.write.ensures.number ∙ given_told after_judge_zone_count_zones (λ g. write_refusal g (job_lists s) (length a.out.now)))
+    (c.write.ensures.length ∙ given_told after_judge_zone_count_zones (λ g. write_length g (job_lists s) (length a.out.now)))
+    (c.write.ensures.lent ∙ given_told after_judge_zone_count_zones (λ g. write_left g (job_lists s) a.out.now))
     _
     c.in-Refused.is in record { number = all.0; out = all.1.0; filled = all.1.1 }
 
 pub returns-in-Written : goal.returns-in-Written
 returns-in-Written c =
-    let w = c in
-    let e = c in
-    let b = c in
-    let s = start ((goal.at.returns-in-Written c).After-judge_zone_count-zones) in
+    let after_judge_zone_count_zones = (goal.at.returns-in-Written c).After-judge_zone_count-zones in
+    let s = start after_judge_zone_count_zones in
     let a = s.args in let all = write_by_length (job_lists s)
     a.counts.now
     a.out.now
     a.filled.now
-    b.if-counts-ne5.false
+    c.if-counts-ne5.false
     (sound ((goal.at.returns-in-Written c).Else-zones-ne0))
-    e.if-filled-ne1.false
+    c.if-filled-ne1.false
     _
     _
-    (w.write.ensures.number ∙ given_told ((goal.at.returns-in-Written c).After-judge_zone_count-zones) (λ g. write_refusal g (job_lists s) (length a.out.now)))
-    (w.write.ensures.length ∙ given_told ((goal.at.returns-in-Written c).After-judge_zone_count-zones) (λ g. write_length g (job_lists s) (length a.out.now)))
-    (w.write.ensures.lent ∙ given_told ((goal.at.returns-in-Written c).After-judge_zone_count-zones) (λ g. write_left g (job_lists s) a.out.now))
+    (c.write.ensures.number ∙ given_told after_judge_zone_count_zones (λ g. write_refusal g (job_lists s) (length a.out.now)))
+    (c.write.ensures.length ∙ given_told after_judge_zone_count_zones (λ g. write_length g (job_lists s) (length a.out.now)))
+    (c.write.ensures.lent ∙ given_told after_judge_zone_count_zones (λ g. write_left g (job_lists s) a.out.now))
     _
     _
     c.in-Written.is

@@ -23,34 +23,29 @@ returns-then-sizes-ne0 c =
 
 pub put_sums-requires : goal.put_sums-requires
 put_sums-requires c =
-    let b = c in
-    let e = c in
+    let else_sizes_ne0 = (goal.at.put_sums-requires c).Else-sizes-ne0 in
     let a = (start ((goal.at.put_sums-requires c).After-judge_sizes-sizes)).args in record {
-      kept_bound = account_kept_few a.n a.values.now a.weights.now a.locals.now a.sums.now (fit ((goal.at.put_sums-requires c).Else-sizes-ne0)) _ _ b.account.ensures.number
-          b.account.ensures.figures
-          b.account.ensures.lent
+      kept_bound = account_kept_few a.n a.values.now a.weights.now a.locals.now a.sums.now (fit else_sizes_ne0) _ _ c.account.ensures.number
+          c.account.ensures.figures
+          c.account.ensures.lent
           _
           c.in-Accounted.is;
-      sums_len = own_fits a.n a.values.now a.weights.now (length a.sums.now) 6 (fit ((goal.at.put_sums-requires c).Else-sizes-ne0));
+      sums_len = own_fits a.n a.values.now a.weights.now (length a.sums.now) 6 (fit else_sizes_ne0);
     }
 
 pub returns-in-Refused : goal.returns-in-Refused
 returns-in-Refused c =
-    let b = c in
-    let e = c in
-    let a = (start ((goal.at.returns-in-Refused c).After-judge_sizes-sizes)).args in let all = account_by_refusal a.n a.values.now a.weights.now a.locals.now a.sums.now (fit ((goal.at.returns-in-Refused c).Else-sizes-ne0)) _ _ b.account.ensures.number
-    b.account.ensures.figures
-    b.account.ensures.lent
+    let a = (start ((goal.at.returns-in-Refused c).After-judge_sizes-sizes)).args in let all = account_by_refusal a.n a.values.now a.weights.now a.locals.now a.sums.now (fit ((goal.at.returns-in-Refused c).Else-sizes-ne0)) _ _ c.account.ensures.number
+    c.account.ensures.figures
+    c.account.ensures.lent
     _
     c.in-Refused.is in record { number = all.0; locals = all.1.0; sums = all.1.1 }
 
 pub returns-in-Accounted : goal.returns-in-Accounted
 returns-in-Accounted c =
-    let b = c in
-    let e = c in
-    let a = (start ((goal.at.returns-in-Accounted c).After-judge_sizes-sizes)).args in let all = account_by_sums a.n a.values.now a.weights.now a.locals.now a.sums.now (fit ((goal.at.returns-in-Accounted c).Else-sizes-ne0)) _ _ b.account.ensures.number
-    b.account.ensures.figures
-    b.account.ensures.lent
+    let a = (start ((goal.at.returns-in-Accounted c).After-judge_sizes-sizes)).args in let all = account_by_sums a.n a.values.now a.weights.now a.locals.now a.sums.now (fit ((goal.at.returns-in-Accounted c).Else-sizes-ne0)) _ _ c.account.ensures.number
+    c.account.ensures.figures
+    c.account.ensures.lent
     _
     _
     c.in-Accounted.is

@@ -36,17 +36,12 @@ class_account-requires c = tt
 
 pub returns-in-Refused : goal.returns-in-Refused
 returns-in-Refused c =
-    let k = c in
-    let b = c in
-    let e = c in
     let a = (start ((goal.at.returns-in-Refused c).After-judge_sizes-sizes)).args in
-    let said = b.class_account.ensures in let all = class_by_refusal a.n a.values.now a.weights.now a.classes.now a.rows.now a.class_locals.now _
+    let said = c.class_account.ensures in let all = class_by_refusal a.n a.values.now a.weights.now a.classes.now a.rows.now a.class_locals.now _
     (length-take-le _ _ (zones ((goal.at.returns-in-Refused c).Else-sizes-ne0))) _ _ _ said.number said.figures said.rows said.numerators _ c.in-Refused.is in record { number = all.0; rows = all.1.0; numerators = all.1.1 }
 
 pub returns-in-Accounted : goal.returns-in-Accounted
 returns-in-Accounted c =
-    let b = c in
-    let e = c in
     let a = (start ((goal.at.returns-in-Accounted c).After-judge_sizes-sizes)).args in
-    let said = b.class_account.ensures in let all = class_by_sums a.n a.values.now a.weights.now a.classes.now a.rows.now a.class_locals.now _
+    let said = c.class_account.ensures in let all = class_by_sums a.n a.values.now a.weights.now a.classes.now a.rows.now a.class_locals.now _
     (length-take-le _ _ (zones ((goal.at.returns-in-Accounted c).Else-sizes-ne0))) _ _ _ said.number said.figures said.rows said.numerators _ c.in-Accounted.is in record { number = all.0; rows = all.1.0; numerators = all.1.1 }

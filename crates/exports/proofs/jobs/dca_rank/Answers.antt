@@ -23,25 +23,20 @@ returns-then-sizes-ne0 c =
 
 pub put_rank-requires : goal.put_rank-requires
 put_rank-requires c =
-    let e = c in
     let a = (start ((goal.at.put_rank-requires c).After-judge_sizes-sizes)).args in
     own_fits a.n a.values.now a.weights.now (length a.counts.now) 3 (fit ((goal.at.put_rank-requires c).Else-sizes-ne0))
 
 pub returns-in-Refused : goal.returns-in-Refused
 returns-in-Refused c =
-    let b = c in
-    let e = c in
-    let a = (start ((goal.at.returns-in-Refused c).After-judge_sizes-sizes)).args in let all = rank_by_refusal a.n a.values.now a.weights.now a.shuffles.now a.counts.now (fit ((goal.at.returns-in-Refused c).Else-sizes-ne0)) _ b.rank.ensures.number
-    b.rank.ensures.counts
+    let a = (start ((goal.at.returns-in-Refused c).After-judge_sizes-sizes)).args in let all = rank_by_refusal a.n a.values.now a.weights.now a.shuffles.now a.counts.now (fit ((goal.at.returns-in-Refused c).Else-sizes-ne0)) _ c.rank.ensures.number
+    c.rank.ensures.counts
     _
     c.in-Refused.is in record { number = all.0; lent = all.1 }
 
 pub returns-in-Counted : goal.returns-in-Counted
 returns-in-Counted c =
-    let b = c in
-    let e = c in
-    let a = (start ((goal.at.returns-in-Counted c).After-judge_sizes-sizes)).args in let all = rank_by_counts a.n a.values.now a.weights.now a.shuffles.now a.counts.now (fit ((goal.at.returns-in-Counted c).Else-sizes-ne0)) _ b.rank.ensures.number
-    b.rank.ensures.counts
+    let a = (start ((goal.at.returns-in-Counted c).After-judge_sizes-sizes)).args in let all = rank_by_counts a.n a.values.now a.weights.now a.shuffles.now a.counts.now (fit ((goal.at.returns-in-Counted c).Else-sizes-ne0)) _ c.rank.ensures.number
+    c.rank.ensures.counts
     _
     _
     c.in-Counted.is

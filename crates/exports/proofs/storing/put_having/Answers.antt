@@ -33,13 +33,12 @@ loop-k-smaller c = omega (arith, c.loop-k-test.true)
 pub loop-k-preserved : goal.loop-k-preserved
 loop-k-preserved c =
     let l = c.loop-k in
-    let s = c in
     let inside = c.loop-k-test.true in
-    let pair_is = there s.args.pairs l.k _ no_pair (omega (arith, inside, s.well_formed.1.0.1)) in (
+    let pair_is = there c.args.pairs l.k _ no_pair (omega (arith, inside, c.well_formed.1.0.1)) in (
       omega (arith, inside),
       (
         simp length-set l.invariant.1.0,
-        stored (λ i. tells (get_or s.args.pairs i no_pair).moran) 0 _ l.has l.k (omega (arith, inside, l.invariant.1.0))
+        stored (λ i. tells (get_or c.args.pairs i no_pair).moran) 0 _ l.has l.k (omega (arith, inside, l.invariant.1.0))
             (c.having.ensures ∙ ap (λ (pair : Pair). tells pair.moran) pair_is)
             l.invariant.1.1,
       ),

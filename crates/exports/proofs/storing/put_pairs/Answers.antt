@@ -22,11 +22,9 @@ bounds-pairs-k c = c.loop-k-test.true
 
 pub put_pair-requires : goal.put_pair-requires
 put_pair-requires c =
-    let t = c in
-    let l = t.loop-k in
-    let s = c in
-    let inside = t.loop-k-test.true in
-    let here : l.k < length s.args.pairs = omega (arith, inside, s.well_formed.1.0.1) in record { k_bound = inside; k_in_bounds = omega (arith, inside, l.invariant.count); readable_pair = subst ReadablePair (sym (there s.args.pairs l.k _ no_pair here)) (s.requires.readable_pairs l.k here) }
+    let l = c.loop-k in
+    let inside = c.loop-k-test.true in
+    let here : l.k < length c.args.pairs = omega (arith, inside, c.well_formed.1.0.1) in record { k_bound = inside; k_in_bounds = omega (arith, inside, l.invariant.count); readable_pair = subst ReadablePair (sym (there c.args.pairs l.k _ no_pair here)) (c.requires.readable_pairs l.k here) }
 
 pub overflow_add-k : goal.overflow_add-k
 overflow_add-k c = omega (arith, c.loop-k-test.true)
@@ -36,15 +34,13 @@ loop-k-smaller c = omega (arith, c.loop-k-test.true)
 
 pub loop-k-preserved : goal.loop-k-preserved
 loop-k-preserved c =
-    let t = c in
-    let l = t.loop-k in
-    let s = c in
-    let pair = there s.args.pairs l.k _ no_pair (omega (arith, t.loop-k-test.true, s.well_formed.1.0.1)) in
-    subst (λ v. PutSoFar 9 (λ i. get_or s.args.pairs i no_pair) s.args.figures.now v (l.k + 1))
+    let l = c.loop-k in
+    let pair = there c.args.pairs l.k _ no_pair (omega (arith, c.loop-k-test.true, c.well_formed.1.0.1)) in
+    subst (λ v. PutSoFar 9 (λ i. get_or c.args.pairs i no_pair) c.args.figures.now v (l.k + 1))
     (sym
     (c.put_pair.ensures
     ∙ ap (λ (p : Pair). put_figure (put_figure l.figures (l.k * 2) p.moran) (l.k * 2 + 1) p.geary) pair))
-    (one_put 9 _ _ l.figures l.k l.invariant t.loop-k-test.true)
+    (one_put 9 _ _ l.figures l.k l.invariant c.loop-k-test.true)
 
 pub shape_of-figures : goal.shape_of-figures
 shape_of-figures c = c.loop-k.invariant.count ∙ sym c.requires.figures_len

@@ -20,27 +20,23 @@ six_set l {s} {m} {w} {p} {g} {k} e e1 e2 e3 e4 e5 e6 = all_set l (s ∷ m ∷ w
 -- the list keeps its length from store to store
 pub bounds-sums-4 : goal.bounds-sums-4
 bounds-sums-4 c =
-    let s = c in
-    lt-length-sets s.args.sums.now 0 (_ ∷ _ ∷ _ ∷ _ ∷ []) (omega (arith, s.requires.sums_len))
+    lt-length-sets c.args.sums.now 0 (_ ∷ _ ∷ _ ∷ _ ∷ []) (omega (arith, c.requires.sums_len))
 
 pub bounds-sums-5 : goal.bounds-sums-5
 bounds-sums-5 c =
-    let s = c in
-    lt-length-sets s.args.sums.now 0 (_ ∷ _ ∷ _ ∷ _ ∷ _ ∷ []) (omega (arith, s.requires.sums_len))
+    lt-length-sets c.args.sums.now 0 (_ ∷ _ ∷ _ ∷ _ ∷ _ ∷ []) (omega (arith, c.requires.sums_len))
 
 pub shape_of-sums : goal.shape_of-sums
 shape_of-sums c =
-    let s = c in
-    length-sets s.args.sums.now 0 (_ ∷ _ ∷ _ ∷ _ ∷ _ ∷ _ ∷ [])
+    length-sets c.args.sums.now 0 (_ ∷ _ ∷ _ ∷ _ ∷ _ ∷ _ ∷ [])
 
 pub returns : goal.returns
 returns c =
-    let s = c in
     let fits = c.struct_told-5-1.given in
-    six_set s.args.sums.now s.requires.sums_len
-    (to_z-of_z w64 s.args.account.total (record { sfits = fits.0.1 }))
-    (to_z-of_z w64 s.args.account.spread (record { sfits = fits.1.0.1 }))
-    (to_z-of_z w64 s.args.account.weight (record { sfits = fits.1.1.0.1 }))
-    (to_z-of_z w64 s.args.account.cross (record { sfits = fits.1.1.1.0.1 }))
-    (to_z-of_z w64 s.args.account.squares (record { sfits = fits.1.1.1.1.0.1 }))
-    (nat w64 s.args.account.kept 64 s.requires.kept_bound tt).same
+    six_set c.args.sums.now c.requires.sums_len
+    (to_z-of_z w64 c.args.account.total (record { sfits = fits.0.1 }))
+    (to_z-of_z w64 c.args.account.spread (record { sfits = fits.1.0.1 }))
+    (to_z-of_z w64 c.args.account.weight (record { sfits = fits.1.1.0.1 }))
+    (to_z-of_z w64 c.args.account.cross (record { sfits = fits.1.1.1.0.1 }))
+    (to_z-of_z w64 c.args.account.squares (record { sfits = fits.1.1.1.1.0.1 }))
+    (nat w64 c.args.account.kept 64 c.requires.kept_bound tt).same

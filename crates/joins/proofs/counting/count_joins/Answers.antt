@@ -76,16 +76,24 @@ pub loop-p-init : goal.loop-p-init
 loop-p-init c = none_counted _ _ _ _ c.requires.entries_value
 
 pub bounds-categories-p : goal.bounds-categories-p
-bounds-categories-p c = omega (arith, (zones ((goal.at.bounds-categories-p c).In-loop-p)).row, (start ((goal.at.bounds-categories-p c).In-loop-p)).requires.categories_len)
+bounds-categories-p c =
+    let in_loop_p = (goal.at.bounds-categories-p c).In-loop-p in
+    omega (arith, (zones in_loop_p).row, (start in_loop_p).requires.categories_len)
 
 pub overflow_cast-from : goal.overflow_cast-from
-overflow_cast-from c = omega (arith, low (start ((goal.at.overflow_cast-from c).In-loop-p)) _ (zones ((goal.at.overflow_cast-from c).In-loop-p)).row)
+overflow_cast-from c =
+    let in_loop_p = (goal.at.overflow_cast-from c).In-loop-p in
+    omega (arith, low (start in_loop_p) _ (zones in_loop_p).row)
 
 pub bounds-categories-p-in-loop-p : goal.bounds-categories-p-in-loop-p
-bounds-categories-p-in-loop-p c = omega (arith, (zones ((goal.at.bounds-categories-p-in-loop-p c).In-loop-p)).column, (start ((goal.at.bounds-categories-p-in-loop-p c).In-loop-p)).requires.categories_len)
+bounds-categories-p-in-loop-p c =
+    let in_loop_p = (goal.at.bounds-categories-p-in-loop-p c).In-loop-p in
+    omega (arith, (zones in_loop_p).column, (start in_loop_p).requires.categories_len)
 
 pub overflow_cast-to : goal.overflow_cast-to
-overflow_cast-to c = omega (arith, low (start ((goal.at.overflow_cast-to c).In-loop-p)) _ (zones ((goal.at.overflow_cast-to c).In-loop-p)).column)
+overflow_cast-to c =
+    let in_loop_p = (goal.at.overflow_cast-to c).In-loop-p in
+    omega (arith, low (start in_loop_p) _ (zones in_loop_p).column)
 
 pub overflow_mul-entry : goal.overflow_mul-entry
 overflow_mul-entry c = omega (arith, entry_low ((goal.at.overflow_mul-entry c).In-loop-p))
@@ -100,10 +108,14 @@ pub slice_copy_out-so_far : goal.slice_copy_out-so_far
 slice_copy_out-so_far c = omega (arith, entry_low ((goal.at.slice_copy_out-so_far c).In-loop-p), c.loop-p.invariant.count)
 
 pub bounds-weights-p : goal.bounds-weights-p
-bounds-weights-p c = let t = c in omega (arith, passed ((goal.at.bounds-weights-p c).In-loop-p), (start ((goal.at.bounds-weights-p c).In-loop-p)).requires.weights_len)
+bounds-weights-p c =
+    let in_loop_p = (goal.at.bounds-weights-p c).In-loop-p in
+    omega (arith, passed in_loop_p, (start in_loop_p).requires.weights_len)
 
 pub overflow_cast-entries : goal.overflow_cast-entries
-overflow_cast-entries c = let t = c in fits_le w64 (pos (get_or (weights (start ((goal.at.overflow_cast-entries c).In-loop-p))) (p ((goal.at.overflow_cast-entries c).In-loop-p)) 0)) 9 (light ((goal.at.overflow_cast-entries c).In-loop-p)) tt
+overflow_cast-entries c =
+    let in_loop_p = (goal.at.overflow_cast-entries c).In-loop-p in
+    fits_le w64 (pos (get_or (weights (start in_loop_p)) (p in_loop_p) 0)) 9 (light in_loop_p) tt
 
 pub overflow_add-entries : goal.overflow_add-entries
 overflow_add-entries c = fit w64 (added ((goal.at.overflow_add-entries c).In-loop-p)) tt
@@ -113,26 +125,27 @@ offset_bounds-entries-entry-in-loop-p c = omega (arith, entry_low ((goal.at.offs
 
 pub bounds-entries-entry : goal.bounds-entries-entry
 bounds-entries-entry c =
-    let t = c in
-    omega (arith, entry_low ((goal.at.bounds-entries-entry c).In-loop-p), t.loop-p.invariant.count)
+    omega (arith, entry_low ((goal.at.bounds-entries-entry c).In-loop-p), c.loop-p.invariant.count)
 
 pub overflow_add-p : goal.overflow_add-p
-overflow_add-p c = let t = c in omega (arith, passed ((goal.at.overflow_add-p c).In-loop-p), few (n (start ((goal.at.overflow_add-p c).In-loop-p))) (start ((goal.at.overflow_add-p c).In-loop-p)).requires.n_bound)
+overflow_add-p c =
+    let in_loop_p = (goal.at.overflow_add-p c).In-loop-p in
+    omega (arith, passed in_loop_p, few (n (start in_loop_p)) (start in_loop_p).requires.n_bound)
 
 pub loop-p-smaller : goal.loop-p-smaller
-loop-p-smaller c = let t = c in omega (arith, passed ((goal.at.loop-p-smaller c).In-loop-p))
+loop-p-smaller c = omega (arith, passed ((goal.at.loop-p-smaller c).In-loop-p))
 
 pub loop-p-preserved : goal.loop-p-preserved
 loop-p-preserved c =
-    let t = c in
-    one_counted _ _ _ _ (p ((goal.at.loop-p-preserved c).In-loop-p)) _ t.loop-p.invariant (passed ((goal.at.loop-p-preserved c).In-loop-p)) (entry_low ((goal.at.loop-p-preserved c).In-loop-p)) (rd w64 (added ((goal.at.loop-p-preserved c).In-loop-p)) tt).same
+    let in_loop_p = (goal.at.loop-p-preserved c).In-loop-p in
+    one_counted _ _ _ _ (p in_loop_p) _ c.loop-p.invariant (passed in_loop_p) (entry_low in_loop_p) (rd w64 (added in_loop_p) tt).same
 
 pub shape_of-entries : goal.shape_of-entries
 shape_of-entries c = c.loop-p.invariant.count ∙ sym (ap length c.requires.entries_value ∙ table_length (λ k. pos 0) 64)
 
 pub returns : goal.returns
 returns c =
-    let s = c in
-    let all : c.loop-p.p ≡ n ((goal.at.returns c).Start) * n ((goal.at.returns c).Start) = omega (arith, c.loop-p.invariant.passed, s.requires.weights_len) in
-    all_counted (n ((goal.at.returns c).Start)) (categories ((goal.at.returns c).Start)) (weights ((goal.at.returns c).Start)) (low ((goal.at.returns c).Start)) _
-    (subst (Counted (n ((goal.at.returns c).Start)) (categories ((goal.at.returns c).Start)) (weights ((goal.at.returns c).Start)) c.loop-p.entries) all c.loop-p.invariant)
+    let start = (goal.at.returns c).Start in
+    let all : c.loop-p.p ≡ n start * n start = omega (arith, c.loop-p.invariant.passed, c.requires.weights_len) in
+    all_counted (n start) (categories start) (weights start) (low start) _
+    (subst (Counted (n start) (categories start) (weights start) c.loop-p.entries) all c.loop-p.invariant)

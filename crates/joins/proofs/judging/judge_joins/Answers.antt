@@ -33,8 +33,8 @@ then_rest : (c : Else-sizes-ne0) (r : ℕ) → r ≡ first_broken (rest ((goal.a
     r ≡ join_refusal g.n g.categories.now g.weights.now g.table
 unfolding join_refusal join_rules
 then_rest c r e =
-    let b = c in
-    e ∙ first_next (rest ((goal.at.Else-sizes-ne0 c).After-judge_sizes-sizes)) 0 (sizes ((goal.at.Else-sizes-ne0 c).After-judge_sizes-sizes)) (tt, (tt, tt)) (sym b.judge_sizes-sizes.ensures ∙ c.if-sizes-ne0.false)
+    let after_judge_sizes_sizes = (goal.at.Else-sizes-ne0 c).After-judge_sizes-sizes in
+    e ∙ first_next (rest after_judge_sizes_sizes) 0 (sizes after_judge_sizes_sizes) (tt, (tt, tt)) (sym c.judge_sizes-sizes.ensures ∙ c.if-sizes-ne0.false)
 
 -- what each test that failed has shown, by the number of its rule
 holds4 : (c : Else-any_above) → any_above 9 (a ((goal.at.Else-any_above c).After-judge_sizes-sizes)).args.weights.now ≡ false
@@ -50,7 +50,9 @@ judge_sizes-sizes-requires c = tt
 
 pub returns-then-sizes-ne0 : goal.returns-then-sizes-ne0
 unfolding join_refusal join_rules
-returns-then-sizes-ne0 c = let b = c in first_here (rest ((goal.at.returns-then-sizes-ne0 c).After-judge_sizes-sizes)) (sizes ((goal.at.returns-then-sizes-ne0 c).After-judge_sizes-sizes)) _ b.judge_sizes-sizes.ensures c.if-sizes-ne0.true
+returns-then-sizes-ne0 c =
+    let after_judge_sizes_sizes = (goal.at.returns-then-sizes-ne0 c).After-judge_sizes-sizes in
+    first_here (rest after_judge_sizes_sizes) (sizes after_judge_sizes_sizes) _ c.judge_sizes-sizes.ensures c.if-sizes-ne0.true
 
 pub any_above-requires : goal.any_above-requires
 any_above-requires c = tt
@@ -63,7 +65,6 @@ any_on_diagonal-requires c = tt
 
 pub returns-then-any_on_diagonal : goal.returns-then-any_on_diagonal
 returns-then-any_on_diagonal c =
-    let k = c in
     then_rest ((goal.at.returns-then-any_on_diagonal c).Else-sizes-ne0) 5 (rw (holds4 ((goal.at.returns-then-any_on_diagonal c).Else-any_above), sym c.any_on_diagonal.ensures ∙ c.if-any_on_diagonal.true) refl)
 
 pub any_above-requires-2 : goal.any_above-requires-2
@@ -71,12 +72,8 @@ any_above-requires-2 c = tt
 
 pub returns-then-any_above-2 : goal.returns-then-any_above-2
 returns-then-any_above-2 c =
-    let k = c in
-    let j = c in
     then_rest ((goal.at.returns-then-any_above-2 c).Else-sizes-ne0) 8 (rw (holds4 ((goal.at.returns-then-any_above-2 c).Else-any_above), holds5 ((goal.at.returns-then-any_above-2 c).Else-any_on_diagonal), sym c.any_above-2.ensures ∙ c.if-any_above-2.true) refl)
 
 pub returns : goal.returns
 returns c =
-    let k = c in
-    let j = c in
     then_rest ((goal.at.returns c).Else-sizes-ne0) 0 (rw (holds4 ((goal.at.returns c).Else-any_above), holds5 ((goal.at.returns c).Else-any_on_diagonal), sym c.any_above-2.ensures ∙ c.if-any_above-2.false) refl)

@@ -52,35 +52,39 @@ slice_bounds-mark_columns-end c = sym (length-take-le _ _ c.requires.n_bound)
 
 pub mark_columns-requires : goal.mark_columns-requires
 unfolding table
-mark_columns-requires c = let s = c in record { n_bound = s.requires.n_bound; weights_len = s.requires.weights_len; marks_value = table_front (λ j. 0) s.args.n 64 s.requires.n_bound }
+mark_columns-requires c = record { n_bound = c.requires.n_bound; weights_len = c.requires.weights_len; marks_value = table_front (λ j. 0) c.args.n 64 c.requires.n_bound }
 
 pub loop-i-init : goal.loop-i-init
 unfolding passing
-loop-i-init c = let s = c in (omega arith, (sym (count_zero _), stored_none _ refl))
+loop-i-init c = (omega arith, (sym (count_zero _), stored_none _ refl))
 
 pub slice_bounds-space-end-in-loop-i : goal.slice_bounds-space-end-in-loop-i
-slice_bounds-space-end-in-loop-i c = let b = c in front_le {A = ℕ} _ _ (marks ((goal.at.slice_bounds-space-end-in-loop-i c).At-loop-i)) _ b.mark_columns.ensures (as_long ((goal.at.slice_bounds-space-end-in-loop-i c).At-loop-i))
+slice_bounds-space-end-in-loop-i c =
+    let at_loop_i = (goal.at.slice_bounds-space-end-in-loop-i c).At-loop-i in
+    front_le {A = ℕ} _ _ (marks at_loop_i) _ c.mark_columns.ensures (as_long at_loop_i)
 
 pub slice_bounds-touches-end : goal.slice_bounds-touches-end
-slice_bounds-touches-end c = let b = c in front_length {A = ℕ} _ _ (marks ((goal.at.slice_bounds-touches-end c).At-loop-i)) _ b.mark_columns.ensures (as_long ((goal.at.slice_bounds-touches-end c).At-loop-i))
+slice_bounds-touches-end c =
+    let at_loop_i = (goal.at.slice_bounds-touches-end c).At-loop-i in
+    front_length {A = ℕ} _ _ (marks at_loop_i) _ c.mark_columns.ensures (as_long at_loop_i)
 
 pub touches-requires : goal.touches-requires
 touches-requires c =
-    let b = c in
-    let s = start ((goal.at.touches-requires c).At-loop-i) in record { n_bound = s.requires.n_bound; weights_len = s.requires.weights_len; i_lt_n = c.loop-i-test.true; marks_value = front {A = ℕ} _ _ (marks ((goal.at.touches-requires c).At-loop-i)) _ b.mark_columns.ensures (as_long ((goal.at.touches-requires c).At-loop-i)) }
+    let at_loop_i = (goal.at.touches-requires c).At-loop-i in
+    let s = start at_loop_i in record { n_bound = s.requires.n_bound; weights_len = s.requires.weights_len; i_lt_n = c.loop-i-test.true; marks_value = front {A = ℕ} _ _ (marks at_loop_i) _ c.mark_columns.ensures (as_long at_loop_i) }
 
 pub overflow_cast-zones : goal.overflow_cast-zones
-overflow_cast-zones c = let b = c in omega (arith, (start ((goal.at.overflow_cast-zones c).At-loop-i)).requires.n_bound, c.loop-i-test.true)
+overflow_cast-zones c = omega (arith, (start ((goal.at.overflow_cast-zones c).At-loop-i)).requires.n_bound, c.loop-i-test.true)
 
 pub bounds-zones-many : goal.bounds-zones-many
 bounds-zones-many c =
-    let b = c in
-    omega (arith, (start ((goal.at.bounds-zones-many c).At-loop-i)).requires.n_bound, few ((goal.at.bounds-zones-many c).At-loop-i), places ((goal.at.bounds-zones-many c).At-loop-i), c.loop-i-test.true)
+    let at_loop_i = (goal.at.bounds-zones-many c).At-loop-i in
+    omega (arith, (start at_loop_i).requires.n_bound, few at_loop_i, places at_loop_i, c.loop-i-test.true)
 
 pub overflow_add-many : goal.overflow_add-many
 overflow_add-many c =
-    let b = c in
-    omega (arith, (start ((goal.at.overflow_add-many c).At-loop-i)).requires.n_bound, few ((goal.at.overflow_add-many c).At-loop-i), c.loop-i-test.true)
+    let at_loop_i = (goal.at.overflow_add-many c).At-loop-i in
+    omega (arith, (start at_loop_i).requires.n_bound, few at_loop_i, c.loop-i-test.true)
 
 pub overflow_add-i : goal.overflow_add-i
 overflow_add-i c = omega arith
@@ -90,20 +94,20 @@ loop-i-smaller c = omega arith
 
 pub loop-i-preserved : goal.loop-i-preserved
 loop-i-preserved c =
-    let b = c in
-    let inv = b.loop-i.invariant.1 in
+    let at_loop_i = (goal.at.loop-i-preserved c).At-loop-i in
+    let inv = c.loop-i.invariant.1 in
     let told = sym c.touches.ensures in
-    let many-are : b.loop-i.many ≡ 0 + length (passing (test ((goal.at.loop-i-preserved c).At-loop-i)) b.loop-i.i) =
-    omega (arith, inv.0, passing_length (test ((goal.at.loop-i-preserved c).At-loop-i)) b.loop-i.i) in (
+    let many_are : c.loop-i.many ≡ 0 + length (passing (test at_loop_i) c.loop-i.i) =
+    omega (arith, inv.0, passing_length (test at_loop_i) c.loop-i.i) in (
       omega arith,
       elim c.if-touches.branch [
         | then-touches w ↦ (
-          w.many-is ∙ count_yes (test ((goal.at.loop-i-preserved c).At-loop-i)) b.loop-i.i b.loop-i.many inv.0 (told ∙ w.if-touches.true),
-          stored_next (b.loop-i.i ∷ []) inv.1 w.zones-is many-are (sym (list_found (test ((goal.at.loop-i-preserved c).At-loop-i)) b.loop-i.i _ (told ∙ w.if-touches.true) refl)),
+          w.many-is ∙ count_yes (test at_loop_i) c.loop-i.i c.loop-i.many inv.0 (told ∙ w.if-touches.true),
+          stored_next (c.loop-i.i ∷ []) inv.1 w.zones-is many_are (sym (list_found (test at_loop_i) c.loop-i.i _ (told ∙ w.if-touches.true) refl)),
         )
         | else-touches w ↦ (
-          w.many-is ∙ count_no (test ((goal.at.loop-i-preserved c).At-loop-i)) b.loop-i.i b.loop-i.many inv.0 (told ∙ w.if-touches.false),
-          record { same = w.zones-is ∙ inv.1.same ∙ ap (sets (start ((goal.at.loop-i-preserved c).At-loop-i)).args.zones.now 0) (list_passed (test ((goal.at.loop-i-preserved c).At-loop-i)) b.loop-i.i _ (told ∙ w.if-touches.false) refl) },
+          w.many-is ∙ count_no (test at_loop_i) c.loop-i.i c.loop-i.many inv.0 (told ∙ w.if-touches.false),
+          record { same = w.zones-is ∙ inv.1.same ∙ ap (sets (start at_loop_i).args.zones.now 0) (list_passed (test at_loop_i) c.loop-i.i _ (told ∙ w.if-touches.false) refl) },
         )
       ],
     )
@@ -114,10 +118,10 @@ shape_of-zones c = stored_length c.loop-i.invariant.1.1
 pub returns : goal.returns
 unfolding kept_count kept_zones
 returns c =
-    let b = c in
-    let all : b.loop-i.i ≡ n ((goal.at.returns c).At-loop-i) = omega arith in
-    let old = (start ((goal.at.returns c).At-loop-i)).args.zones.now in
-    let front : Stored old 0 (passing (test ((goal.at.returns c).At-loop-i)) (n ((goal.at.returns c).At-loop-i))) b.loop-i.zones =
-    record { same = b.loop-i.invariant.1.1.same ∙ ap (λ k. sets old 0 (passing (test ((goal.at.returns c).At-loop-i)) k)) all } in
-    let few-kept : length (passing (test ((goal.at.returns c).At-loop-i)) (n ((goal.at.returns c).At-loop-i))) ≤ length old =
-    omega (arith, passing_length (test ((goal.at.returns c).At-loop-i)) (n ((goal.at.returns c).At-loop-i)), count_le (test ((goal.at.returns c).At-loop-i)) (n ((goal.at.returns c).At-loop-i)), (start ((goal.at.returns c).At-loop-i)).requires.n_bound, (start ((goal.at.returns c).At-loop-i)).requires.zones_len) in record { value = b.loop-i.invariant.1.0 ∙ ap (count (test ((goal.at.returns c).At-loop-i))) all; zones_after = stored_over front few-kept }
+    let at_loop_i = (goal.at.returns c).At-loop-i in
+    let all : c.loop-i.i ≡ n at_loop_i = omega arith in
+    let old = (start at_loop_i).args.zones.now in
+    let front : Stored old 0 (passing (test at_loop_i) (n at_loop_i)) c.loop-i.zones =
+    record { same = c.loop-i.invariant.1.1.same ∙ ap (λ k. sets old 0 (passing (test at_loop_i) k)) all } in
+    let few_kept : length (passing (test at_loop_i) (n at_loop_i)) ≤ length old =
+    omega (arith, passing_length (test at_loop_i) (n at_loop_i), count_le (test at_loop_i) (n at_loop_i), (start at_loop_i).requires.n_bound, (start at_loop_i).requires.zones_len) in record { value = c.loop-i.invariant.1.0 ∙ ap (count (test at_loop_i)) all; zones_after = stored_over front few_kept }

@@ -40,28 +40,30 @@ slice_bounds-mark_columns-end c = sym (length-take-le _ _ c.requires.n_bound)
 
 pub mark_columns-requires : goal.mark_columns-requires
 unfolding table
-mark_columns-requires c = let s = c in record { n_bound = s.requires.n_bound; weights_len = s.requires.weights_len; marks_value = table_front (λ j. 0) s.args.n 64 s.requires.n_bound }
+mark_columns-requires c = record { n_bound = c.requires.n_bound; weights_len = c.requires.weights_len; marks_value = table_front (λ j. 0) c.args.n 64 c.requires.n_bound }
 
 pub loop-i-init : goal.loop-i-init
 loop-i-init c =
-    let s = c in
-    (omega arith, (s.requires.marks_len, λ k p. let z : ⊥ = omega arith in absurd z))
+    (omega arith, (c.requires.marks_len, λ k p. let z : ⊥ = omega arith in absurd z))
 
 pub slice_bounds-space-end-in-loop-i : goal.slice_bounds-space-end-in-loop-i
-slice_bounds-space-end-in-loop-i c = let b = c in front_le {A = ℕ} _ _ (columns ((goal.at.slice_bounds-space-end-in-loop-i c).At-loop-i)) _ b.mark_columns.ensures (as_long ((goal.at.slice_bounds-space-end-in-loop-i c).At-loop-i))
+slice_bounds-space-end-in-loop-i c =
+    let at_loop_i = (goal.at.slice_bounds-space-end-in-loop-i c).At-loop-i in
+    front_le {A = ℕ} _ _ (columns at_loop_i) _ c.mark_columns.ensures (as_long at_loop_i)
 
 pub slice_bounds-touches-end : goal.slice_bounds-touches-end
-slice_bounds-touches-end c = let b = c in front_length {A = ℕ} _ _ (columns ((goal.at.slice_bounds-touches-end c).At-loop-i)) _ b.mark_columns.ensures (as_long ((goal.at.slice_bounds-touches-end c).At-loop-i))
+slice_bounds-touches-end c =
+    let at_loop_i = (goal.at.slice_bounds-touches-end c).At-loop-i in
+    front_length {A = ℕ} _ _ (columns at_loop_i) _ c.mark_columns.ensures (as_long at_loop_i)
 
 pub touches-requires : goal.touches-requires
 touches-requires c =
-    let b = c in
-    let s = start ((goal.at.touches-requires c).At-loop-i) in record { n_bound = s.requires.n_bound; weights_len = s.requires.weights_len; i_lt_n = c.loop-i-test.true; marks_value = front {A = ℕ} _ _ (columns ((goal.at.touches-requires c).At-loop-i)) _ b.mark_columns.ensures (as_long ((goal.at.touches-requires c).At-loop-i)) }
+    let at_loop_i = (goal.at.touches-requires c).At-loop-i in
+    let s = start at_loop_i in record { n_bound = s.requires.n_bound; weights_len = s.requires.weights_len; i_lt_n = c.loop-i-test.true; marks_value = front {A = ℕ} _ _ (columns at_loop_i) _ c.mark_columns.ensures (as_long at_loop_i) }
 
 pub bounds-marks-i : goal.bounds-marks-i
 bounds-marks-i c =
-    let b = c in
-    omega (arith, b.loop-i.invariant.1.0, c.loop-i-test.true)
+    omega (arith, c.loop-i.invariant.1.0, c.loop-i-test.true)
 
 pub overflow_add-i : goal.overflow_add-i
 overflow_add-i c = omega arith
@@ -71,23 +73,22 @@ loop-i-smaller c = omega arith
 
 pub loop-i-preserved : goal.loop-i-preserved
 loop-i-preserved c =
-    let b = c in
-    let inv = b.loop-i.invariant.1 in
+    let at_loop_i = (goal.at.loop-i-preserved c).At-loop-i in
+    let inv = c.loop-i.invariant.1 in
     let told = sym c.touches.ensures in
-    let marked : c.if-touches.mark ≡ cond (test ((goal.at.loop-i-preserved c).At-loop-i) b.loop-i.i) 1 0 =
+    let marked : c.if-touches.mark ≡ cond (test at_loop_i c.loop-i.i) 1 0 =
     elim c.if-touches.branch [ then-touches w ↦ w.mark-is ∙ rw (told ∙ w.if-touches.true) refl | else-touches w ↦ w.mark-is ∙ rw (told ∙ w.if-touches.false) refl ] in (
       omega arith,
       (
         simp length-set inv.0,
-        stored (λ k. cond (test ((goal.at.loop-i-preserved c).At-loop-i) k) 1 0) 0 _ b.loop-i.marks b.loop-i.i
+        stored (λ k. cond (test at_loop_i k) 1 0) 0 _ c.loop-i.marks c.loop-i.i
             (omega (arith, inv.0, c.loop-i-test.true)) marked inv.1,
       ),
     )
 
 pub shape_of-marks : goal.shape_of-marks
-shape_of-marks c = let b = c in b.loop-i.invariant.1.0 ∙ sym (start ((goal.at.shape_of-marks c).At-loop-i)).requires.marks_len
+shape_of-marks c = c.loop-i.invariant.1.0 ∙ sym (start ((goal.at.shape_of-marks c).At-loop-i)).requires.marks_len
 
 pub returns : goal.returns
 returns c =
-    let b = c in
-    is_table _ _ 0 b.loop-i.marks b.loop-i.invariant.1.0 (λ k p. b.loop-i.invariant.1.1 k (omega (arith, p, c.loop-i-test.false)))
+    is_table _ _ 0 c.loop-i.marks c.loop-i.invariant.1.0 (λ k p. c.loop-i.invariant.1.1 k (omega (arith, p, c.loop-i-test.false)))

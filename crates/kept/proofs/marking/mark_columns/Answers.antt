@@ -13,9 +13,7 @@ unfolding some
 loop-i-init c = (omega arith, c.requires.marks_value)
 
 pub mark_row-requires : goal.mark_row-requires
-mark_row-requires c =
-    let b = c in
-    let s = c in record { n_bound = s.requires.n_bound; weights_len = s.requires.weights_len; i_lt_n = c.loop-i-test.true; marks_value = b.loop-i.invariant.1 }
+mark_row-requires c = record { n_bound = c.requires.n_bound; weights_len = c.requires.weights_len; i_lt_n = c.loop-i-test.true; marks_value = c.loop-i.invariant.1 }
 
 pub overflow_add-i : goal.overflow_add-i
 overflow_add-i c = omega arith
@@ -28,11 +26,9 @@ loop-i-preserved c = (omega arith, c.mark_row.ensures)
 
 pub shape_of-marks : goal.shape_of-marks
 shape_of-marks c =
-    let b = c in
-    ap length b.loop-i.invariant.1 ∙ table_length _ _ ∙ sym (ap length b.requires.marks_value ∙ table_length _ _)
+    ap length c.loop-i.invariant.1 ∙ table_length _ _ ∙ sym (ap length c.requires.marks_value ∙ table_length _ _)
 
 pub returns : goal.returns
 returns c =
-    let b = c in
-    let a = b.args in
-    b.loop-i.invariant.1 ∙ ap (λ k. table (column_mark a.n a.weights.now k) a.n) (omega arith)
+    let a = c.args in
+    c.loop-i.invariant.1 ∙ ap (λ k. table (column_mark a.n a.weights.now k) a.n) (omega arith)

@@ -15,18 +15,17 @@ pub loop-j-init : goal.loop-j-init
 loop-j-init c = (omega arith, changed_none _ _ _ _ c.requires.marks_value)
 
 pub bounds-marks-j : goal.bounds-marks-j
-bounds-marks-j c = let b = c in omega (arith, b.loop-j.invariant.1.count, c.loop-j-test.true)
+bounds-marks-j c = omega (arith, c.loop-j.invariant.1.count, c.loop-j-test.true)
 
 pub overflow_add-row : goal.overflow_add-row
-overflow_add-row c = let b = c in omega (arith, row_few _ _ b.requires.n_bound b.requires.i_lt_n, c.loop-j-test.true)
+overflow_add-row c = omega (arith, row_few _ _ c.requires.n_bound c.requires.i_lt_n, c.loop-j-test.true)
 
 pub bounds-weights-row : goal.bounds-weights-row
 bounds-weights-row c =
-    let b = c in
-    omega (arith, row_end _ _ b.requires.i_lt_n, b.requires.weights_len, c.loop-j-test.true)
+    omega (arith, row_end _ _ c.requires.i_lt_n, c.requires.weights_len, c.loop-j-test.true)
 
 pub bounds-marks-j-in-loop-j : goal.bounds-marks-j-in-loop-j
-bounds-marks-j-in-loop-j c = let b = c in omega (arith, b.loop-j.invariant.1.count, c.loop-j-test.true)
+bounds-marks-j-in-loop-j c = omega (arith, c.loop-j.invariant.1.count, c.loop-j-test.true)
 
 pub overflow_add-j : goal.overflow_add-j
 overflow_add-j c = omega arith
@@ -37,17 +36,16 @@ loop-j-smaller c = omega arith
 pub loop-j-preserved : goal.loop-j-preserved
 unfolding pair_at
 loop-j-preserved c =
-    let b = c in
-    let a = b.args in
+    let a = c.args in
     let h = c.loop-j-test.true in
-    let inv = b.loop-j.invariant.1 in (
+    let inv = c.loop-j.invariant.1 in (
       omega arith,
-      changed_next _ _ _ b.loop-j.j b.loop-j.marks c.if-weights-row-gt0.mark inv h
-          (elim c.if-weights-row-gt0.branch [ then-weights-row-gt0 w ↦ mark_set a.n a.weights.now a.i b.loop-j.j c.if-weights-row-gt0.mark w.mark-is w.if-weights-row-gt0.true | else-weights-row-gt0 w ↦ mark_stays a.n a.weights.now a.i b.loop-j.j c.if-weights-row-gt0.mark (w.mark-is ∙ inv.left b.loop-j.j (omega arith) h) w.if-weights-row-gt0.false ]),
+      changed_next _ _ _ c.loop-j.j c.loop-j.marks c.if-weights-row-gt0.mark inv h
+          (elim c.if-weights-row-gt0.branch [ then-weights-row-gt0 w ↦ mark_set a.n a.weights.now a.i c.loop-j.j c.if-weights-row-gt0.mark w.mark-is w.if-weights-row-gt0.true | else-weights-row-gt0 w ↦ mark_stays a.n a.weights.now a.i c.loop-j.j c.if-weights-row-gt0.mark (w.mark-is ∙ inv.left c.loop-j.j (omega arith) h) w.if-weights-row-gt0.false ]),
     )
 
 pub shape_of-marks : goal.shape_of-marks
-shape_of-marks c = let b = c in b.loop-j.invariant.1.count ∙ sym (ap length b.requires.marks_value ∙ table_length _ _)
+shape_of-marks c = c.loop-j.invariant.1.count ∙ sym (ap length c.requires.marks_value ∙ table_length _ _)
 
 pub returns : goal.returns
-returns c = let b = c in changed_all _ _ _ _ _ b.loop-j.invariant.1 (omega arith)
+returns c = changed_all _ _ _ _ _ c.loop-j.invariant.1 (omega arith)

@@ -44,9 +44,8 @@ loop-x-init c =
 
 pub loop-x-preserved-then-most-lt-WORTH : goal.loop-x-preserved-then-most-lt-WORTH
 loop-x-preserved-then-most-lt-WORTH c =
-    let s = c in
     let l = c.loop-x in
-    further _ _ _ _ _ 1 _ _ _ s.requires.a_nonzero s.requires.divisor_bound l.invariant.0 (c.next_digit-x.ensures.rest_value, (c.next_digit-x.ensures.rest_lt_divisor_2, (c.next_digit-x.ensures.whole_bound_2, c.next_digit-x.ensures.halvings_value)))
+    further _ _ _ _ _ 1 _ _ _ c.requires.a_nonzero c.requires.divisor_bound l.invariant.0 (c.next_digit-x.ensures.rest_value, (c.next_digit-x.ensures.rest_lt_divisor_2, (c.next_digit-x.ensures.whole_bound_2, c.next_digit-x.ensures.halvings_value)))
 
 pub more_digits-x-requires : goal.more_digits-x-requires
 more_digits-x-requires c =
@@ -56,9 +55,8 @@ more_digits-x-requires c =
 
 pub loop-x-preserved : goal.loop-x-preserved
 loop-x-preserved c =
-    let s = c in
     let l = c.loop-x in
-    further _ _ _ _ _ c.count.result _ _ _ s.requires.a_nonzero s.requires.divisor_bound l.invariant.0 (c.more_digits-x.ensures.rest_value, (c.more_digits-x.ensures.rest_lt_divisor_2, (c.more_digits-x.ensures.whole_bound, c.more_digits-x.ensures.halvings_value)))
+    further _ _ _ _ _ c.count.result _ _ _ c.requires.a_nonzero c.requires.divisor_bound l.invariant.0 (c.more_digits-x.ensures.rest_value, (c.more_digits-x.ensures.rest_lt_divisor_2, (c.more_digits-x.ensures.whole_bound, c.more_digits-x.ensures.halvings_value)))
 
 pub returns : goal.returns
 returns c =

@@ -27,32 +27,29 @@ overflow_add-from c = omega (arith, near c)
 
 pub returns-then-from-n-2 : goal.returns-then-from-n-2
 returns-then-from-n-2 c =
-    let b = c in
     simp (
-      lt-ltb _ _ b.if-from-n.false,
-      lt-ltb _ _ b.if-to-n.false,
-      ne_eqb _ _ b.if-from-to.false,
+      lt-ltb _ _ c.if-from-n.false,
+      lt-ltb _ _ c.if-to-n.false,
+      ne_eqb _ _ c.if-from-to.false,
       lt-ltb _ _ c.if-from-n-2.true,
     )
 
 pub returns-then-weight-lt1 : goal.returns-then-weight-lt1
 returns-then-weight-lt1 c =
-    let b = c in
     simp (
-      lt-ltb _ _ b.if-from-n.false,
-      lt-ltb _ _ b.if-to-n.false,
-      ne_eqb _ _ b.if-from-to.false,
+      lt-ltb _ _ c.if-from-n.false,
+      lt-ltb _ _ c.if-to-n.false,
+      ne_eqb _ _ c.if-from-to.false,
       le-ltb _ _ c.if-from-n-2.false,
       lt-ltb _ _ c.if-weight-lt1.true,
     )
 
 pub returns-then-weight-gt9 : goal.returns-then-weight-gt9
 returns-then-weight-gt9 c =
-    let b = c in
     simp (
-      lt-ltb _ _ b.if-from-n.false,
-      lt-ltb _ _ b.if-to-n.false,
-      ne_eqb _ _ b.if-from-to.false,
+      lt-ltb _ _ c.if-from-n.false,
+      lt-ltb _ _ c.if-to-n.false,
+      ne_eqb _ _ c.if-from-to.false,
       le-ltb _ _ c.if-from-n-2.false,
       le-ltb _ _ c.if-weight-lt1.false,
       lt-ltb _ _ c.if-weight-gt9.true,
@@ -60,11 +57,10 @@ returns-then-weight-gt9 c =
 
 pub returns : goal.returns
 returns c =
-    let b = c in
     simp (
-      lt-ltb _ _ b.if-from-n.false,
-      lt-ltb _ _ b.if-to-n.false,
-      ne_eqb _ _ b.if-from-to.false,
+      lt-ltb _ _ c.if-from-n.false,
+      lt-ltb _ _ c.if-to-n.false,
+      ne_eqb _ _ c.if-from-to.false,
       le-ltb _ _ c.if-from-n-2.false,
       le-ltb _ _ c.if-weight-lt1.false,
       le-ltb _ _ c.if-weight-gt9.false,

@@ -117,12 +117,11 @@ loop-i-preserved c =
 
 pub shape_of-weights : goal.shape_of-weights
 shape_of-weights c =
-    let a = c in
     let b = c.loop-i in
-    let n = a.args.n in
+    let n = c.args.n in
     ap length b.invariant.1
-    ∙ weights_length n (table (join_in (drop a.args.at a.args.image.now)) b.i)
-    ∙ sym (ap length a.requires.weights_value ∙ length-replicate (n * n) 0)
+    ∙ weights_length n (table (join_in (drop c.args.at c.args.image.now)) b.i)
+    ∙ sym (ap length c.requires.weights_value ∙ length-replicate (n * n) 0)
 
 pub returns : goal.returns
 returns c =

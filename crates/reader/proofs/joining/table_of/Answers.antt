@@ -8,9 +8,7 @@ pub clear-requires : goal.clear-requires
 clear-requires c = tt
 
 pub put_joins-requires : goal.put_joins-requires
-put_joins-requires c =
-    let e = c in
-    let a = c in record { joinable = a.requires.joinable; weights_value = e.clear.ensures ∙ ap (λ m. replicate m 0) a.requires.weights_len }
+put_joins-requires c = record { joinable = c.requires.joinable; weights_value = c.clear.ensures ∙ ap (λ m. replicate m 0) c.requires.weights_len }
 
 pub returns : goal.returns
 returns c = c.put_joins.ensures

@@ -191,27 +191,21 @@ pass-shuffles-requires c = (met_6 c).whole
 -- the place of the joins lies in the image whether or not there is a number
 pub overflow_add-at_joins : goal.overflow_add-at_joins
 overflow_add-at_joins c =
-    let joins = c in
-    omega (arith, joins.pass-categories.ensures.inside, joins.well_formed.0)
+    omega (arith, c.pass-categories.ensures.inside, c.well_formed.0)
 
 pub judge_end-number-requires : goal.judge_end-number-requires
 judge_end-number-requires c =
+    let after_pass_bands = (goal.at.judge_end-number-requires c).After-pass-bands in
+    let after_pass_joins = (goal.at.judge_end-number-requires c).After-pass-joins in
     λ z.
-    let s = c in
-    let p = c in
-    let j = c in
-    let to_joins = (walked_4 ((goal.at.judge_end-number-requires c).After-pass-places)).back ((walked_5 ((goal.at.judge_end-number-requires c).After-pass-bands)).back ((walked_6 c).back z)) in
-    let to_values = (walked_2 ((goal.at.judge_end-number-requires c).After-pass-categories)).back ((walked_3 ((goal.at.judge_end-number-requires c).After-pass-joins)).back to_joins) in
+    let to_joins = (walked_4 ((goal.at.judge_end-number-requires c).After-pass-places)).back ((walked_5 after_pass_bands).back ((walked_6 c).back z)) in
+    let to_values = (walked_2 ((goal.at.judge_end-number-requires c).After-pass-categories)).back ((walked_3 after_pass_joins).back to_joins) in
     summable (image_11 c) _ _ _ ((met_1 ((goal.at.judge_end-number-requires c).After-in_values-v)).none to_values) ((met_3 ((goal.at.judge_end-number-requires c).After-in_joins-j)).none to_joins)
-    ((zones_5 ((goal.at.judge_end-number-requires c).After-pass-bands)).counted ((walked_6 c).back z)) ((walked_3 ((goal.at.judge_end-number-requires c).After-pass-joins)).found to_joins)
+    ((zones_5 after_pass_bands).counted ((walked_6 c).back z)) ((walked_3 after_pass_joins).found to_joins)
 
 pub returns : goal.returns
 returns c =
-    let e = c in
-    let s = c in
-    let p = c in
-    let j = c in
-    let d = c in
-    judged (image_11 ((goal.at.returns c).After-pass-shuffles)) c.judge_end-number.result (walked_1 ((goal.at.returns c).After-pass-values)) (walked_2 ((goal.at.returns c).After-pass-categories)) (walked_3 ((goal.at.returns c).After-pass-joins)) (walked_4 ((goal.at.returns c).After-pass-places)) (walked_5 ((goal.at.returns c).After-pass-bands))
-    (walked_6 ((goal.at.returns c).After-pass-shuffles))
+    let after_pass_shuffles = (goal.at.returns c).After-pass-shuffles in
+    judged (image_11 after_pass_shuffles) c.judge_end-number.result (walked_1 ((goal.at.returns c).After-pass-values)) (walked_2 ((goal.at.returns c).After-pass-categories)) (walked_3 ((goal.at.returns c).After-pass-joins)) (walked_4 ((goal.at.returns c).After-pass-places)) (walked_5 ((goal.at.returns c).After-pass-bands))
+    (walked_6 after_pass_shuffles)
     c.judge_end-number.ensures

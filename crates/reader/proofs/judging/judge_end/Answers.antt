@@ -30,6 +30,5 @@ judge_sums-requires c = c.requires c.if-before-ne0.false
 
 pub returns : goal.returns
 returns c =
-    let b = c in
-    let a = b.args in
-    c.judge_sums.ensures ∙ sym (then_rules _ _ b.if-before-ne0.false ∙ rw (none_left a.image.now a.end b.if-end-image.false))
+    let a = c.args in
+    c.judge_sums.ensures ∙ sym (then_rules _ _ c.if-before-ne0.false ∙ rw (none_left a.image.now a.end c.if-end-image.false))

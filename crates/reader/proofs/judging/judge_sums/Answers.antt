@@ -83,22 +83,30 @@ pub table_of-requires : goal.table_of-requires
 table_of-requires c = let joins = c.requires.joins in record { joinable = joins; weights_len = length-take-le _ _ (few _ joins.zones) }
 
 pub slice_bounds-values-end-2 : goal.slice_bounds-values-end-2
-slice_bounds-values-end-2 c = let b = c in front_le {A = ℤ} _ _ (values ((goal.at.slice_bounds-values-end-2 c).After-table_of)) _ (valued ((goal.at.slice_bounds-values-end-2 c).After-table_of)) (as_many ((goal.at.slice_bounds-values-end-2 c).After-table_of))
+slice_bounds-values-end-2 c =
+    let after_table_of = (goal.at.slice_bounds-values-end-2 c).After-table_of in
+    front_le {A = ℤ} _ _ (values after_table_of) _ (valued after_table_of) (as_many after_table_of)
 
 pub slice_bounds-judge-end : goal.slice_bounds-judge-end
-slice_bounds-judge-end c = let b = c in front_length {A = ℤ} _ _ (values ((goal.at.slice_bounds-judge-end c).After-table_of)) _ (valued ((goal.at.slice_bounds-judge-end c).After-table_of)) (as_many ((goal.at.slice_bounds-judge-end c).After-table_of))
+slice_bounds-judge-end c =
+    let after_table_of = (goal.at.slice_bounds-judge-end c).After-table_of in
+    front_length {A = ℤ} _ _ (values after_table_of) _ (valued after_table_of) (as_many after_table_of)
 
 pub slice_bounds-weights-end-2 : goal.slice_bounds-weights-end-2
-slice_bounds-weights-end-2 c = let b = c in front_le {A = ℕ} _ _ (weights ((goal.at.slice_bounds-weights-end-2 c).After-table_of)) _ b.table_of.ensures (weighed ((goal.at.slice_bounds-weights-end-2 c).After-table_of))
+slice_bounds-weights-end-2 c =
+    let after_table_of = (goal.at.slice_bounds-weights-end-2 c).After-table_of in
+    front_le {A = ℕ} _ _ (weights after_table_of) _ c.table_of.ensures (weighed after_table_of)
 
 pub slice_bounds-judge-end-2 : goal.slice_bounds-judge-end-2
-slice_bounds-judge-end-2 c = let b = c in front_length {A = ℕ} _ _ (weights ((goal.at.slice_bounds-judge-end-2 c).After-table_of)) _ b.table_of.ensures (weighed ((goal.at.slice_bounds-judge-end-2 c).After-table_of))
+slice_bounds-judge-end-2 c =
+    let after_table_of = (goal.at.slice_bounds-judge-end-2 c).After-table_of in
+    front_length {A = ℕ} _ _ (weights after_table_of) _ c.table_of.ensures (weighed after_table_of)
 
 pub judge-requires : goal.judge-requires
 judge-requires c = tt
 
 pub returns : goal.returns
 returns c =
-    let b = c in
-    judged ((goal.at.returns c).After-table_of) _ _ _ c.judge.ensures (front {A = ℤ} _ _ (values ((goal.at.returns c).After-table_of)) _ (valued ((goal.at.returns c).After-table_of)) (as_many ((goal.at.returns c).After-table_of)))
-    (front {A = ℕ} _ _ (weights ((goal.at.returns c).After-table_of)) _ b.table_of.ensures (weighed ((goal.at.returns c).After-table_of)))
+    let after_table_of = (goal.at.returns c).After-table_of in
+    judged after_table_of _ _ _ c.judge.ensures (front {A = ℤ} _ _ (values after_table_of) _ (valued after_table_of) (as_many after_table_of))
+    (front {A = ℕ} _ _ (weights after_table_of) _ c.table_of.ensures (weighed after_table_of))

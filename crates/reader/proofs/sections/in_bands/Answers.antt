@@ -67,9 +67,9 @@ judge_band_count-counted-requires c = tt
 pub returns-then-number-ne0 : goal.returns-then-number-ne0
 unfolding in_bands
 returns-then-number-ne0 c =
-    let j = c in
-    let a = start ((goal.at.returns-then-number-ne0 c).After-judge_frame-number) in
-    stopped a.args.before (4) _ 11 _ (b a) _ _ _ j.judge_frame-number.ensures (counted ((goal.at.returns-then-number-ne0 c).After-judge_frame-number)) (judged ((goal.at.returns-then-number-ne0 c).After-judge_frame-number)) c.if-number-ne0.true
+    let after_judge_frame_number = (goal.at.returns-then-number-ne0 c).After-judge_frame-number in
+    let a = start after_judge_frame_number in
+    stopped a.args.before (4) _ 11 _ (b a) _ _ _ c.judge_frame-number.ensures (counted after_judge_frame_number) (judged after_judge_frame_number) c.if-number-ne0.true
 
 pub overflow_add-at : goal.overflow_add-at
 overflow_add-at c = omega (arith, whole c)
@@ -80,8 +80,8 @@ judge_bands-requires c = let few = neither (ltb 8 (k (j c))) _ (unbroken _ 11 _ 
 pub returns : goal.returns
 unfolding in_bands
 returns c =
-    let j = c in
-    let a = start ((goal.at.returns c).After-judge_frame-number) in
-    by_items a.args.before (4) _ 11 _ (b a) _ _ _ j.judge_frame-number.ensures (counted ((goal.at.returns c).After-judge_frame-number)) (judged ((goal.at.returns c).After-judge_frame-number)) c.if-number-ne0.false _
+    let after_judge_frame_number = (goal.at.returns c).After-judge_frame-number in
+    let a = start after_judge_frame_number in
+    by_items a.args.before (4) _ 11 _ (b a) _ _ _ c.judge_frame-number.ensures (counted after_judge_frame_number) (judged after_judge_frame_number) c.if-number-ne0.false _
     (c.judge_bands.ensures
-    ∙ items_from (λ m l. first_broken (band_rules (words m l))) a.args.image.now a.args.at _ (counted ((goal.at.returns c).After-judge_frame-number)))
+    ∙ items_from (λ m l. first_broken (band_rules (words m l))) a.args.image.now a.args.at _ (counted after_judge_frame_number))

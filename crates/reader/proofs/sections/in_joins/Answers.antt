@@ -64,9 +64,9 @@ judge_join_count-counted-requires c = tt
 pub returns-then-number-ne0 : goal.returns-then-number-ne0
 unfolding in_joins
 returns-then-number-ne0 c =
-    let j = c in
-    let a = start ((goal.at.returns-then-number-ne0 c).After-judge_frame-number) in
-    stopped a.args.before (3) _ 14 _ (b a) _ _ _ j.judge_frame-number.ensures (counted ((goal.at.returns-then-number-ne0 c).After-judge_frame-number)) (judged ((goal.at.returns-then-number-ne0 c).After-judge_frame-number)) c.if-number-ne0.true
+    let after_judge_frame_number = (goal.at.returns-then-number-ne0 c).After-judge_frame-number in
+    let a = start after_judge_frame_number in
+    stopped a.args.before (3) _ 14 _ (b a) _ _ _ c.judge_frame-number.ensures (counted after_judge_frame_number) (judged after_judge_frame_number) c.if-number-ne0.true
 
 pub overflow_add-at : goal.overflow_add-at
 overflow_add-at c = omega (arith, whole c)
@@ -77,8 +77,8 @@ judge_joins-requires c = record { k_in_bounds = omega (arith, whole c); n_bound 
 pub returns : goal.returns
 unfolding in_joins
 returns c =
-    let j = c in
-    let a = start ((goal.at.returns c).After-judge_frame-number) in
-    by_items a.args.before (3) _ 14 _ (b a) _ _ _ j.judge_frame-number.ensures (counted ((goal.at.returns c).After-judge_frame-number)) (judged ((goal.at.returns c).After-judge_frame-number)) c.if-number-ne0.false _
+    let after_judge_frame_number = (goal.at.returns c).After-judge_frame-number in
+    let a = start after_judge_frame_number in
+    by_items a.args.before (3) _ 14 _ (b a) _ _ _ c.judge_frame-number.ensures (counted after_judge_frame_number) (judged after_judge_frame_number) c.if-number-ne0.false _
     (c.judge_joins.ensures
-    ∙ items_from (λ m l. first_broken (in_turn (join_rules a.args.n (join_in l)) m)) a.args.image.now a.args.at _ (counted ((goal.at.returns c).After-judge_frame-number)))
+    ∙ items_from (λ m l. first_broken (in_turn (join_rules a.args.n (join_in l)) m)) a.args.image.now a.args.at _ (counted after_judge_frame_number))

@@ -62,14 +62,14 @@ pub judge_shuffle_count-counted-requires : goal.judge_shuffle_count-counted-requ
 judge_shuffle_count-counted-requires c = tt
 
 pub judge_frame-number-requires : goal.judge_frame-number-requires
-judge_frame-number-requires c = let a = c in record { at_in_bounds = a.requires.at_in_bounds; size_bound = a.requires.n_bound; k_bound = omega (arith, c.two_at-k.ensures.upper_bound) }
+judge_frame-number-requires c = record { at_in_bounds = c.requires.at_in_bounds; size_bound = c.requires.n_bound; k_bound = omega (arith, c.two_at-k.ensures.upper_bound) }
 
 pub returns-then-number-ne0 : goal.returns-then-number-ne0
 unfolding in_shuffles
 returns-then-number-ne0 c =
-    let j = c in
-    let a = start ((goal.at.returns-then-number-ne0 c).After-judge_frame-number) in
-    stopped a.args.before a.args.n _ 14 _ (b a) _ _ _ j.judge_frame-number.ensures (counted ((goal.at.returns-then-number-ne0 c).After-judge_frame-number)) (judged ((goal.at.returns-then-number-ne0 c).After-judge_frame-number)) c.if-number-ne0.true
+    let after_judge_frame_number = (goal.at.returns-then-number-ne0 c).After-judge_frame-number in
+    let a = start after_judge_frame_number in
+    stopped a.args.before a.args.n _ 14 _ (b a) _ _ _ c.judge_frame-number.ensures (counted after_judge_frame_number) (judged after_judge_frame_number) c.if-number-ne0.true
 
 pub overflow_add-at : goal.overflow_add-at
 overflow_add-at c = omega (arith, whole c)
@@ -80,9 +80,9 @@ judge_shuffles-requires c = let few = ltb-false 499 (k (j c)) (unbroken _ 14 _ (
 pub returns : goal.returns
 unfolding in_shuffles
 returns c =
-    let j = c in
-    let a = start ((goal.at.returns c).After-judge_frame-number) in
-    by_items a.args.before a.args.n _ 14 _ (b a) _ _ _ j.judge_frame-number.ensures (counted ((goal.at.returns c).After-judge_frame-number)) (judged ((goal.at.returns c).After-judge_frame-number)) c.if-number-ne0.false _
+    let after_judge_frame_number = (goal.at.returns c).After-judge_frame-number in
+    let a = start after_judge_frame_number in
+    by_items a.args.before a.args.n _ 14 _ (b a) _ _ _ c.judge_frame-number.ensures (counted after_judge_frame_number) (judged after_judge_frame_number) c.if-number-ne0.false _
     (c.judge_shuffles.ensures
     ∙ items_from (λ m l. first_broken (shuffle_rules a.args.n (bytes (m * a.args.n) l))) a.args.image.now a.args.at _
-    (counted ((goal.at.returns c).After-judge_frame-number)))
+    (counted after_judge_frame_number))

@@ -32,11 +32,9 @@ searched :
     (c : After-any_misplaced) → let a = c.args in
     any_misplaced (words a.k (drop a.at a.image.now)) ≡ c.any_misplaced.result
 searched c =
-    let s = c in
-    let space = c in
-    let a = space.args in
+    let a = c.args in
     let read = read_from (λ b i. word_at b (4 * i)) a.image.now a.at a.k _ (length-take-le _ _ (omega arith)) in
-    sym (c.any_misplaced.ensures ∙ ap any_misplaced (s.words_in.ensures ∙ read))
+    sym (c.any_misplaced.ensures ∙ ap any_misplaced (c.words_in.ensures ∙ read))
 
 pub returns-then-any_misplaced : goal.returns-then-any_misplaced
 returns-then-any_misplaced c = rw (searched ((goal.at.returns-then-any_misplaced c).After-any_misplaced) ∙ c.if-any_misplaced.true)

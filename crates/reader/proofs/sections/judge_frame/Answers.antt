@@ -31,56 +31,43 @@ module _ (a : Start) where
       N.mul-le-mul (a.requires.size_bound z) few
 
 pub returns-then-before-ne0 : goal.returns-then-before-ne0
-returns-then-before-ne0 c = let a = c in sym (kept_when_refused a.args.before (answer ((goal.at.returns-then-before-ne0 c).Start)) a.args.before c.if-before-ne0.true)
+returns-then-before-ne0 c = sym (kept_when_refused c.args.before (answer ((goal.at.returns-then-before-ne0 c).Start)) c.args.before c.if-before-ne0.true)
 
 pub cut-requires : goal.cut-requires
 cut-requires c = c.requires.at_in_bounds c.if-before-ne0.false
 
 pub returns-then-cut : goal.returns-then-cut
 returns-then-cut c =
-    let e = c in
-    let a = c in
-    decides ((goal.at.returns-then-cut c).Start) 14 e.if-before-ne0.false (rw (sym c.cut.ensures ∙ c.if-cut.true))
+    decides ((goal.at.returns-then-cut c).Start) 14 c.if-before-ne0.false (rw (sym c.cut.ensures ∙ c.if-cut.true))
 
 pub returns-then-counted-ne0 : goal.returns-then-counted-ne0
 returns-then-counted-ne0 c =
-    let d = c in
-    let e = c in
-    let a = c in
-    decides ((goal.at.returns-then-counted-ne0 c).Start) a.args.counted e.if-before-ne0.false
-    (rw (sym d.cut.ensures ∙ d.if-cut.false, ne_eqb a.args.counted 0 c.if-counted-ne0.true))
+    decides ((goal.at.returns-then-counted-ne0 c).Start) c.args.counted c.if-before-ne0.false
+    (rw (sym c.cut.ensures ∙ c.if-cut.false, ne_eqb c.args.counted 0 c.if-counted-ne0.true))
 
 pub overflow_mul-size : goal.overflow_mul-size
-overflow_mul-size c = let e = c in omega (arith, small ((goal.at.overflow_mul-size c).Start) e.if-before-ne0.false)
+overflow_mul-size c = omega (arith, small ((goal.at.overflow_mul-size c).Start) c.if-before-ne0.false)
 
 pub overflow_add-size : goal.overflow_add-size
-overflow_add-size c = let e = c in omega (arith, small ((goal.at.overflow_add-size c).Start) e.if-before-ne0.false)
+overflow_add-size c = omega (arith, small ((goal.at.overflow_add-size c).Start) c.if-before-ne0.false)
 
 pub cut-requires-2 : goal.cut-requires-2
-cut-requires-2 c = let e = c in e.requires.at_in_bounds e.if-before-ne0.false
+cut-requires-2 c = c.requires.at_in_bounds c.if-before-ne0.false
 
 pub returns-then-cut-2 : goal.returns-then-cut-2
 returns-then-cut-2 c =
-    let f = c in
-    let d = c in
-    let e = c in
-    let a = c in
-    decides ((goal.at.returns-then-cut-2 c).Start) 14 e.if-before-ne0.false
+    decides ((goal.at.returns-then-cut-2 c).Start) 14 c.if-before-ne0.false
     (rw (
-      sym d.cut.ensures ∙ d.if-cut.false,
-      eq-eqb a.args.counted 0 f.if-counted-ne0.false,
+      sym c.cut.ensures ∙ c.if-cut.false,
+      eq-eqb c.args.counted 0 c.if-counted-ne0.false,
       sym c.cut-2.ensures ∙ c.if-cut-2.true,
     ))
 
 pub returns : goal.returns
 returns c =
-    let f = c in
-    let d = c in
-    let e = c in
-    let a = c in
-    decides ((goal.at.returns c).Start) 0 e.if-before-ne0.false
+    decides ((goal.at.returns c).Start) 0 c.if-before-ne0.false
     (rw (
-      sym d.cut.ensures ∙ d.if-cut.false,
-      eq-eqb a.args.counted 0 f.if-counted-ne0.false,
+      sym c.cut.ensures ∙ c.if-cut.false,
+      eq-eqb c.args.counted 0 c.if-counted-ne0.false,
       sym c.cut-2.ensures ∙ c.if-cut-2.false,
     ))

@@ -33,8 +33,6 @@ judge_in_turn-requires c = tt
 
 pub returns : goal.returns
 returns c =
-    let s = c in
-    let space = c in
-    let a = space.args in
+    let a = c.args in
     let read = read_from (λ b i. to_z w32 (word_at b (4 * i))) a.image.now a.at (2 * a.k) _ (length-take-le _ _ (omega arith)) in
-    c.judge_in_turn.ensures ∙ ap (λ places. first_broken (places_in_turn places)) (s.signed_words_in.ensures ∙ read)
+    c.judge_in_turn.ensures ∙ ap (λ places. first_broken (places_in_turn places)) (c.signed_words_in.ensures ∙ read)

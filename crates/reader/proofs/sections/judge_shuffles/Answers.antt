@@ -25,10 +25,9 @@ judge_shuffles-requires c = tt
 
 pub returns : goal.returns
 returns c =
-    let b = c in
-    let a = b.args in
+    let a = c.args in
     let rows = bytes_between a.image.now a.at (a.at + a.k * a.n) (a.k * a.n) refl (omega arith) in
     let shuffles = bytes (a.k * a.n) (drop a.at a.image.now) in
     c.judge_shuffles.ensures
     ∙ ap (shuffle_refusal a.n) rows
-    ∙ shuffles_decide a.n a.k shuffles b.requires.le_n b.requires.n_bound b.requires.k_bound (table_length _ (a.k * a.n))
+    ∙ shuffles_decide a.n a.k shuffles c.requires.le_n c.requires.n_bound c.requires.k_bound (table_length _ (a.k * a.n))

@@ -34,11 +34,9 @@ searched :
     (c : After-any_beyond) → let a = c.args in
     any_beyond 100000 (signed_words a.k (drop a.at a.image.now)) ≡ c.any_beyond.result
 searched c =
-    let s = c in
-    let space = c in
-    let a = space.args in
+    let a = c.args in
     let read = read_from (λ b i. to_z w32 (word_at b (4 * i))) a.image.now a.at a.k _ (length-take-le _ _ (omega arith)) in
-    sym (c.any_beyond.ensures ∙ ap (any_beyond 100000) (s.signed_words_in.ensures ∙ read))
+    sym (c.any_beyond.ensures ∙ ap (any_beyond 100000) (c.signed_words_in.ensures ∙ read))
 
 pub returns-then-any_beyond : goal.returns-then-any_beyond
 returns-then-any_beyond c = rw (searched ((goal.at.returns-then-any_beyond c).After-any_beyond) ∙ c.if-any_beyond.true)

@@ -88,7 +88,6 @@ shape_of-categories c = (second (third (fourth (fifth ((goal.at.shape_of-categor
 
 pub returns : goal.returns
 returns c =
-    let c6 = c in
     let c5 = fifth ((goal.at.returns c).After-store_bytes-2) in
     let c4 = fourth c5 in
     let c3 = third c4 in
@@ -97,4 +96,4 @@ returns c =
     let a = from_first c1 in
     stored a.args.image.now a.args.layout (lent a) a.requires.laid _ _ _ _ _ _ c1.store_signed.ensures
     c2.store_bytes.ensures c3.store_weights.ensures c4.store_signed-2.ensures c5.store_words.ensures
-    c6.store_bytes-2.ensures
+    c.store_bytes-2.ensures

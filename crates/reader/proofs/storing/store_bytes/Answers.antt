@@ -20,6 +20,5 @@ bytes_in-requires c = tt
 
 pub returns : goal.returns
 returns c =
-    let a = c in
-    bytes_over a.args.image.now a.args.at a.args.k _ a.args.buffer.now a.requires.k_in_bounds a.requires.k_in_bounds_2
+    bytes_over c.args.image.now c.args.at c.args.k _ c.args.buffer.now c.requires.k_in_bounds c.requires.k_in_bounds_2
     c.bytes_in.ensures

@@ -17,6 +17,5 @@ signed_words_in-requires c = tt
 
 pub returns : goal.returns
 returns c =
-    let a = c in
-    read_over (λ l i. to_z w32 (word_at l (4 * i))) a.args.image.now a.args.at a.args.k _ a.args.buffer.now a.requires.k_in_bounds
+    read_over (λ l i. to_z w32 (word_at l (4 * i))) c.args.image.now c.args.at c.args.k _ c.args.buffer.now c.requires.k_in_bounds
     c.signed_words_in.ensures

@@ -15,7 +15,7 @@ pub slice_bounds-table_of-end-2 : goal.slice_bounds-table_of-end-2
 slice_bounds-table_of-end-2 c = sym (length-take-le _ _ c.requires.n_in_bounds)
 
 pub table_of-requires : goal.table_of-requires
-table_of-requires c = let a = c in record { joinable = a.requires.joinable; weights_len = length-take-le _ _ a.requires.n_in_bounds }
+table_of-requires c = record { joinable = c.requires.joinable; weights_len = length-take-le _ _ c.requires.n_in_bounds }
 
 pub returns : goal.returns
 returns c =

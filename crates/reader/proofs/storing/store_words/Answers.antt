@@ -15,6 +15,5 @@ words_in-requires c = tt
 
 pub returns : goal.returns
 returns c =
-    let a = c in
-    read_over (λ l i. word_at l (4 * i)) a.args.image.now a.args.at a.args.k _ a.args.buffer.now a.requires.k_in_bounds
+    read_over (λ l i. word_at l (4 * i)) c.args.image.now c.args.at c.args.k _ c.args.buffer.now c.requires.k_in_bounds
     c.words_in.ensures

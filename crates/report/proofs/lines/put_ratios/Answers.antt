@@ -60,22 +60,16 @@ put_figure_line-place-requires c = let s = start (told ((goal.at.put_figure_line
 
 pub put_figure_line-end-requires : goal.put_figure_line-end-requires
 put_figure_line-end-requires c =
-    let a = c in
     let s = start (told ((goal.at.put_figure_line-end-requires c).After-struct_told-5-1)) in
-    let first = a.put_figure_line-place.ensures in record { short = record { letters = omega arith; items = omega arith }; readable = s.requires.readable_pair.of_geary; room = omega (arith, s.requires.room, first.few, put_length first) }
+    let first = c.put_figure_line-place.ensures in record { short = record { letters = omega arith; items = omega arith }; readable = s.requires.readable_pair.of_geary; room = omega (arith, s.requires.room, first.few, put_length first) }
 
 pub put_line-requires : goal.put_line-requires
 put_line-requires c =
-    let b = c in
-    let a = c in
     let s = start (told ((goal.at.put_line-requires c).After-struct_told-5-1)) in
-    let both = put_then a.put_figure_line-place.ensures b.put_figure_line-end.ensures in record { short = record { letters = omega arith; items = omega arith }; room = omega (arith, s.requires.room, both.few, put_length both) }
+    let both = put_then c.put_figure_line-place.ensures c.put_figure_line-end.ensures in record { short = record { letters = omega arith; items = omega arith }; room = omega (arith, s.requires.room, both.few, put_length both) }
 
 pub returns : goal.returns
 returns c =
-    let d = c in
-    let b = c in
-    let a = c in
     let t = told ((goal.at.returns c).After-struct_told-5-1) in
-    put_as (put_then a.put_figure_line-place.ensures (put_then b.put_figure_line-end.ensures d.put_line.ensures))
+    put_as (put_then c.put_figure_line-place.ensures (put_then c.put_figure_line-end.ensures c.put_line.ensures))
     (ratio_text (sums t) (reads t) (start t).requires.within (start t).args.pair)

@@ -33,10 +33,8 @@ slice_bounds-put_pair_line-end-in-loop-k c = refl
 
 pub put_pair_line-place-requires : goal.put_pair_line-place-requires
 put_pair_line-place-requires c =
-    let t = c in
-    let l = c in
-    let s = c in
-    let k = l.loop-k.k in record { short = record { letters = omega arith; items = omega arith }; readable_pair = rw (there s.args.pairs k _ no_pair (known ((goal.at.put_pair_line-place-requires c).In-loop-k))) (s.requires.readable_pairs k (known ((goal.at.put_pair_line-place-requires c).In-loop-k))); room = omega (arith, put_length l.loop-k.invariant.1) }
+    let in_loop_k = (goal.at.put_pair_line-place-requires c).In-loop-k in
+    let k = c.loop-k.k in record { short = record { letters = omega arith; items = omega arith }; readable_pair = rw (there c.args.pairs k _ no_pair (known in_loop_k)) (c.requires.readable_pairs k (known in_loop_k)); room = omega (arith, put_length c.loop-k.invariant.1) }
 
 pub overflow_add-k : goal.overflow_add-k
 overflow_add-k c = omega arith
@@ -46,19 +44,15 @@ loop-k-smaller c = omega arith
 
 pub loop-k-preserved : goal.loop-k-preserved
 loop-k-preserved c =
-    let b = c in
-    let t = c in
-    let l = c in
-    let s = c in
-    let rows = s.args.rows.now in
-    let k = l.loop-k.k in
+    let rows = c.args.rows.now in
+    let k = c.loop-k.k in
     let class = (nat w64 k 8 (omega arith) tt).same in
-    let weight = to_z-of_z w64 (get_or rows (k * 3) (pos 0)) (sfits_of t.list-1.given) in
-    let cross = to_z-of_z w64 (get_or rows (k * 3 + 1) (pos 0)) (sfits_of t.list-in-loop-k-1.given) in
-    let squares = to_z-of_z w64 (get_or rows (k * 3 + 2) (pos 0)) (sfits_of t.list-in-loop-k-2-1.given) in
-    let pair = there s.args.pairs k _ _ (known ((goal.at.loop-k-preserved c).In-loop-k)) in
-    let put = put_as b.put_pair_line-place.ensures (row_text rows s.args.pairs k class weight cross squares pair) in
-    (omega arith, put_numbered_next (row_line _ _) {size = 128} (suc s.args.last) k (omega arith) l.loop-k.invariant.1 put)
+    let weight = to_z-of_z w64 (get_or rows (k * 3) (pos 0)) (sfits_of c.list-1.given) in
+    let cross = to_z-of_z w64 (get_or rows (k * 3 + 1) (pos 0)) (sfits_of c.list-in-loop-k-1.given) in
+    let squares = to_z-of_z w64 (get_or rows (k * 3 + 2) (pos 0)) (sfits_of c.list-in-loop-k-2-1.given) in
+    let pair = there c.args.pairs k _ _ (known ((goal.at.loop-k-preserved c).In-loop-k)) in
+    let put = put_as c.put_pair_line-place.ensures (row_text rows c.args.pairs k class weight cross squares pair) in
+    (omega arith, put_numbered_next (row_line _ _) {size = 128} (suc c.args.last) k (omega arith) c.loop-k.invariant.1 put)
 
 pub shape_of-page : goal.shape_of-page
 shape_of-page c = put_length c.loop-k.invariant.1
@@ -66,5 +60,4 @@ shape_of-page c = put_length c.loop-k.invariant.1
 pub returns : goal.returns
 returns c =
     let l = c.loop-k in
-    let s = c in
-    put_numbered_all (row_line _ _) 128 (suc s.args.last) l.k (omega arith) l.invariant.1
+    put_numbered_all (row_line _ _) 128 (suc c.args.last) l.k (omega arith) l.invariant.1

@@ -5,11 +5,7 @@ use Rattle.report.proofs.lines.put_sums.Goals as goal
 
 pub returns : goal.returns
 returns c =
-    let b = c in
-    let a = c in
-    let t = c in
-    let told = t.struct_told-5-1.given in
-    let s = c in
-    let sums = s.args.sums in
+    let told = c.struct_told-5-1.given in
+    let sums = c.args.sums in
     let reads = read sums told.0.1 told.1.0.1 told.1.1.0.1 told.1.1.1.0.1 told.1.1.1.1.0.1 in
-    put_as (put_then a.put_line-place.ensures b.put_line.ensures) (sum_text sums reads s.requires.kept_bound)
+    put_as (put_then c.put_line-place.ensures c.put_line.ensures) (sum_text sums reads c.requires.kept_bound)

@@ -10,7 +10,7 @@ pub loop-r-init : goal.loop-r-init
 loop-r-init c = (omega arith, put_each_none (λ row. each (table_line _ row) (numbered 8)))
 
 pub put_table_row-place-requires : goal.put_table_row-place-requires
-put_table_row-place-requires c = let l = c in record { table_len = l.requires.table_len; r_bound = omega arith; room = omega (arith, put_length l.loop-r.invariant.1) }
+put_table_row-place-requires c = record { table_len = c.requires.table_len; r_bound = omega arith; room = omega (arith, put_length c.loop-r.invariant.1) }
 
 pub overflow_add-r : goal.overflow_add-r
 overflow_add-r c = omega arith
@@ -20,12 +20,10 @@ loop-r-smaller c = omega arith
 
 pub loop-r-preserved : goal.loop-r-preserved
 loop-r-preserved c =
-    let b = c in
-    let l = c in
-    let table = l.args.table.now in (
+    let table = c.args.table.now in (
       omega arith,
-      put_numbered_next (λ row. each (table_line table row) (numbered 8)) {size = 768} 8 l.loop-r.r (omega arith) l.loop-r.invariant.1
-          b.put_table_row-place.ensures,
+      put_numbered_next (λ row. each (table_line table row) (numbered 8)) {size = 768} 8 c.loop-r.r (omega arith) c.loop-r.invariant.1
+          c.put_table_row-place.ensures,
     )
 
 pub shape_of-page : goal.shape_of-page

@@ -37,7 +37,7 @@ pub slice_bounds-put_line-end-then-joins-gt0 : goal.slice_bounds-put_line-end-th
 slice_bounds-put_line-end-then-joins-gt0 c = refl
 
 pub put_line-place-requires : goal.put_line-place-requires
-put_line-place-requires c = let l = c in record { short = record { letters = omega arith; items = omega arith }; room = omega (arith, put_length l.loop-s.invariant.1) }
+put_line-place-requires c = record { short = record { letters = omega arith; items = omega arith }; room = omega (arith, put_length c.loop-s.invariant.1) }
 
 pub overflow_add-s : goal.overflow_add-s
 overflow_add-s c = omega arith
@@ -52,9 +52,8 @@ turn :
     let a = l.args in
     Put l.loop-s.page c.if-joins-gt0.page l.loop-s.place c.if-joins-gt0.place 96 (table_line a.table.now a.r l.loop-s.s)
 turn c =
-    let l = c in
-    let a = l.args in
-    let s = l.loop-s.s in
+    let a = c.args in
+    let s = c.loop-s.s in
     let table = a.table.now in
     let row = (nat w64 a.r 8 (omega arith) tt).same in
     let column = (nat w64 s 8 (omega arith) tt).same in

@@ -47,13 +47,13 @@ pub slice_bounds-put_bits_line-end-in-loop-i : goal.slice_bounds-put_bits_line-e
 slice_bounds-put_bits_line-end-in-loop-i c = refl
 
 pub offset_bounds-figures-zone : goal.offset_bounds-figures-zone
-offset_bounds-figures-zone c = let l = c in omega (arith, l.shared_slice_known-in-loop-i-1.given l.loop-i.i)
+offset_bounds-figures-zone c = omega (arith, c.shared_slice_known-in-loop-i-1.given c.loop-i.i)
 
 pub bounds-figures-zone : goal.bounds-figures-zone
 bounds-figures-zone c = known ((goal.at.bounds-figures-zone c).In-loop-i)
 
 pub put_bits_line-place-requires : goal.put_bits_line-place-requires
-put_bits_line-place-requires c = let t = c in record { short = record { letters = omega arith; items = omega arith }; room = omega (arith, put_length t.loop-i.invariant.1) }
+put_bits_line-place-requires c = record { short = record { letters = omega arith; items = omega arith }; room = omega (arith, put_length c.loop-i.invariant.1) }
 
 pub overflow_add-i : goal.overflow_add-i
 overflow_add-i c = omega arith
@@ -63,16 +63,14 @@ loop-i-smaller c = omega arith
 
 pub loop-i-preserved : goal.loop-i-preserved
 loop-i-preserved c =
-    let b = c in
-    let k = c in
-    let t = c in
-    let l = t.loop-i in
-    let a = (start ((goal.at.loop-i-preserved c).In-loop-i)).args in
-    let number = (nat w64 (zone ((goal.at.loop-i-preserved c).In-loop-i)) 255 (omega (arith, k.shared_slice_known-in-loop-i-1.given l.i)) tt).same in
-    let fits = b.list-1.given in
-    let numerator = to_z-of_z w64 (get_or a.locals.now (zone ((goal.at.loop-i-preserved c).In-loop-i)) (pos 0)) (sfits_of fits) in
-    let put = put_as b.put_bits_line-place.ensures (zone_text a.locals.now a.figures.now _ (zone ((goal.at.loop-i-preserved c).In-loop-i)) number numerator refl) in
-    let here = t.loop-i-test.true in
+    let in_loop_i = (goal.at.loop-i-preserved c).In-loop-i in
+    let l = c.loop-i in
+    let a = (start in_loop_i).args in
+    let number = (nat w64 (zone in_loop_i) 255 (omega (arith, c.shared_slice_known-in-loop-i-1.given l.i)) tt).same in
+    let fits = c.list-1.given in
+    let numerator = to_z-of_z w64 (get_or a.locals.now (zone in_loop_i) (pos 0)) (sfits_of fits) in
+    let put = put_as c.put_bits_line-place.ensures (zone_text a.locals.now a.figures.now _ (zone in_loop_i) number numerator refl) in
+    let here = c.loop-i-test.true in
     (omega arith, put_each_next (zone_line _ _ _) {size = 128} a.zones.now l.i 0 here l.invariant.1 put)
 
 pub shape_of-page : goal.shape_of-page
@@ -81,6 +79,5 @@ shape_of-page c = put_length c.loop-i.invariant.1
 pub returns : goal.returns
 returns c =
     let l = c.loop-i in
-    let s = c in
-    rw (← to_z-of_z w64 s.args.spread s.ranges.spread)
-    (put_each_all (zone_line _ _ _) 128 s.args.zones.now l.i (omega arith) l.invariant.1)
+    rw (← to_z-of_z w64 c.args.spread c.ranges.spread)
+    (put_each_all (zone_line _ _ _) 128 c.args.zones.now l.i (omega arith) l.invariant.1)

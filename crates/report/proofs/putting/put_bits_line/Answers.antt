@@ -18,24 +18,17 @@ bits_put :
     Put s.put_start-place.new.page c.put_bits-end.new.page s.put_start-place.result c.put_bits-end.result 17
     (bits s.args.bits)
 bits_put c =
-    let s = c in
-    let a = c in
-    let start = s.put_start-place.ensures in
-    put_of 17 c.put_bits-end.ensures (omega (arith, bits_width a.args.bits)) (omega (arith, put_length start, start.few, a.requires.room))
+    let start = c.put_start-place.ensures in
+    put_of 17 c.put_bits-end.ensures (omega (arith, bits_width c.args.bits)) (omega (arith, put_length start, start.few, c.requires.room))
 
 pub put_end-requires : goal.put_end-requires
 put_end-requires c =
-    let f = c in
     let put = bits_put ((goal.at.put_end-requires c).After-put_bits-end) in
-    let s = c in
-    let start = s.put_start-place.ensures in
-    omega (arith, put_length put, put.few, put_length start, start.few, s.requires.room)
+    let start = c.put_start-place.ensures in
+    omega (arith, put_length put, put.few, put_length start, start.few, c.requires.room)
 
 pub returns : goal.returns
 returns c =
-    let b = c in
-    let f = c in
-    let s = c in
-    let a = s.args in
-    let put = put_then (put_then s.put_start-place.ensures (bits_put ((goal.at.returns c).After-put_bits-end))) b.put_end.ensures in
+    let a = c.args in
+    let put = put_then (put_then c.put_start-place.ensures (bits_put ((goal.at.returns c).After-put_bits-end))) c.put_end.ensures in
     put_as (put_most put (omega arith)) (line_parts a.word.now (numbers a.list.now) (bits a.bits) (10 ∷ []))

@@ -10,8 +10,7 @@ use Rattle.report.proofs.putting.put_coefficient.Goals as goal
 
 pub float_to_bits-x : goal.float_to_bits-x
 float_to_bits-x c =
-    let b = c in
-    subst Readable b.in-Figure.is b.requires.readable
+    subst Readable c.in-Figure.is c.requires.readable
 
 pub put_bits-requires : goal.put_bits-requires
 put_bits-requires c = tt
@@ -22,15 +21,11 @@ put-requires c = tt
 pub returns-in-Figure : goal.returns-in-Figure
 unfolding coefficient
 returns-in-Figure c =
-    let b = c in
-    let f = c in
-    let room = f.requires.room in
-    put_as (put_of 17 b.put_bits.ensures (N.le_of_eq (bits_width _)) room) (ap coefficient (sym f.in-Figure.is))
+    let room = c.requires.room in
+    put_as (put_of 17 c.put_bits.ensures (N.le_of_eq (bits_width _)) room) (ap coefficient (sym c.in-Figure.is))
 
 pub returns-in-Weightless : goal.returns-in-Weightless
 unfolding coefficient
 returns-in-Weightless c =
-    let b = c in
-    let f = c in
-    let room = f.requires.room in
-    put_as (put_of 17 b.put.ensures (omega arith) room) (ap coefficient (sym f.in-Weightless.is))
+    let room = c.requires.room in
+    put_as (put_of 17 c.put.ensures (omega arith) room) (ap coefficient (sym c.in-Weightless.is))

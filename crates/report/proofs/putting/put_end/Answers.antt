@@ -8,5 +8,4 @@ put_byte-requires c = tt
 
 pub returns : goal.returns
 returns c =
-    let b = c in
-    put_of 1 b.put_byte.ensures (omega arith) b.requires
+    put_of 1 c.put_byte.ensures (omega arith) c.requires

@@ -8,9 +8,6 @@ use Rattle.report.proofs.putting.put_figure_line.Goals as goal
 
 pub returns : goal.returns
 returns c =
-    let b = c in
-    let f = c in
-    let s = c in
-    let a = s.args in
-    let put = put_then (put_then s.put_start-place.ensures f.put_coefficient-end.ensures) b.put_end.ensures in
+    let a = c.args in
+    let put = put_then (put_then c.put_start-place.ensures c.put_coefficient-end.ensures) c.put_end.ensures in
     put_as (put_most put (omega arith)) (line_parts a.word.now (numbers a.list.now) (coefficient a.figure) (10 ∷ []))

@@ -8,12 +8,8 @@ use Rattle.report.proofs.putting.put_pair_line.Goals as goal
 
 pub returns : goal.returns
 returns c =
-    let b = c in
-    let g = c in
-    let m = c in
-    let s = c in
-    let a = s.args in
-    let pair = put_then m.put_coefficient-middle.ensures g.put_coefficient-end.ensures in
-    let put = put_then (put_then s.put_start-place.ensures pair) b.put_end.ensures in
+    let a = c.args in
+    let pair = put_then c.put_coefficient-middle.ensures c.put_coefficient-end.ensures in
+    let put = put_then (put_then c.put_start-place.ensures pair) c.put_end.ensures in
     put_as (put_most put (omega arith))
     (line_parts a.word.now (numbers a.list.now) (coefficient a.pair.moran ++ coefficient a.pair.geary) (10 ∷ []))

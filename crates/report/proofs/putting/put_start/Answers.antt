@@ -7,7 +7,5 @@ put_start-requires c = tt
 
 pub returns : goal.returns
 returns c =
-    let b = c in
-    let said = b.put_start.ensures in
-    let s = c in
-    put_of 92 said.text (start_width s.args.word.now s.args.list.now s.requires.short said.width) s.requires.room
+    let said = c.put_start.ensures in
+    put_of 92 said.text (start_width c.args.word.now c.args.list.now c.requires.short said.width) c.requires.room

@@ -7,37 +7,31 @@ use Rattle.report.proofs.reading.put_read.Goals as goal
 
 pub slice_bounds-put_job-end : goal.slice_bounds-put_job-end
 slice_bounds-put_job-end c =
-    let s = c in
-    sym (length-take-le s.args.counts.values s.args.values.now s.requires.held.values_in)
+    sym (length-take-le c.args.counts.values c.args.values.now c.requires.held.values_in)
 
 pub slice_bounds-put_job-end-2 : goal.slice_bounds-put_job-end-2
 slice_bounds-put_job-end-2 c =
-    let s = c in
-    sym (length-take-le s.args.counts.categories s.args.categories.now s.requires.held.categories_in)
+    sym (length-take-le c.args.counts.categories c.args.categories.now c.requires.held.categories_in)
 
 pub slice_bounds-put_job-end-3 : goal.slice_bounds-put_job-end-3
 slice_bounds-put_job-end-3 c =
-    let s = c in
-    sym (length-take-le (s.args.counts.values * s.args.counts.values) s.args.weights.now s.requires.held.weights_in)
+    sym (length-take-le (c.args.counts.values * c.args.counts.values) c.args.weights.now c.requires.held.weights_in)
 
 pub slice_bounds-put_job-end-4 : goal.slice_bounds-put_job-end-4
 slice_bounds-put_job-end-4 c =
-    let s = c in
-    sym (length-take-le (2 * s.args.counts.places) s.args.places.now s.requires.held.places_in)
+    sym (length-take-le (2 * c.args.counts.places) c.args.places.now c.requires.held.places_in)
 
 pub slice_bounds-put_job-end-5 : goal.slice_bounds-put_job-end-5
 slice_bounds-put_job-end-5 c =
-    let s = c in
-    sym (length-take-le s.args.counts.bands s.args.bands.now s.requires.held.bands_in)
+    sym (length-take-le c.args.counts.bands c.args.bands.now c.requires.held.bands_in)
 
 pub slice_bounds-put_job-end-6 : goal.slice_bounds-put_job-end-6
 slice_bounds-put_job-end-6 c =
-    let s = c in
-    sym (length-take-le (s.args.counts.shuffles * s.args.counts.values) s.args.shuffles.now s.requires.held.shuffles_in)
+    sym (length-take-le (c.args.counts.shuffles * c.args.counts.values) c.args.shuffles.now c.requires.held.shuffles_in)
 
 pub put_job-requires : goal.put_job-requires
 unfolding lent_job
-put_job-requires c = let s = c in record { sound_lists = s.requires.held.sound; room = s.requires.room }
+put_job-requires c = record { sound_lists = c.requires.held.sound; room = c.requires.room }
 
 pub returns : goal.returns
 unfolding lent_job

@@ -11,14 +11,8 @@ bands-requires c = tt
 
 pub returns-then-bands-gt0 : goal.returns-then-bands-gt0
 returns-then-bands-gt0 c =
-    let b = c in
-    let t = c in
-    let u = c in
-    let s = c in
-    banded _ _ _ s.args.classes.now _ s.requires u.unclass.ensures (λ e. omega (arith, t.if-bands-gt0.true)) _ b.bands.ensures.lent
+    banded _ _ _ c.args.classes.now _ c.requires c.unclass.ensures (λ e. omega (arith, c.if-bands-gt0.true)) _ c.bands.ensures.lent
 
 pub returns-else-bands-gt0 : goal.returns-else-bands-gt0
 returns-else-bands-gt0 c =
-    let u = c in
-    let s = c in
-    unbanded _ _ _ s.args.classes.now _ s.requires u.unclass.ensures (omega (arith, c.if-bands-gt0.false))
+    unbanded _ _ _ c.args.classes.now _ c.requires c.unclass.ensures (omega (arith, c.if-bands-gt0.false))

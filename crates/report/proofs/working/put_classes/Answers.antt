@@ -13,7 +13,5 @@ put_rows-requires c = let p = c.requires in record { rows_len = p.rows_len; read
 
 pub returns : goal.returns
 returns c =
-    let b = c in
-    let e = c in
-    let few = e.requires.bands_bound in
-    put_as (put_most b.put_rows.ensures (omega (arith, few))) (sym (some_counted _ _ e.if-bands-eq0.false))
+    let few = c.requires.bands_bound in
+    put_as (put_most c.put_rows.ensures (omega (arith, few))) (sym (some_counted _ _ c.if-bands-eq0.false))

@@ -62,7 +62,7 @@ pub slice_bounds-space-end : goal.slice_bounds-space-end
 slice_bounds-space-end c = c.requires.zoned.most
 
 pub slice_bounds-order-end : goal.slice_bounds-order-end
-slice_bounds-order-end c = let s = c in sym (length-take-le _ _ s.requires.zoned.most)
+slice_bounds-order-end c = sym (length-take-le _ _ c.requires.zoned.most)
 
 pub order-requires : goal.order-requires
 order-requires c = tt
@@ -94,25 +94,24 @@ module _ (c : After-order) where
 
 pub slice_bounds-space-end-2 : goal.slice_bounds-space-end-2
 slice_bounds-space-end-2 c =
-    let b = c in
-    in_front (n ((goal.at.slice_bounds-space-end-2 c).After-order)) (weights ((goal.at.slice_bounds-space-end-2 c).After-order)) (locals ((goal.at.slice_bounds-space-end-2 c).After-order)) _ (s ((goal.at.slice_bounds-space-end-2 c).After-order)).requires.zoned.few (zones ((goal.at.slice_bounds-space-end-2 c).After-order)) _ (zones_left ((goal.at.slice_bounds-space-end-2 c).After-order))
+    let after_order = (goal.at.slice_bounds-space-end-2 c).After-order in
+    in_front (n after_order) (weights after_order) (locals after_order) _ (s after_order).requires.zoned.few (zones after_order) _ (zones_left after_order)
 
 pub slice_bounds-put_zones-end : goal.slice_bounds-put_zones-end
 slice_bounds-put_zones-end c =
-    let b = c in
-    sym (front_length (n ((goal.at.slice_bounds-put_zones-end c).After-order)) (weights ((goal.at.slice_bounds-put_zones-end c).After-order)) (locals ((goal.at.slice_bounds-put_zones-end c).After-order)) _ (s ((goal.at.slice_bounds-put_zones-end c).After-order)).requires.zoned.few (zones ((goal.at.slice_bounds-put_zones-end c).After-order)) _ (zones_left ((goal.at.slice_bounds-put_zones-end c).After-order)))
+    let after_order = (goal.at.slice_bounds-put_zones-end c).After-order in
+    sym (front_length (n after_order) (weights after_order) (locals after_order) _ (s after_order).requires.zoned.few (zones after_order) _ (zones_left after_order))
 
 pub put_zones-requires : goal.put_zones-requires
 put_zones-requires c =
-    let b = c in
-    let z = (s ((goal.at.put_zones-requires c).After-order)).requires.zoned in record { listed = listed (n ((goal.at.put_zones-requires c).After-order)) (weights ((goal.at.put_zones-requires c).After-order)) (locals ((goal.at.put_zones-requires c).After-order)) _ z.few (zones ((goal.at.put_zones-requires c).After-order)) _ (zones_left ((goal.at.put_zones-requires c).After-order)) z.locals_fit z.figures_fit; room = room (n ((goal.at.put_zones-requires c).After-order)) (weights ((goal.at.put_zones-requires c).After-order)) (locals ((goal.at.put_zones-requires c).After-order)) _ z.few (zones ((goal.at.put_zones-requires c).After-order)) _ (zones_left ((goal.at.put_zones-requires c).After-order)) _ _ z.most (omega (arith, (s ((goal.at.put_zones-requires c).After-order)).requires.room)) }
+    let after_order = (goal.at.put_zones-requires c).After-order in
+    let z = (s after_order).requires.zoned in record { listed = listed (n after_order) (weights after_order) (locals after_order) _ z.few (zones after_order) _ (zones_left after_order) z.locals_fit z.figures_fit; room = room (n after_order) (weights after_order) (locals after_order) _ z.few (zones after_order) _ (zones_left after_order) _ _ z.most (omega (arith, (s after_order).requires.room)) }
 
 pub returns : goal.returns
 returns c =
-    let p = c in
-    let b = c in
-    let z = (s ((goal.at.returns c).After-order)).requires.zoned in
-    let a = (s ((goal.at.returns c).After-order)).args in
+    let after_order = (goal.at.returns c).After-order in
+    let z = (s after_order).requires.zoned in
+    let a = (s after_order).args in
     put_as
-    (put_most p.put_zones.ensures (narrow (n ((goal.at.returns c).After-order)) (weights ((goal.at.returns c).After-order)) (locals ((goal.at.returns c).After-order)) _ z.few (zones ((goal.at.returns c).After-order)) _ (zones_left ((goal.at.returns c).After-order)) z.most))
-    (lines (n ((goal.at.returns c).After-order)) (weights ((goal.at.returns c).After-order)) (locals ((goal.at.returns c).After-order)) _ z.few (zones ((goal.at.returns c).After-order)) _ (zones_left ((goal.at.returns c).After-order)) _ _ _ (to_z-of_z w64 a.spread (s ((goal.at.returns c).After-order)).ranges.spread))
+    (put_most c.put_zones.ensures (narrow (n after_order) (weights after_order) (locals after_order) _ z.few (zones after_order) _ (zones_left after_order) z.most))
+    (lines (n after_order) (weights after_order) (locals after_order) _ z.few (zones after_order) _ (zones_left after_order) _ _ _ (to_z-of_z w64 a.spread (s after_order).ranges.spread))

@@ -10,11 +10,7 @@ returns-then-categories-eq0 c = put_as put_none (sym (not_given c.args.categorie
 
 pub returns : goal.returns
 returns c =
-    let b = c in
-    let j = c in
-    let e = c in
-    let s = c in
-    let some = e.if-categories-eq0.false in
-    put_as b.put_table.ensures
-    (joined_lines _ _ _ _ (table_left _ _ _ _ _ j.join_table.ensures.lent (s.requires.joinable some))
-    ∙ sym (given s.args.categories.now _ some))
+    let some = c.if-categories-eq0.false in
+    put_as c.put_table.ensures
+    (joined_lines _ _ _ _ (table_left _ _ _ _ _ c.join_table.ensures.lent (c.requires.joinable some))
+    ∙ sym (given c.args.categories.now _ some))

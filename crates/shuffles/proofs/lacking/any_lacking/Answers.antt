@@ -18,14 +18,12 @@ loop-r-init c = (omega arith, some_zero _)
 
 pub lacks_zone-requires : goal.lacks_zone-requires
 lacks_zone-requires c =
-    let a = c in
-    row_there _ _ _ _ a.requires.n_bound a.requires.rows_bound a.requires.shuffles_len c.loop-r-test.true
+    row_there _ _ _ _ c.requires.n_bound c.requires.rows_bound c.requires.shuffles_len c.loop-r-test.true
 
 pub returns-then-lacks_zone : goal.returns-then-lacks_zone
 returns-then-lacks_zone c =
-    let b = c in
-    let a = b.args in
-    some_found (test a.shuffles.now a.n) a.rows b.loop-r.r c.loop-r-test.true
+    let a = c.args in
+    some_found (test a.shuffles.now a.n) a.rows c.loop-r.r c.loop-r-test.true
     (sym c.lacks_zone.ensures ∙ c.if-lacks_zone.true)
 
 pub overflow_add-r : goal.overflow_add-r
@@ -36,13 +34,11 @@ loop-r-smaller c = omega arith
 
 pub loop-r-preserved : goal.loop-r-preserved
 loop-r-preserved c =
-    let b = c in
-    let a = b.args in
+    let a = c.args in
     let e = sym c.lacks_zone.ensures ∙ c.if-lacks_zone.false in
-    (omega arith, some_more (test a.shuffles.now a.n) b.loop-r.r b.loop-r.invariant.1 e)
+    (omega arith, some_more (test a.shuffles.now a.n) c.loop-r.r c.loop-r.invariant.1 e)
 
 pub returns : goal.returns
 returns c =
-    let b = c in
-    let a = b.args in
-    some_done (test a.shuffles.now a.n) b.loop-r.r _ (omega arith) b.loop-r.invariant.1
+    let a = c.args in
+    some_done (test a.shuffles.now a.n) c.loop-r.r _ (omega arith) c.loop-r.invariant.1

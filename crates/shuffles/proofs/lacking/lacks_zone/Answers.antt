@@ -48,7 +48,11 @@ unfolding table
 mark-requires c = record { row = c.requires; named_value = refl }
 
 pub slice_bounds-any_unmarked-end : goal.slice_bounds-any_unmarked-end
-slice_bounds-any_unmarked-end c = let b = c in sym (ap length (marks ((goal.at.slice_bounds-any_unmarked-end c).After-mark) _ b.mark.ensures) ∙ table_length (mark ((goal.at.slice_bounds-any_unmarked-end c).After-mark)) (n ((goal.at.slice_bounds-any_unmarked-end c).After-mark)))
+slice_bounds-any_unmarked-end c =
+    let after_mark = (goal.at.slice_bounds-any_unmarked-end c).After-mark in
+    sym (ap length (marks after_mark _ c.mark.ensures) ∙ table_length (mark after_mark) (n after_mark))
 
 pub returns : goal.returns
-returns c = let b = c in c.any_unmarked.ensures ∙ lacking ((goal.at.returns c).After-mark) _ (marks ((goal.at.returns c).After-mark) _ b.mark.ensures)
+returns c =
+    let after_mark = (goal.at.returns c).After-mark in
+    c.any_unmarked.ensures ∙ lacking after_mark _ (marks after_mark _ c.mark.ensures)

@@ -33,15 +33,13 @@ bounds-shuffles-row c = omega (arith, c.requires.row.there)
 
 pub overflow_cast-zone : goal.overflow_cast-zone
 overflow_cast-zone c =
-    let b = c in
-    let a = b.args in
-    omega (arith, c.shared_slice_known-1.given (a.r * a.n + b.loop-i.i))
+    let a = c.args in
+    omega (arith, c.shared_slice_known-1.given (a.r * a.n + c.loop-i.i))
 
 pub bounds-named-zone : goal.bounds-named-zone
 bounds-named-zone c =
-    let b = c in
-    let a = b.args in
-    omega (arith, c.shared_slice_known-1.given (a.r * a.n + b.loop-i.i))
+    let a = c.args in
+    omega (arith, c.shared_slice_known-1.given (a.r * a.n + c.loop-i.i))
 
 pub overflow_add-i : goal.overflow_add-i
 overflow_add-i c = omega arith
@@ -52,22 +50,19 @@ loop-i-smaller c = omega arith
 pub loop-i-preserved : goal.loop-i-preserved
 unfolding pair_at
 loop-i-preserved c =
-    let b = c in
-    let a = b.args in
-    let inv = b.loop-i.invariant.1 in
+    let a = c.args in
+    let inv = c.loop-i.invariant.1 in
     let row = pair_at a.shuffles.now a.n a.r in
-    let byte = c.shared_slice_known-1.given (a.r * a.n + b.loop-i.i) in
-    (omega arith, (simp length-set inv.0, marked row b.loop-i.i b.loop-i.named inv.1 (omega arith)))
+    let byte = c.shared_slice_known-1.given (a.r * a.n + c.loop-i.i) in
+    (omega arith, (simp length-set inv.0, marked row c.loop-i.i c.loop-i.named inv.1 (omega arith)))
 
 pub shape_of-named : goal.shape_of-named
 shape_of-named c =
-    let b = c in
-    b.loop-i.invariant.1.0 ∙ sym (ap length b.requires.named_value ∙ table_length (λ k. 0) 256)
+    c.loop-i.invariant.1.0 ∙ sym (ap length c.requires.named_value ∙ table_length (λ k. 0) 256)
 
 pub returns : goal.returns
 returns c =
-    let b = c in
-    let a = b.args in
+    let a = c.args in
     let named : ℕ → ℕ → Bool = λ k m. some (λ i. eqb (pair_at a.shuffles.now a.n a.r i) k) m in
-    is_table (λ k. mark_of (named k a.n)) 256 0 b.loop-i.named b.loop-i.invariant.1.0
-    (λ k p. b.loop-i.invariant.1.1 k p ∙ ap (λ m. mark_of (named k m)) (omega arith))
+    is_table (λ k. mark_of (named k a.n)) 256 0 c.loop-i.named c.loop-i.invariant.1.0
+    (λ k p. c.loop-i.invariant.1.1 k p ∙ ap (λ m. mark_of (named k m)) (omega arith))
