@@ -151,4 +151,4 @@ returns-in-Reported c =
     _
     c.put_pair.ensures
     c.put_pairs.ensures
-    c.put_having.ensures in record { number = all.0; globals = all.1.0; figures = all.1.1.0; c = all.1.1.1.0; c = all.1.1.1.1 }
+    c.put_having.ensures in record { number = all.0; globals = all.1.0; figures = all.1.1.0; pairs = all.1.1.1.0; having = all.1.1.1.1 }
