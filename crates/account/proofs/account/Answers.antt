@@ -27,14 +27,16 @@ none :
     account_refusal a.n a.values.now a.weights.now a.locals.now ≡ 0
 none c = sym (found ((goal.at.Else-refusal-ne0 c).After-judge_account-found)) ∙ c.if-refusal-ne0.false
 
-good : (c : Else-refusal-ne0) → let a = (start ((goal.at.Else-refusal-ne0 c).After-judge_account-found)).args in Accepted a.n a.values.now a.weights.now a.locals.now
+good : (c : Else-refusal-ne0) → let a = (start ((goal.at.Else-refusal-ne0 c).After-judge_account-found)).args in Accepted a.n a.values.now
+    a.weights.now a.locals.now
 good c = accepted _ _ _ _ (none c)
 
 -- and the zones kept
 zones :
     (c : Else-refusal-ne0) →
     let b = c in
-    Left (start ((goal.at.Else-refusal-ne0 c).After-judge_account-found)).args.n (start ((goal.at.Else-refusal-ne0 c).After-judge_account-found)).args.weights.now b.judge_account-found.new.zones b.judge_account-found.result.kept
+    Left (start ((goal.at.Else-refusal-ne0 c).After-judge_account-found)).args.n (start ((goal.at.Else-refusal-ne0
+    c).After-judge_account-found)).args.weights.now b.judge_account-found.new.zones b.judge_account-found.result.kept
 unfolding account_refusal account_rules
 zones c = found_left c.judge_account-found.ensures (none c)
 
@@ -45,7 +47,12 @@ pub judge_account-found-requires : goal.judge_account-found-requires
 judge_account-found-requires c = refl
 
 pub returns-then-refusal-ne0 : goal.returns-then-refusal-ne0
-returns-then-refusal-ne0 c = let all = refused _ _ _ _ _ (found ((goal.at.returns-then-refusal-ne0 c).After-judge_account-found)) c.if-refusal-ne0.true in record { number = all.0; figures = all.1.0; lent = all.1.1 }
+returns-then-refusal-ne0 c = let all = refused _ _ _ _ _ (found ((goal.at.returns-then-refusal-ne0 c).After-judge_account-found))
+    c.if-refusal-ne0.true in record {
+      number = all.0;
+      figures = all.1.0;
+      lent = all.1.1;
+    }
 
 pub slice_bounds-zones-end : goal.slice_bounds-zones-end
 slice_bounds-zones-end c = (zones c).room
@@ -60,4 +67,9 @@ job_sums-requires c =
 
 pub returns : goal.returns
 unfolding figures_of
-returns c = let all = accounted _ _ _ _ _ _ (none ((goal.at.returns c).Else-refusal-ne0)) c.job_sums.ensures.result_value c.job_sums.ensures.locals_after in record { number = all.0; figures = all.1.0; lent = all.1.1 }
+returns c = let all = accounted _ _ _ _ _ _ (none ((goal.at.returns c).Else-refusal-ne0)) c.job_sums.ensures.result_value
+    c.job_sums.ensures.locals_after in record {
+      number = all.0;
+      figures = all.1.0;
+      lent = all.1.1;
+    }

@@ -32,7 +32,8 @@ taken c = sym (found ((goal.at.Else-number-ne0 c).After-judge_classes-found)) �
 zones :
     (c : Else-number-ne0) →
     let b = c in
-    Left (start ((goal.at.Else-number-ne0 c).After-judge_classes-found)).args.n (start ((goal.at.Else-number-ne0 c).After-judge_classes-found)).args.weights.now b.judge_classes-found.new.zones b.judge_classes-found.result.kept
+    Left (start ((goal.at.Else-number-ne0 c).After-judge_classes-found)).args.n (start ((goal.at.Else-number-ne0
+    c).After-judge_classes-found)).args.weights.now b.judge_classes-found.new.zones b.judge_classes-found.result.kept
 unfolding class_refusal
 zones c = found_left c.judge_classes-found.ensures (taken c)
 
@@ -47,7 +48,13 @@ unfolding number_of figures_of class_account_figures class_account_rows class_ac
 returns-then-number-ne0 c =
     let after_judge_classes_found = (goal.at.returns-then-number-ne0 c).After-judge_classes-found in
     let e = found after_judge_classes_found in
-    let some : refusal (start after_judge_classes_found) ≡ 0 → ⊥ = λ z. c.if-number-ne0.true (e ∙ z) in record { number = e; figures = sym (kept_when_refused _ _ _ some); rows = sym (kept_when_refused _ _ _ some); numerators = sym (kept_when_refused _ _ _ some); own = sym (kept_when_refused _ _ _ some) }
+    let some : refusal (start after_judge_classes_found) ≡ 0 → ⊥ = λ z. c.if-number-ne0.true (e ∙ z) in record {
+      number = e;
+      figures = sym (kept_when_refused _ _ _ some);
+      rows = sym (kept_when_refused _ _ _ some);
+      numerators = sym (kept_when_refused _ _ _ some);
+      own = sym (kept_when_refused _ _ _ some);
+    }
 
 pub slice_bounds-zones-end : goal.slice_bounds-zones-end
 slice_bounds-zones-end c = (zones c).room
@@ -59,10 +66,22 @@ pub work_classes-requires : goal.work_classes-requires
 unfolding class_refusal
 work_classes-requires c =
     let else_number_ne0 = (goal.at.work_classes-requires c).Else-number-ne0 in
-    let g = class_accepted _ _ _ _ _ _ _ (taken else_number_ne0) in record { class_job = class_job g.whole; zones_value = (zones else_number_ne0).zones; rows_len = g.rows_fit; class_locals_len = g.of_classes_fit; locals_len = g.own_fit }
+    let g = class_accepted _ _ _ _ _ _ _ (taken else_number_ne0) in record {
+      class_job = class_job g.whole;
+      zones_value = (zones else_number_ne0).zones;
+      rows_len = g.rows_fit;
+      class_locals_len = g.of_classes_fit;
+      locals_len = g.own_fit;
+    }
 
 pub returns : goal.returns
 unfolding number_of figures_of class_account_figures class_account_rows class_account_locals class_account_own
 returns c =
     let worked = c.work_classes.ensures in
-    let z = taken ((goal.at.returns c).Else-number-ne0) in record { number = sym z; figures = worked.result_value ∙ sym (worked_when_taken _ _ _ z); rows = worked.rows_after ∙ sym (worked_when_taken _ _ _ z); numerators = worked.class_locals_after ∙ sym (worked_when_taken _ _ _ z); own = worked.locals_after ∙ sym (worked_when_taken _ _ _ z) }
+    let z = taken ((goal.at.returns c).Else-number-ne0) in record {
+      number = sym z;
+      figures = worked.result_value ∙ sym (worked_when_taken _ _ _ z);
+      rows = worked.rows_after ∙ sym (worked_when_taken _ _ _ z);
+      numerators = worked.class_locals_after ∙ sym (worked_when_taken _ _ _ z);
+      own = worked.locals_after ∙ sym (worked_when_taken _ _ _ z);
+    }

@@ -47,7 +47,10 @@ judge_rank-found-requires c = refl
 
 pub returns-then-broken-ne0 : goal.returns-then-broken-ne0
 unfolding number_of counts_of rank_counts
-returns-then-broken-ne0 c = let e = c.judge_rank-found.ensures.number in record { number = e; counts = sym (kept_when_refused _ _ _ (λ z. c.if-broken-ne0.true (e ∙ z))) }
+returns-then-broken-ne0 c = let e = c.judge_rank-found.ensures.number in record {
+  number = e;
+  counts = sym (kept_when_refused _ _ _ (λ z. c.if-broken-ne0.true (e ∙ z)));
+}
 
 pub nonzero_div-rows : goal.nonzero_div-rows
 nonzero_div-rows c = omega (arith, (good c).two)
@@ -61,7 +64,12 @@ slice_bounds-work_rank-end c = sym (length-take-le _ _ (zones ((goal.at.slice_bo
 pub work_rank-requires : goal.work_rank-requires
 work_rank-requires c =
     let else_broken_ne0 = (goal.at.work_rank-requires c).Else-broken-ne0 in
-    record { job = (good else_broken_ne0).good.job; zones_value = (zones else_broken_ne0).zones; shuffles = subst (Shuffles (a else_broken_ne0).args.shuffles.now (a else_broken_ne0).args.n) (counted else_broken_ne0) (good else_broken_ne0).rows }
+    record {
+      job = (good else_broken_ne0).good.job;
+      zones_value = (zones else_broken_ne0).zones;
+      shuffles = subst (Shuffles (a else_broken_ne0).args.shuffles.now (a else_broken_ne0).args.n) (counted else_broken_ne0) (good
+          else_broken_ne0).rows;
+    }
 
 -- the counts of so many rows are those of the job, where they are its shuffles
 as_job :
@@ -78,4 +86,7 @@ unfolding number_of counts_of rank_counts
 returns c =
     let else_broken_ne0 = (goal.at.returns c).Else-broken-ne0 in
     let g = (a else_broken_ne0).args in
-    let ranked = as_job g.n g.values.now g.weights.now g.shuffles.now (sym (counted else_broken_ne0)) c.work_rank.ensures in record { number = sym (none else_broken_ne0); counts = ranked ∙ sym (worked_when_taken _ _ _ (none else_broken_ne0)) }
+    let ranked = as_job g.n g.values.now g.weights.now g.shuffles.now (sym (counted else_broken_ne0)) c.work_rank.ensures in record {
+      number = sym (none else_broken_ne0);
+      counts = ranked ∙ sym (worked_when_taken _ _ _ (none else_broken_ne0));
+    }

@@ -42,7 +42,8 @@ pub returns : goal.returns
 returns c =
     let a = c.args in
     let e : decimal a.number ≡ unsigned c.size-n.result =
-    decimal_not_below a.number (sym (sign_is ((goal.at.returns c).After-is_below_zero)) ∙ c.if-is_below_zero.false) ∙ ap unsigned (sym (size_is ((goal.at.returns c).After-size-n))) in
+    decimal_not_below a.number (sym (sign_is ((goal.at.returns c).After-is_below_zero)) ∙ c.if-is_below_zero.false) ∙ ap unsigned (sym
+    (size_is ((goal.at.returns c).After-size-n))) in
     let many = ap length e in record {
       length = omega arith;
       few = omega arith;

@@ -27,14 +27,24 @@ judge_joins-number-requires c = tt
 
 pub returns-then-number-ne0 : goal.returns-then-number-ne0
 unfolding joins_left
-returns-then-number-ne0 c = let found = c.judge_joins-number.ensures in record { number = found; lent = sym (kept_when_refused _ _ _ (λ z. c.if-number-ne0.true (found ∙ z))) }
+returns-then-number-ne0 c = let found = c.judge_joins-number.ensures in record {
+  number = found;
+  lent = sym (kept_when_refused _ _ _ (λ z. c.if-number-ne0.true (found ∙ z)));
+}
 
 pub clear-requires : goal.clear-requires
 clear-requires c = tt
 
 pub count_joins-requires : goal.count_joins-requires
 count_joins-requires c =
-    let g = good ((goal.at.count_joins-requires c).Else-number-ne0) in record { n_bound = g.zones; categories_len = g.categories_fit; weights_len = g.weights_fit; weights_value = g.light; categories_value = g.low; entries_value = c.clear.ensures ∙ ap (table (λ k. pos 0)) g.room_fit }
+    let g = good ((goal.at.count_joins-requires c).Else-number-ne0) in record {
+      n_bound = g.zones;
+      categories_len = g.categories_fit;
+      weights_len = g.weights_fit;
+      weights_value = g.light;
+      categories_value = g.low;
+      entries_value = c.clear.ensures ∙ ap (table (λ k. pos 0)) g.room_fit;
+    }
 
 pub returns : goal.returns
 unfolding joins_left

@@ -33,13 +33,25 @@ unfolding number_of many_in keep_many keep_left
 returns-then-sizes-ne0 c =
     let e = refusal ((goal.at.returns-then-sizes-ne0 c).After-judge_sizes-sizes) in
     let a = c.args in
-    let some : keep_refusal a.n a.weights.now a.zones.now ≡ 0 → ⊥ = λ z. c.if-sizes-ne0.true (e ∙ z) in record { number = e; many = sym (kept_when_refused _ _ _ some); lent = sym (kept_when_refused _ _ _ some) }
+    let some : keep_refusal a.n a.weights.now a.zones.now ≡ 0 → ⊥ = λ z. c.if-sizes-ne0.true (e ∙ z) in record {
+      number = e;
+      many = sym (kept_when_refused _ _ _ some);
+      lent = sym (kept_when_refused _ _ _ some);
+    }
 
 pub put_kept-requires : goal.put_kept-requires
-put_kept-requires c = let f = sized ((goal.at.put_kept-requires c).Else-sizes-ne0) in record { n_bound = f.zones; weights_len = f.weights_fit; zones_len = f.lent_fit }
+put_kept-requires c = let f = sized ((goal.at.put_kept-requires c).Else-sizes-ne0) in record {
+  n_bound = f.zones;
+  weights_len = f.weights_fit;
+  zones_len = f.lent_fit;
+}
 
 pub returns : goal.returns
 unfolding number_of many_in keep_many keep_left
 returns c =
     let z = none ((goal.at.returns c).Else-sizes-ne0) in
-    let told = c.put_kept.ensures in record { number = sym z; many = ap (λ k. k ∷ []) told.value ∙ sym (worked_when_taken _ _ _ z); lent = told.zones_after ∙ sym (worked_when_taken _ _ _ z) }
+    let told = c.put_kept.ensures in record {
+      number = sym z;
+      many = ap (λ k. k ∷ []) told.value ∙ sym (worked_when_taken _ _ _ z);
+      lent = told.zones_after ∙ sym (worked_when_taken _ _ _ z);
+    }

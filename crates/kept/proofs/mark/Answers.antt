@@ -32,11 +32,21 @@ unfolding marks_left
 returns-then-sizes-ne0 c =
     let e = refusal ((goal.at.returns-then-sizes-ne0 c).After-judge_sizes-sizes) in
     let a = c.args in
-    let some : marks_refusal a.n a.weights.now a.marks.now ≡ 0 → ⊥ = λ z. c.if-sizes-ne0.true (e ∙ z) in record { number = e; lent = sym (kept_when_refused _ _ _ some) }
+    let some : marks_refusal a.n a.weights.now a.marks.now ≡ 0 → ⊥ = λ z. c.if-sizes-ne0.true (e ∙ z) in record {
+      number = e;
+      lent = sym (kept_when_refused _ _ _ some);
+    }
 
 pub put_marks-requires : goal.put_marks-requires
-put_marks-requires c = let f = sized ((goal.at.put_marks-requires c).Else-sizes-ne0) in record { n_bound = f.zones; weights_len = f.weights_fit; marks_len = f.lent_fit }
+put_marks-requires c = let f = sized ((goal.at.put_marks-requires c).Else-sizes-ne0) in record {
+  n_bound = f.zones;
+  weights_len = f.weights_fit;
+  marks_len = f.lent_fit;
+}
 
 pub returns : goal.returns
 unfolding marks_left
-returns c = let z = none ((goal.at.returns c).Else-sizes-ne0) in record { number = sym z; lent = c.put_marks.ensures ∙ sym (worked_when_taken _ _ _ z) }
+returns c = let z = none ((goal.at.returns c).Else-sizes-ne0) in record {
+  number = sym z;
+  lent = c.put_marks.ensures ∙ sym (worked_when_taken _ _ _ z);
+}

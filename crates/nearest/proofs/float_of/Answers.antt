@@ -57,9 +57,11 @@ ratio-x-requires c =
 pub returns-then-is_below_zero : goal.returns-then-is_below_zero
 returns-then-is_below_zero c =
     let a = c.args in
-    at_minus a.p a.q c.ratio-x.result (sym (sign_is ((goal.at.returns-then-is_below_zero c).After-is_below_zero)) ∙ c.if-is_below_zero.true) (ratio_is ((goal.at.returns-then-is_below_zero c).After-ratio-x))
+    at_minus a.p a.q c.ratio-x.result (sym (sign_is ((goal.at.returns-then-is_below_zero c).After-is_below_zero)) ∙
+    c.if-is_below_zero.true) (ratio_is ((goal.at.returns-then-is_below_zero c).After-ratio-x))
 
 pub returns-else-is_below_zero : goal.returns-else-is_below_zero
 returns-else-is_below_zero c =
     let a = c.args in
-    at_plus a.p a.q c.ratio-x.result (sym (sign_is ((goal.at.returns-else-is_below_zero c).After-is_below_zero)) ∙ c.if-is_below_zero.false) (ratio_is ((goal.at.returns-else-is_below_zero c).After-ratio-x))
+    at_plus a.p a.q c.ratio-x.result (sym (sign_is ((goal.at.returns-else-is_below_zero c).After-is_below_zero)) ∙
+    c.if-is_below_zero.false) (ratio_is ((goal.at.returns-else-is_below_zero c).After-ratio-x))

@@ -37,11 +37,14 @@ three c =
     let first = two ((goal.at.Joined-size-gt-LIMIT c).Joined-q-lt1) in
     elim c.if-size-gt-LIMIT.branch [
       | then-size-gt-LIMIT w ↦ by_first _ _ _ (w.value-is ∙ first) (sym first ∙ w.if-size-gt-LIMIT.true)
-      | else-size-gt-LIMIT w ↦ by_second _ _ _ (w.value-is ∙ ap (ltb ratio_limit) (w.size-else-size-gt-LIMIT.ensures ∙ q)) (sym first ∙ w.if-size-gt-LIMIT.false)
+      | else-size-gt-LIMIT w ↦ by_second _ _ _ (w.value-is ∙ ap (ltb ratio_limit) (w.size-else-size-gt-LIMIT.ensures ∙ q)) (sym first ∙
+          w.if-size-gt-LIMIT.false)
     ]
 
 pub returns-then-size-gt-LIMIT-2 : goal.returns-then-size-gt-LIMIT-2
-returns-then-size-gt-LIMIT-2 c = let a = c.args in refused a.p a.q (sym (three ((goal.at.returns-then-size-gt-LIMIT-2 c).Joined-size-gt-LIMIT)) ∙ c.if-size-gt-LIMIT-2.true)
+returns-then-size-gt-LIMIT-2 c = let a = c.args in refused a.p a.q (sym (three ((goal.at.returns-then-size-gt-LIMIT-2
+    c).Joined-size-gt-LIMIT)) ∙ c.if-size-gt-LIMIT-2.true)
 
 pub returns-else-size-gt-LIMIT-2 : goal.returns-else-size-gt-LIMIT-2
-returns-else-size-gt-LIMIT-2 c = let a = c.args in let_in a.p a.q (sym (three ((goal.at.returns-else-size-gt-LIMIT-2 c).Joined-size-gt-LIMIT)) ∙ c.if-size-gt-LIMIT-2.false)
+returns-else-size-gt-LIMIT-2 c = let a = c.args in let_in a.p a.q (sym (three ((goal.at.returns-else-size-gt-LIMIT-2
+    c).Joined-size-gt-LIMIT)) ∙ c.if-size-gt-LIMIT-2.false)

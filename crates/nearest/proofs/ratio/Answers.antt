@@ -33,7 +33,12 @@ scaled-requires c =
     let o = compare (x.result.rest * 2) by.result.divisor in
     let m = c.half_to_even-m in
     let low : x.result.whole ≤ m.result = rw m.ensures (nearest-ge x.result.whole o) in
-    let top : m.result ≤ 2 ^ 53 = rw m.ensures (le_trans (nearest-le x.result.whole o) x.ensures.most) in record { m_nonzero = some x.result.whole m.result x.ensures.least low; m_bound = top; fact = by.ensures.often; halvings_bound = x.ensures.few }
+    let top : m.result ≤ 2 ^ 53 = rw m.ensures (le_trans (nearest-le x.result.whole o) x.ensures.most) in record {
+      m_nonzero = some x.result.whole m.result x.ensures.least low;
+      m_bound = top;
+      fact = by.ensures.often;
+      halvings_bound = x.ensures.few;
+    }
 
 pub returns : goal.returns
 returns c =

@@ -9,4 +9,8 @@ put_byte-requires c = tt
 
 pub returns : goal.returns
 returns c =
-    let a = c.args in record { text = puts_as (puts_then c.put_start-place.ensures.text c.put_byte.ensures) (append_assoc a.word.now (numbers a.list.now) (10 ∷ [])); width = c.put_start-place.ensures.width }
+    let a = c.args in record {
+      text = puts_as (puts_then c.put_start-place.ensures.text c.put_byte.ensures) (append_assoc a.word.now (numbers a.list.now) (10 ∷
+          []));
+      width = c.put_start-place.ensures.width;
+    }

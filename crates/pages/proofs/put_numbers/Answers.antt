@@ -64,4 +64,7 @@ pub returns : goal.returns
 unfolding numbers
 returns c =
     let l = c.loop-i in
-    let list = c.args.list.now in record { text = puts_each_all printed list l.i (omega arith) l.invariant.1.0; width = numbers_width list (each_fits list (λ k p. l.invariant.1.1 k (omega arith))) }
+    let list = c.args.list.now in record {
+      text = puts_each_all printed list l.i (omega arith) l.invariant.1.0;
+      width = numbers_width list (each_fits list (λ k p. l.invariant.1.1 k (omega arith)));
+    }

@@ -28,11 +28,17 @@ module _ (c : After-judge_lengths-lengths) where
   sized = c.judge_lengths-lengths.ensures
 
 -- where neither is refused the job can be stored
-storable : (c : Else-number-ne0) → let b = c in Storable (image ((goal.at.Else-number-ne0 c).After-judge_lengths-lengths)) c.judge-layout.result (lent ((goal.at.Else-number-ne0 c).After-judge_lengths-lengths))
+storable : (c : Else-number-ne0) → let b = c in Storable (image ((goal.at.Else-number-ne0 c).After-judge_lengths-lengths))
+    c.judge-layout.result (lent ((goal.at.Else-number-ne0 c).After-judge_lengths-lengths))
 storable c =
     let after_judge_lengths_lengths = (goal.at.Else-number-ne0 c).After-judge_lengths-lengths in
     let good : image_refusal (image after_judge_lengths_lengths) ≡ 0 = sym c.judge-layout.ensures.number ∙ c.if-number-ne0.false in
-    record { accepted = good; laid = c.judge-layout.ensures.laid good; fits = fitting (image after_judge_lengths_lengths) (lent after_judge_lengths_lengths) _ (sized after_judge_lengths_lengths) c.if-lengths-ne0.false }
+    record {
+      accepted = good;
+      laid = c.judge-layout.ensures.laid good;
+      fits = fitting (image after_judge_lengths_lengths) (lent after_judge_lengths_lengths) _ (sized after_judge_lengths_lengths)
+          c.if-lengths-ne0.false;
+    }
 
 abbrev before_store : After-store → Else-number-ne0
 before_store c = ((goal.at.After-store c).Else-number-ne0)
@@ -40,12 +46,22 @@ before_store c = ((goal.at.After-store c).Else-number-ne0)
 pub returns-then-lengths-ne0 : goal.returns-then-lengths-ne0
 returns-then-lengths-ne0 c =
     let after_judge_lengths_lengths = (goal.at.returns-then-lengths-ne0 c).After-judge_lengths-lengths in
-    let all = refused_by_length (image after_judge_lengths_lengths) (lent after_judge_lengths_lengths) _ (sized after_judge_lengths_lengths) c.if-lengths-ne0.true in record { number = all.0; counts = all.1.0; lent = all.1.1 }
+    let all = refused_by_length (image after_judge_lengths_lengths) (lent after_judge_lengths_lengths) _ (sized
+    after_judge_lengths_lengths) c.if-lengths-ne0.true in record {
+      number = all.0;
+      counts = all.1.0;
+      lent = all.1.1;
+    }
 
 pub returns-then-number-ne0 : goal.returns-then-number-ne0
 returns-then-number-ne0 c =
     let after_judge_lengths_lengths = (goal.at.returns-then-number-ne0 c).After-judge_lengths-lengths in
-    let all = refused_by_image (image after_judge_lengths_lengths) (lent after_judge_lengths_lengths) _ (sized after_judge_lengths_lengths) c.if-lengths-ne0.false _ c.judge-layout.ensures.number c.if-number-ne0.true in record { number = all.0; counts = all.1.0; lent = all.1.1 }
+    let all = refused_by_image (image after_judge_lengths_lengths) (lent after_judge_lengths_lengths) _ (sized
+    after_judge_lengths_lengths) c.if-lengths-ne0.false _ c.judge-layout.ensures.number c.if-number-ne0.true in record {
+      number = all.0;
+      counts = all.1.0;
+      lent = all.1.1;
+    }
 
 pub store-requires : goal.store-requires
 store-requires c = storable ((goal.at.store-requires c).Else-number-ne0)
@@ -53,5 +69,6 @@ store-requires c = storable ((goal.at.store-requires c).Else-number-ne0)
 pub returns : goal.returns
 returns c =
     let e = before_store ((goal.at.returns c).After-store) in
-    let b = ((goal.at.Else-number-ne0 e).After-judge_lengths-lengths) in let all = taken (image b) (lent b) _ (sized b) e.if-lengths-ne0.false e.judge-layout.result c.counts.result _ (storable e) c.counts.ensures
+    let b = ((goal.at.Else-number-ne0 e).After-judge_lengths-lengths) in let all = taken (image b) (lent b) _ (sized b)
+    e.if-lengths-ne0.false e.judge-layout.result c.counts.result _ (storable e) c.counts.ensures
     c.store.ensures in record { number = all.0; counts = all.1.0; lent = all.1.1 }

@@ -8,7 +8,11 @@ use Rattle.report.proofs.Printing.{line_by_page, line_by_text}
 use Rattle.report.proofs.refusal.Goals as goal
 
 pub returns-then-page-ne16384 : goal.returns-then-page-ne16384
-returns-then-page-ne16384 c = let a = c.args in let all = line_by_page a.number a.page.now c.if-page-ne16384.true in record { number = all.0; length = all.1.0; page = all.1.1 }
+returns-then-page-ne16384 c = let a = c.args in let all = line_by_page a.number a.page.now c.if-page-ne16384.true in record {
+  number = all.0;
+  length = all.1.0;
+  page = all.1.1;
+}
 
 pub put_line-requires : goal.put_line-requires
 put_line-requires c = record { short = record { letters = omega arith; items = omega arith }; room = omega (arith, c.if-page-ne16384.false) }
@@ -16,4 +20,8 @@ put_line-requires c = record { short = record { letters = omega arith; items = o
 pub returns : goal.returns
 unfolding refusal_line
 returns c = let all = line_by_text c.args.number c.args.page.now c.if-page-ne16384.false
-    (put_as c.put_line.ensures (rw (nat w64 c.args.number 255 (omega (arith, c.ranges.number.fits)) tt).same)) in record { number = all.0; length = all.1.0; page = all.1.1 }
+    (put_as c.put_line.ensures (rw (nat w64 c.args.number 255 (omega (arith, c.ranges.number.fits)) tt).same)) in record {
+      number = all.0;
+      length = all.1.0;
+      page = all.1.1;
+    }

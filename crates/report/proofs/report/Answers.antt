@@ -4,11 +4,19 @@ use native.Mathlib.Omega.{arith}
 use Rattle.report.proofs.report.Goals as goal
 
 pub returns-then-page-ne16384 : goal.returns-then-page-ne16384
-returns-then-page-ne16384 c = let a = c.args in let all = by_page a.image.now a.page.now c.if-page-ne16384.true in record { number = all.0; length = all.1.0; page = all.1.1 }
+returns-then-page-ne16384 c = let a = c.args in let all = by_page a.image.now a.page.now c.if-page-ne16384.true in record {
+  number = all.0;
+  length = all.1.0;
+  page = all.1.1;
+}
 
 pub put_report-requires : goal.put_report-requires
 put_report-requires c = omega (arith, c.if-page-ne16384.false)
 
 pub returns : goal.returns
 returns c =
-    let a = c.args in let all = by_image a.image.now a.page.now c.if-page-ne16384.false _ _ c.put_report.ensures in record { number = all.0; length = all.1.0; page = all.1.1 }
+    let a = c.args in let all = by_image a.image.now a.page.now c.if-page-ne16384.false _ _ c.put_report.ensures in record {
+      number = all.0;
+      length = all.1.0;
+      page = all.1.1;
+    }

@@ -26,14 +26,18 @@ module _ (c : Else-n-gt64) where
   some_zones = omega (arith, c.if-n-lt2.false)
 
 -- the rows that the code counts are the shuffles
-counted : (c : Else-rows-gt499) → let b = c in shuffle_count (n ((goal.at.Else-rows-gt499 c).Else-n-gt64)) (long ((goal.at.Else-rows-gt499 c).Else-n-gt64)) ≡ long ((goal.at.Else-rows-gt499 c).Else-n-gt64) / n ((goal.at.Else-rows-gt499 c).Else-n-gt64)
+counted : (c : Else-rows-gt499) → let b = c in shuffle_count (n ((goal.at.Else-rows-gt499 c).Else-n-gt64)) (long ((goal.at.Else-rows-gt499
+    c).Else-n-gt64)) ≡ long ((goal.at.Else-rows-gt499 c).Else-n-gt64) / n ((goal.at.Else-rows-gt499 c).Else-n-gt64)
 counted c =
     let else_n_gt64 = (goal.at.Else-rows-gt499 c).Else-n-gt64 in
     all_rows (n else_n_gt64) (long else_n_gt64) c.if-rows-gt499.false
 
 -- and the list has nothing beside them
-whole : (c : Else-shuffles-rows) → let b = c in long ((goal.at.Else-shuffles-rows c).Else-n-gt64) ≡ shuffle_count (n ((goal.at.Else-shuffles-rows c).Else-n-gt64)) (long ((goal.at.Else-shuffles-rows c).Else-n-gt64)) * n ((goal.at.Else-shuffles-rows c).Else-n-gt64)
-whole c = c.if-shuffles-rows.false ∙ ap (λ r. r * n ((goal.at.Else-shuffles-rows c).Else-n-gt64)) (sym (counted ((goal.at.Else-shuffles-rows c).Else-rows-gt499)))
+whole : (c : Else-shuffles-rows) → let b = c in long ((goal.at.Else-shuffles-rows c).Else-n-gt64) ≡ shuffle_count (n
+    ((goal.at.Else-shuffles-rows c).Else-n-gt64)) (long ((goal.at.Else-shuffles-rows c).Else-n-gt64)) * n ((goal.at.Else-shuffles-rows
+    c).Else-n-gt64)
+whole c = c.if-shuffles-rows.false ∙ ap (λ r. r * n ((goal.at.Else-shuffles-rows c).Else-n-gt64)) (sym (counted
+    ((goal.at.Else-shuffles-rows c).Else-rows-gt499)))
 
 -- what the search finds is what the last rule asks
 searched :
@@ -66,7 +70,8 @@ pub returns-then-shuffles-rows : goal.returns-then-shuffles-rows
 unfolding shuffle_refusal
 returns-then-shuffles-rows c =
     let else_n_gt64 = (goal.at.returns-then-shuffles-rows c).Else-n-gt64 in
-    let e : long else_n_gt64 ≡ shuffle_count (n else_n_gt64) (long else_n_gt64) * n else_n_gt64 → ⊥ = λ q. c.if-shuffles-rows.true (q ∙ ap (λ r. r * n else_n_gt64) (counted ((goal.at.returns-then-shuffles-rows c).Else-rows-gt499))) in
+    let e : long else_n_gt64 ≡ shuffle_count (n else_n_gt64) (long else_n_gt64) * n else_n_gt64 → ⊥ = λ q. c.if-shuffles-rows.true (q ∙ ap
+    (λ r. r * n else_n_gt64) (counted ((goal.at.returns-then-shuffles-rows c).Else-rows-gt499))) in
     simp (le-ltb _ _ c.if-n-lt2.false, le-ltb _ _ c.if-n-gt64.false, ne_eqb _ _ e)
 
 pub any_lacking-requires : goal.any_lacking-requires
@@ -75,9 +80,21 @@ any_lacking-requires c = record { n_bound = c.if-n-gt64.false; rows_bound = c.if
 pub returns-then-any_lacking : goal.returns-then-any_lacking
 unfolding shuffle_refusal
 returns-then-any_lacking c =
-    simp (le-ltb _ _ c.if-n-lt2.false, le-ltb _ _ c.if-n-gt64.false, eq-eqb _ _ (whole ((goal.at.returns-then-any_lacking c).Else-shuffles-rows)), searched ((goal.at.returns-then-any_lacking c).After-any_lacking) ∙ c.if-any_lacking.true)
+    simp (
+      le-ltb _ _ c.if-n-lt2.false,
+      le-ltb _ _ c.if-n-gt64.false,
+      eq-eqb _ _ (whole ((goal.at.returns-then-any_lacking
+          c).Else-shuffles-rows)),
+      searched ((goal.at.returns-then-any_lacking c).After-any_lacking) ∙ c.if-any_lacking.true,
+    )
 
 pub returns : goal.returns
 unfolding shuffle_refusal
 returns c =
-    simp (le-ltb _ _ c.if-n-lt2.false, le-ltb _ _ c.if-n-gt64.false, eq-eqb _ _ (whole ((goal.at.returns c).Else-shuffles-rows)), searched ((goal.at.returns c).After-any_lacking) ∙ c.if-any_lacking.false)
+    simp (
+      le-ltb _ _ c.if-n-lt2.false,
+      le-ltb _ _ c.if-n-gt64.false,
+      eq-eqb _ _ (whole ((goal.at.returns c).Else-shuffles-rows)),
+      searched
+          ((goal.at.returns c).After-any_lacking) ∙ c.if-any_lacking.false,
+    )

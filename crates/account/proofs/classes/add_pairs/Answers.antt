@@ -144,7 +144,8 @@ pub overflow_cast-weight : goal.overflow_cast-weight
 overflow_cast-weight c =
     let in_loop_j = (goal.at.overflow_cast-weight c).In-loop-j in
     let s = start in_loop_j in
-    fits_le w64 (pos (get_or (weights s) (i s * n s + j in_loop_j) 0)) 9 (s.requires.class_job.job.weighted.light (i s * n s + j in_loop_j) (pair_in in_loop_j)) tt
+    fits_le w64 (pos (get_or (weights s) (i s * n s + j in_loop_j) 0)) 9 (s.requires.class_job.job.weighted.light (i s * n s + j
+    in_loop_j) (pair_in in_loop_j)) tt
 
 pub offset_bounds-d-j : goal.offset_bounds-d-j
 offset_bounds-d-j c =
@@ -171,7 +172,10 @@ pub squared_difference-square-requires : goal.squared_difference-square-requires
 squared_difference-square-requires c =
     let in_loop_j = (goal.at.squared_difference-square-requires c).In-loop-j in
     let s = start in_loop_j in
-    let v = s.requires.class_job.job.valued in record { a_bound = read_le (values s) (n s) v (i s) (inside s); b_bound = read_le (values s) (n s) v (j in_loop_j) (passing in_loop_j) }
+    let v = s.requires.class_job.job.valued in record {
+      a_bound = read_le (values s) (n s) v (i s) (inside s);
+      b_bound = read_le (values s) (n s) v (j in_loop_j) (passing in_loop_j);
+    }
 
 pub overflow_mul-weight : goal.overflow_mul-weight
 overflow_mul-weight c = fit w64 (cross_is (turn ((goal.at.overflow_mul-weight c).After-squared_difference-square))) tt
@@ -188,7 +192,13 @@ add_row-requires c =
     let sized = pairs_sized (n s) (values s) (weights s) (classes s) s.requires.class_job (i s) (j t) _ (inside s) b.invariant.0 b.invariant.1 in
     let weight = added_small (weight_is t) (omega arith) in
     let cross = added_small (rd w64 (cross_is t) tt) (omega arith) in
-    let squares = added_small (rd w64 (squares_is after_squared_difference_square) tt) (omega arith) in record { sized = sized; k_bound = omega (arith, low t); weight_bound = weight; cross_bound = cross; squares_bound = squares }
+    let squares = added_small (rd w64 (squares_is after_squared_difference_square) tt) (omega arith) in record {
+      sized = sized;
+      k_bound = omega (arith, low t);
+      weight_bound = weight;
+      cross_bound = cross;
+      squares_bound = squares;
+    }
 
 pub overflow_add-j : goal.overflow_add-j
 overflow_add-j c = let t = turn ((goal.at.overflow_add-j c).After-squared_difference-square) in omega (arith, passing t, zones (start t))

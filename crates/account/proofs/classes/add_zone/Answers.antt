@@ -125,7 +125,12 @@ slice_bounds-add_pairs-end c = refl
 
 pub add_pairs-requires : goal.add_pairs-requires
 unfolding table table_rows
-add_pairs-requires c = record { class_job = c.requires.class_job; d_value = c.requires.d_value; i_lt_n = inside ((goal.at.add_pairs-requires c).Start); parts_value = refl }
+add_pairs-requires c = record {
+  class_job = c.requires.class_job;
+  d_value = c.requires.d_value;
+  i_lt_n = inside ((goal.at.add_pairs-requires c).Start);
+  parts_value = refl;
+}
 
 pub offset_bounds-d-i : goal.offset_bounds-d-i
 offset_bounds-d-i c =
@@ -142,7 +147,11 @@ loop-k-init c =
     let start = (goal.at.loop-k-init c).Start in
     let none : (k : ℕ) → k < 9 → i start ≡ zones_in (i start) 0 k = λ k p. rw (le-ltb k 0 (omega arith)) refl in (
       omega arith,
-      (same_zones (n start) (values start) (weights start) (classes start) (λ k. i start) (zones_in (i start) 0) _ _ none c.requires.zoned, running_none _),
+      (
+        same_zones (n start) (values start) (weights start) (classes start) (λ k. i start) (zones_in (i start) 0) _ _ none
+            c.requires.zoned,
+        running_none _,
+      ),
     )
 
 pub overflow_mul-place : goal.overflow_mul-place
@@ -184,7 +193,13 @@ add_row-requires c =
     let sized = zones_sized (n s) (values s) (weights s) (classes s) s.requires.class_job (zones_in (i s) (k in_loop_k)) _ _ most b.invariant.1.0 in
     let weight = added_small (part_is in_loop_k (k in_loop_k * 3) 0 (omega arith) (omega arith)) (omega arith) in
     let cross = added_small (rd w64 (local_is in_loop_k) tt) (omega arith) in
-    let squares = added_small (part_is in_loop_k (k in_loop_k * 3 + 2) 2 refl (omega arith)) (omega arith) in record { sized = sized; k_bound = omega (arith, low in_loop_k); weight_bound = weight; cross_bound = cross; squares_bound = squares }
+    let squares = added_small (part_is in_loop_k (k in_loop_k * 3 + 2) 2 refl (omega arith)) (omega arith) in record {
+      sized = sized;
+      k_bound = omega (arith, low in_loop_k);
+      weight_bound = weight;
+      cross_bound = cross;
+      squares_bound = squares;
+    }
 
 pub overflow_mul-local-in-loop-k : goal.overflow_mul-local-in-loop-k
 overflow_mul-local-in-loop-k c = let t = turn c in omega (arith, local_in t, zones (start t))
@@ -257,7 +272,11 @@ shape_of-locals c = length-set (s c).args.locals.now (i (s c)) _
 
 pub returns : goal.returns
 returns c =
-    let all : (k : ℕ) → k < 9 → zones_in (i (s c)) (b c).loop-k.k k ≡ i (s c) + 1 = λ k p. rw (lt-ltb k (b c).loop-k.k (omega (arith, nine c))) refl in record {
+    let all : (k : ℕ) → k < 9 → zones_in (i (s c)) (b c).loop-k.k k ≡ i (s c) + 1 = λ k p. rw (lt-ltb k (b c).loop-k.k (omega (
+      arith,
+      nine
+          c,
+    ))) refl in record {
       zoned_2 = same_zones (n (s c)) (values (s c)) (weights (s c)) (classes (s c)) (zones_in (i (s c)) (b c).loop-k.k) (λ k. i (s c) + 1) _ _ all
           (b c).loop-k.invariant.1.0;
       owned_2 = record {

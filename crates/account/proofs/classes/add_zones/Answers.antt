@@ -44,7 +44,11 @@ pub slice_bounds-deviations-end : goal.slice_bounds-deviations-end
 slice_bounds-deviations-end c = sym (length-take-le _ _ c.requires.class_job.job.valued.zones)
 
 pub deviations-requires : goal.deviations-requires
-deviations-requires c = let p = c.requires in record { valued = p.class_job.job.valued; total_value = (rd w64 (total_told _ _ p.class_job.job.valued p.total_value) tt).same; d_len = length-take-le _ _ p.class_job.job.valued.zones }
+deviations-requires c = let p = c.requires in record {
+  valued = p.class_job.job.valued;
+  total_value = (rd w64 (total_told _ _ p.class_job.job.valued p.total_value) tt).same;
+  d_len = length-take-le _ _ p.class_job.job.valued.zones;
+}
 
 pub clear-requires : goal.clear-requires
 clear-requires c = c.requires.rows_len
@@ -69,7 +73,13 @@ slice_bounds-add_zone-end c =
 pub add_zone-requires : goal.add_zone-requires
 add_zone-requires c =
     let in_loop_i = (goal.at.add_zone-requires c).In-loop-i in
-    let d = front {A = ℤ} _ _ (expected in_loop_i) _ (worked in_loop_i).deviations.ensures (as_long in_loop_i) in record { class_job = (start in_loop_i).requires.class_job; d_value = d; i_lt_n = c.loop-i-test.true; zoned = c.loop-i.invariant.1.0; owned = c.loop-i.invariant.1.1 }
+    let d = front {A = ℤ} _ _ (expected in_loop_i) _ (worked in_loop_i).deviations.ensures (as_long in_loop_i) in record {
+      class_job = (start in_loop_i).requires.class_job;
+      d_value = d;
+      i_lt_n = c.loop-i-test.true;
+      zoned = c.loop-i.invariant.1.0;
+      owned = c.loop-i.invariant.1.1;
+    }
 
 pub overflow_add-i : goal.overflow_add-i
 overflow_add-i c = let t = turn c in omega (arith, t.loop-i-test.true, (start t).requires.class_job.job.valued.zones)
@@ -100,4 +110,8 @@ returns c =
     let b = c.loop-i in
     let all : b.i ≡ g.n = omega (arith, b.invariant.0, c.loop-i-test.false) in
     let classes = all_zones g.n g.values.now g.weights.now g.classes.now b.i b.rows b.class_locals all b.invariant.1.0 in
-    let f = local_of (pair_at g.weights.now g.n) (deviation_of (at g.values.now) g.n) g.n in record { rows_after = classes.0; class_locals_after = classes.1; locals_after = is_table f g.n (pos 0) b.locals b.invariant.1.1.count (λ k p. b.invariant.1.1.numerators k (omega (arith, all))) }
+    let f = local_of (pair_at g.weights.now g.n) (deviation_of (at g.values.now) g.n) g.n in record {
+      rows_after = classes.0;
+      class_locals_after = classes.1;
+      locals_after = is_table f g.n (pos 0) b.locals b.invariant.1.1.count (λ k p. b.invariant.1.1.numerators k (omega (arith, all)));
+    }

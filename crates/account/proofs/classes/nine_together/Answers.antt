@@ -1,4 +1,4 @@
--- `nine_together` meets its contract. The loop's invariant: the accumulator's bits are those of the sum of the classes passed. Assumes
+-- `nine_together` meets its contract. The loop's invariant: the accumulator is the sum of the classes passed. Assumes
 -- nothing.
 use Prim.Native.Nat.{◌+◌, ◌*◌, ◌<◌}
 use native.Mathlib.Omega.{arith}

@@ -61,25 +61,42 @@ spread-spread-requires c = record { valued = c.requires.class_job.job.valued; to
 
 pub add_zones-requires : goal.add_zones-requires
 add_zones-requires c =
-    let p = c.requires in record { class_job = p.class_job; total_value = summed ((goal.at.add_zones-requires c).After-total-total); rows_len = p.rows_len; class_locals_len = p.class_locals_len; locals_len = p.locals_len }
+    let p = c.requires in record {
+      class_job = p.class_job;
+      total_value = summed ((goal.at.add_zones-requires c).After-total-total);
+      rows_len = p.rows_len;
+      class_locals_len = p.class_locals_len;
+      locals_len = p.locals_len;
+    }
 
 pub nine_together-weight-requires : goal.nine_together-weight-requires
 nine_together-weight-requires c =
     let after_add_zones = (goal.at.nine_together-weight-requires c).After-add_zones in
     let a = (start after_add_zones).args in
     let rows = c.add_zones.ensures.rows_after in
-    let g = (start after_add_zones).requires.class_job in record { place_bound = omega arith; rows_len = c.add_zones.auto.rows ∙ (start after_add_zones).requires.rows_len; by_index = weight_small a.n a.values.now a.weights.now a.classes.now g _ rows }
+    let g = (start after_add_zones).requires.class_job in record {
+      place_bound = omega arith;
+      rows_len = c.add_zones.auto.rows ∙ (start after_add_zones).requires.rows_len;
+      by_index = weight_small a.n a.values.now a.weights.now a.classes.now g _ rows;
+    }
 
 pub sum_of-cross-requires : goal.sum_of-cross-requires
 sum_of-cross-requires c =
-    let g = (start ((goal.at.sum_of-cross-requires c).After-add_zones)).requires.class_job.job in record { n_bound = g.valued.zones; sized = locals_sized _ _ _ g _ c.add_zones.ensures.locals_after }
+    let g = (start ((goal.at.sum_of-cross-requires c).After-add_zones)).requires.class_job.job in record {
+      n_bound = g.valued.zones;
+      sized = locals_sized _ _ _ g _ c.add_zones.ensures.locals_after;
+    }
 
 pub nine_together-squares-requires : goal.nine_together-squares-requires
 nine_together-squares-requires c =
     let after_add_zones = (goal.at.nine_together-squares-requires c).After-add_zones in
     let a = (start after_add_zones).args in
     let rows = c.add_zones.ensures.rows_after in
-    let g = (start after_add_zones).requires.class_job in record { place_bound = omega arith; rows_len = c.add_zones.auto.rows ∙ (start after_add_zones).requires.rows_len; by_index = squares_small a.n a.values.now a.weights.now a.classes.now g _ rows }
+    let g = (start after_add_zones).requires.class_job in record {
+      place_bound = omega arith;
+      rows_len = c.add_zones.auto.rows ∙ (start after_add_zones).requires.rows_len;
+      by_index = squares_small a.n a.values.now a.weights.now a.classes.now g _ rows;
+    }
 
 pub returns : goal.returns
 returns c =

@@ -1,4 +1,4 @@
--- `neighbour_sum` meets its contract. The loop's invariant: the accumulator's bits are those of the sum over the zones passed.
+-- `neighbour_sum` meets its contract. The loop's invariant: the accumulator is the sum over the zones passed.
 -- Assumes nothing.
 use Prim.Native.Nat.{ℕ, ◌+◌, ◌*◌}
 use native.Mathlib.Omega.{arith}
@@ -45,7 +45,8 @@ module _ (c : After-deviation-1) where
       Is (to_z w64 b.loop-j.acc-bits +ℤ r64 (cast *ℤ r64 (deviation b.loop-j.j)))
       (sum (λ j. pos (weight j) *ℤ deviation j) (b.loop-j.j + 1)) 7372800000
   turn =
-      running_more (neighbours_run _ _ a.requires.weighted _ a.args.i a.requires.sized a.requires.i_lt_n) b.loop-j.j (to_z w64 b.loop-j.acc-bits) (omega arith)
+      running_more (neighbours_run _ _ a.requires.weighted _ a.args.i a.requires.sized a.requires.i_lt_n) b.loop-j.j (to_z w64
+      b.loop-j.acc-bits) (omega arith)
       b.loop-j.invariant.1
       (rd w64 term tt)
 

@@ -1,4 +1,4 @@
--- `sum_of` meets its contract. The loop's invariant: the accumulator's bits are those of the sum of the numbers passed. Assumes nothing.
+-- `sum_of` meets its contract. The loop's invariant: the accumulator is the sum of the numbers passed. Assumes nothing.
 use Prim.Native.Nat.{◌+◌}
 use native.Mathlib.Omega.{arith}
 use lib.IntN.{◌+ℤ◌}

@@ -1,4 +1,4 @@
--- `total` meets its contract. The loop's invariant: the accumulator's bits are those of the sum of the values passed. Assumes nothing.
+-- `total` meets its contract. The loop's invariant: the accumulator is the sum of the values passed. Assumes nothing.
 use Prim.Native.Nat.{◌+◌}
 use native.Mathlib.Omega.{arith}
 use lib.IntN.{◌+ℤ◌}

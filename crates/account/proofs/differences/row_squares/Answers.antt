@@ -1,4 +1,4 @@
--- `row_squares` meets its contract. The loop's invariant: the accumulator's bits are those of the sum over the zones passed.
+-- `row_squares` meets its contract. The loop's invariant: the accumulator is the sum over the zones passed.
 -- Assumes nothing.
 use Prim.Native.Nat.{ℕ, ◌+◌, ◌*◌}
 use native.Mathlib.Omega.{arith}
@@ -49,7 +49,8 @@ module _ (c : After-squared_difference) where
       Is (to_z w64 b.loop-j.acc-bits +ℤ r64 (cast *ℤ r64 c.squared_difference.result))
       (sum (λ j. pos (weight j) *ℤ apart j) (b.loop-j.j + 1)) 23040000000000
   turn =
-      running_more (row_squares_run _ _ _ a.requires.job a.args.i a.requires.i_lt_n) b.loop-j.j (to_z w64 b.loop-j.acc-bits) (omega arith) b.loop-j.invariant.1
+      running_more (row_squares_run _ _ _ a.requires.job a.args.i a.requires.i_lt_n) b.loop-j.j (to_z w64 b.loop-j.acc-bits) (omega arith)
+      b.loop-j.invariant.1
       (rd w64 term tt)
 
 pub offset_bounds-values-i : goal.offset_bounds-values-i
@@ -89,7 +90,10 @@ pub bounds-values-j : goal.bounds-values-j
 bounds-values-j c = omega arith
 
 pub squared_difference-requires : goal.squared_difference-requires
-squared_difference-requires c = record { a_bound = read_le _ _ c.requires.job.valued c.args.i c.requires.i_lt_n; b_bound = read_le _ _ c.requires.job.valued c.loop-j.j (omega arith) }
+squared_difference-requires c = record {
+  a_bound = read_le _ _ c.requires.job.valued c.args.i c.requires.i_lt_n;
+  b_bound = read_le _ _ c.requires.job.valued c.loop-j.j (omega arith);
+}
 
 pub overflow_mul-acc : goal.overflow_mul-acc
 overflow_mul-acc c = fit w64 (term c) tt

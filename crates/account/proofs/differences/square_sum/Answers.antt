@@ -1,4 +1,4 @@
--- `square_sum` meets its contract. The loop's invariant: the accumulator's bits are those of the sum of the squares passed.
+-- `square_sum` meets its contract. The loop's invariant: the accumulator is the sum of the squares passed.
 -- Assumes nothing.
 use Prim.Native.Nat.{◌+◌}
 use native.Mathlib.Omega.{arith}

@@ -1,4 +1,4 @@
--- `squares` meets its contract. The loop's invariant: the accumulator's bits are those of the sum over the rows passed. Assumes nothing.
+-- `squares` meets its contract. The loop's invariant: the accumulator is the sum over the rows passed. Assumes nothing.
 use Prim.Native.Nat.{◌+◌}
 use native.Mathlib.Omega.{arith}
 use native.Mathlib.Nat as N

@@ -21,19 +21,27 @@ module _ (c : After-judge_sizes-sizes) where
 -- the sizes are good
 sizes_good :
     (c : Else-sizes-ne0) →
-    let b = c in let g = (a ((goal.at.Else-sizes-ne0 c).After-judge_sizes-sizes)).args in first_broken (sizes_of g.n g.values.now g.weights.now (lent ((goal.at.Else-sizes-ne0 c).After-judge_sizes-sizes)) []) ≡ 0
+    let b = c in let g = (a ((goal.at.Else-sizes-ne0 c).After-judge_sizes-sizes)).args in first_broken (sizes_of g.n g.values.now
+    g.weights.now (lent ((goal.at.Else-sizes-ne0 c).After-judge_sizes-sizes)) []) ≡ 0
 sizes_good c = sym c.judge_sizes-sizes.ensures ∙ c.if-sizes-ne0.false
 
 pub judge_sizes-sizes-requires : goal.judge_sizes-sizes-requires
 judge_sizes-sizes-requires c = tt
 
 pub returns-then-sizes-ne0 : goal.returns-then-sizes-ne0
-returns-then-sizes-ne0 c = by_number _ _ _ _ (by_sizes _ _ _ (lent ((goal.at.returns-then-sizes-ne0 c).After-judge_sizes-sizes)) [] _ c.judge_sizes-sizes.ensures c.if-sizes-ne0.true) c.if-sizes-ne0.true
+returns-then-sizes-ne0 c = by_number _ _ _ _ (by_sizes _ _ _ (lent ((goal.at.returns-then-sizes-ne0 c).After-judge_sizes-sizes)) [] _
+    c.judge_sizes-sizes.ensures c.if-sizes-ne0.true) c.if-sizes-ne0.true
 
 pub judge_job-requires : goal.judge_job-requires
 judge_job-requires c =
     let after_judge_sizes_sizes = (goal.at.judge_job-requires c).After-judge_sizes-sizes in
-    let f = fitting _ _ _ (lent after_judge_sizes_sizes) (sizes_good ((goal.at.judge_job-requires c).Else-sizes-ne0)) in record { le_n = f.two; n_bound = f.zones; values_len = f.values_fit; weights_len = f.weights_fit; zones_len = (a after_judge_sizes_sizes).requires }
+    let f = fitting _ _ _ (lent after_judge_sizes_sizes) (sizes_good ((goal.at.judge_job-requires c).Else-sizes-ne0)) in record {
+      le_n = f.two;
+      n_bound = f.zones;
+      values_len = f.values_fit;
+      weights_len = f.weights_fit;
+      zones_len = (a after_judge_sizes_sizes).requires;
+    }
 
 pub returns : goal.returns
 unfolding job_rules

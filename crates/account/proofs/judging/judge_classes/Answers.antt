@@ -31,7 +31,9 @@ module _ (c : After-judge_class_sizes-sizes) where
 sizes_good :
     (c : Else-sizes-ne0) →
     let b = c in
-    let g = (a ((goal.at.Else-sizes-ne0 c).After-judge_class_sizes-sizes)).args in first_broken (sizes_of g.n g.values.now g.weights.now (lent ((goal.at.Else-sizes-ne0 c).After-judge_class_sizes-sizes)) (last ((goal.at.Else-sizes-ne0 c).After-judge_class_sizes-sizes))) ≡ 0
+    let g = (a ((goal.at.Else-sizes-ne0 c).After-judge_class_sizes-sizes)).args in first_broken (sizes_of g.n g.values.now g.weights.now
+    (lent ((goal.at.Else-sizes-ne0 c).After-judge_class_sizes-sizes)) (last ((goal.at.Else-sizes-ne0
+    c).After-judge_class_sizes-sizes))) ≡ 0
 sizes_good c = sym c.judge_class_sizes-sizes.ensures ∙ c.if-sizes-ne0.false
 
 -- the place after the sizes, from the one after the job
@@ -51,12 +53,19 @@ pub returns-then-sizes-ne0 : goal.returns-then-sizes-ne0
 unfolding class_rules
 returns-then-sizes-ne0 c =
     let after_judge_class_sizes_sizes = (goal.at.returns-then-sizes-ne0 c).After-judge_class_sizes-sizes in
-    by_number _ _ _ _ (by_sizes _ _ _ (lent after_judge_class_sizes_sizes) (last after_judge_class_sizes_sizes) _ c.judge_class_sizes-sizes.ensures c.if-sizes-ne0.true) c.if-sizes-ne0.true
+    by_number _ _ _ _ (by_sizes _ _ _ (lent after_judge_class_sizes_sizes) (last after_judge_class_sizes_sizes) _
+    c.judge_class_sizes-sizes.ensures c.if-sizes-ne0.true) c.if-sizes-ne0.true
 
 pub judge_job-job-requires : goal.judge_job-job-requires
 judge_job-job-requires c =
     let after_judge_class_sizes_sizes = (goal.at.judge_job-job-requires c).After-judge_class_sizes-sizes in
-    let f = fitting _ _ _ (lent after_judge_class_sizes_sizes) (sizes_good ((goal.at.judge_job-job-requires c).Else-sizes-ne0)) in record { le_n = f.two; n_bound = f.zones; values_len = f.values_fit; weights_len = f.weights_fit; zones_len = (a after_judge_class_sizes_sizes).requires }
+    let f = fitting _ _ _ (lent after_judge_class_sizes_sizes) (sizes_good ((goal.at.judge_job-job-requires c).Else-sizes-ne0)) in record {
+      le_n = f.two;
+      n_bound = f.zones;
+      values_len = f.values_fit;
+      weights_len = f.weights_fit;
+      zones_len = (a after_judge_class_sizes_sizes).requires;
+    }
 
 pub returns-then-number-ne0 : goal.returns-then-number-ne0
 unfolding class_rules

@@ -67,7 +67,11 @@ pub slice_bounds-judge_sums-end-in-Kept : goal.slice_bounds-judge_sums-end-in-Ke
 slice_bounds-judge_sums-end-in-Kept c = sym (length-take-le _ _ (lying c).room)
 
 pub judge_sums-sums-requires : goal.judge_sums-sums-requires
-judge_sums-sums-requires c = let k = asked c in let all = sums_asked (n k) (values k) (weights k) (good k) _ (lying c).zones (a k).requires.values_len in record { valued = all.0; zones = all.1 }
+judge_sums-sums-requires c = let k = asked c in let all = sums_asked (n k) (values k) (weights k) (good k) _ (lying c).zones (a
+    k).requires.values_len in record {
+      valued = all.0;
+      zones = all.1;
+    }
 
 pub returns-in-Refused : goal.returns-in-Refused
 returns-in-Refused c = absurd (never ((goal.at.returns-in-Refused c).After-keep) _ c.in-Refused.is)

@@ -26,7 +26,12 @@ returns-then-any_above c = rw (holds3 ((goal.at.returns-then-any_above c).Else-a
 
 pub returns-then-any_on_diagonal : goal.returns-then-any_on_diagonal
 returns-then-any_on_diagonal c =
-    rw (holds3 ((goal.at.returns-then-any_on_diagonal c).Else-any_beyond), holds4 ((goal.at.returns-then-any_on_diagonal c).Else-any_above), sym c.any_on_diagonal.ensures ∙ c.if-any_on_diagonal.true) refl
+    rw (
+      holds3 ((goal.at.returns-then-any_on_diagonal c).Else-any_beyond),
+      holds4 ((goal.at.returns-then-any_on_diagonal
+          c).Else-any_above),
+      sym c.any_on_diagonal.ensures ∙ c.if-any_on_diagonal.true,
+    ) refl
 
 pub returns : goal.returns
 returns c = rw (holds3 ((goal.at.returns c).Else-any_beyond), holds4 ((goal.at.returns c).Else-any_above), holds5 c) refl

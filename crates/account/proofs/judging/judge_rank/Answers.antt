@@ -46,7 +46,8 @@ module _ (c : Else-listed-eq2) where
 
   sizes_good :
       let s = (g e).args in
-      first_broken (sizes_of s.n s.values.now s.weights.now (lent ((goal.at.Else-sizes-ne0 e).After-judge_sizes-sizes)) (last ((goal.at.Else-sizes-ne0 e).After-judge_sizes-sizes))) ≡ 0
+      first_broken (sizes_of s.n s.values.now s.weights.now (lent ((goal.at.Else-sizes-ne0 e).After-judge_sizes-sizes)) (last
+      ((goal.at.Else-sizes-ne0 e).After-judge_sizes-sizes))) ≡ 0
   sizes_good =
       let f = sized e in
       fitted _ _ _ _ (lent ((goal.at.Else-sizes-ne0 e).After-judge_sizes-sizes)) f
@@ -88,7 +89,8 @@ returns-then-listed-eq2 c =
     let f = sized ((goal.at.returns-then-listed-eq2 c).Else-sizes-ne0) in
     let misfit = refused_by_2 s.n s.shuffles.now f.two f.zones (sym c.judge_shuffles-listed.ensures ∙ c.if-listed-eq2.true) in
     let some : c.judge_shuffles-listed.result ≡ 0 → ⊥ = λ z. let q : ◌≡◌ {A = ℕ} 0 2 = sym z ∙ c.if-listed-eq2.true in omega arith in
-    by_number _ _ _ _ (by_sizes _ _ _ (lent after_judge_sizes_sizes) (last after_judge_sizes_sizes) _ (c.if-listed-eq2.true ∙ sym (unfitted _ _ _ _ (lent after_judge_sizes_sizes) f misfit)) some) some
+    by_number _ _ _ _ (by_sizes _ _ _ (lent after_judge_sizes_sizes) (last after_judge_sizes_sizes) _ (c.if-listed-eq2.true ∙ sym
+    (unfitted _ _ _ _ (lent after_judge_sizes_sizes) f misfit)) some) some
 
 pub judge_job-job-requires : goal.judge_job-job-requires
 judge_job-job-requires c =

@@ -79,7 +79,10 @@ pub slice_bounds-kept_values-end : goal.slice_bounds-kept_values-end
 slice_bounds-kept_values-end c = sym (length-take-le _ _ (room ((goal.at.slice_bounds-kept_values-end c).Else-many-values)))
 
 pub gather_values-requires : goal.gather_values-requires
-gather_values-requires c = record { zones = c.requires.zones; out_len = length-take-le _ _ (room ((goal.at.gather_values-requires c).Else-many-values)) }
+gather_values-requires c = record {
+  zones = c.requires.zones;
+  out_len = length-take-le _ _ (room ((goal.at.gather_values-requires c).Else-many-values));
+}
 
 pub judge_spread-requires-2 : goal.judge_spread-requires-2
 judge_spread-requires-2 c = valued ((goal.at.judge_spread-requires-2 c).After-gather_values)
@@ -87,4 +90,5 @@ judge_spread-requires-2 c = valued ((goal.at.judge_spread-requires-2 c).After-ga
 pub returns : goal.returns
 returns c =
     let after_gather_values = (goal.at.returns c).After-gather_values in
-    by_spread (s after_gather_values).args.values.now (s after_gather_values).args.zones.now _ c.gather_values.ensures (ne_eqb _ _ c.if-many-eq0.false) _ c.judge_spread-2.ensures
+    by_spread (s after_gather_values).args.values.now (s after_gather_values).args.zones.now _ c.gather_values.ensures (ne_eqb _ _
+    c.if-many-eq0.false) _ c.judge_spread-2.ensures

@@ -53,7 +53,13 @@ slice_bounds-gather_row-count c = omega arith
 pub gather_row-requires : goal.gather_row-requires
 gather_row-requires c =
     let in_loop_k = (goal.at.gather_row-requires c).In-loop-k in
-    let p = (s in_loop_k).requires in record { zones = p.zones; pairs_len = p.pairs_len; zone_lt_n = below in_loop_k; out_len = mid_len (k in_loop_k * many in_loop_k) (k in_loop_k * many in_loop_k + many in_loop_k) c.loop-k.out (room in_loop_k) ∙ omega arith }
+    let p = (s in_loop_k).requires in record {
+      zones = p.zones;
+      pairs_len = p.pairs_len;
+      zone_lt_n = below in_loop_k;
+      out_len = mid_len (k in_loop_k * many in_loop_k) (k in_loop_k * many in_loop_k + many in_loop_k) c.loop-k.out (room in_loop_k) ∙
+          omega arith;
+    }
 
 pub overflow_add-k : goal.overflow_add-k
 overflow_add-k c =

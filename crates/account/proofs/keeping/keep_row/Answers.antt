@@ -80,10 +80,20 @@ pub bounds-shuffles-row : goal.bounds-shuffles-row
 bounds-shuffles-row c = omega (arith, c.loop-p-test.true, (start ((goal.at.bounds-shuffles-row c).At-loop-p)).requires.shuffle.row.there)
 
 pub overflow_cast-zone : goal.overflow_cast-zone
-overflow_cast-zone c = omega (arith, zone_below ((goal.at.overflow_cast-zone c).In-loop-p), (start ((goal.at.overflow_cast-zone c).At-loop-p)).requires.shuffle.row.zones)
+overflow_cast-zone c = omega (
+  arith,
+  zone_below ((goal.at.overflow_cast-zone c).In-loop-p),
+  (start ((goal.at.overflow_cast-zone
+      c).At-loop-p)).requires.shuffle.row.zones,
+)
 
 pub bounds-places-zone : goal.bounds-places-zone
-bounds-places-zone c = omega (arith, zone_below ((goal.at.bounds-places-zone c).In-loop-p), (start ((goal.at.bounds-places-zone c).At-loop-p)).requires.places_len)
+bounds-places-zone c = omega (
+  arith,
+  zone_below ((goal.at.bounds-places-zone c).In-loop-p),
+  (start ((goal.at.bounds-places-zone
+      c).At-loop-p)).requires.places_len,
+)
 
 pub overflow_cast-place : goal.overflow_cast-place
 overflow_cast-place c = omega (arith, c.shared_slice_known-in-loop-p-1.given (zone ((goal.at.overflow_cast-place c).In-loop-p)))
@@ -110,9 +120,14 @@ loop-p-preserved c =
     let h = c.loop-p-test.true in
     let j = c.if-place-out.k in
     let new = c.if-place-out.out in
-    let with_place = taken_yes (places at_loop_p) (many at_loop_p) (n at_loop_p) (row at_loop_p) (all at_loop_p) (fits at_loop_p) l.p l.k l.out l.invariant h j new in
-    let without = taken_no (places at_loop_p) (many at_loop_p) (n at_loop_p) (row at_loop_p) (all at_loop_p) (fits at_loop_p) l.p l.k l.out l.invariant h j new in
-    elim c.if-place-out.branch [ then-place-out w ↦ with_place (omega (arith, w.if-place-out.true, l.invariant.long)) w.out-is w.k-is | else-place-out w ↦ without (omega (arith, w.if-place-out.false, l.invariant.long)) w.out-is w.k-is ]
+    let with_place = taken_yes (places at_loop_p) (many at_loop_p) (n at_loop_p) (row at_loop_p) (all at_loop_p) (fits at_loop_p) l.p l.k
+    l.out l.invariant h j new in
+    let without = taken_no (places at_loop_p) (many at_loop_p) (n at_loop_p) (row at_loop_p) (all at_loop_p) (fits at_loop_p) l.p l.k
+    l.out l.invariant h j new in
+    elim c.if-place-out.branch [
+      | then-place-out w ↦ with_place (omega (arith, w.if-place-out.true, l.invariant.long)) w.out-is w.k-is
+      | else-place-out w ↦ without (omega (arith, w.if-place-out.false, l.invariant.long)) w.out-is w.k-is
+    ]
 
 pub shape_of-out : goal.shape_of-out
 shape_of-out c = c.loop-p.invariant.long
@@ -121,4 +136,5 @@ pub returns : goal.returns
 returns c =
     let at_loop_p = (goal.at.returns c).At-loop-p in
     let l = c.loop-p in
-    taken_all (places at_loop_p) (many at_loop_p) (n at_loop_p) (row at_loop_p) (all at_loop_p) (fits at_loop_p) l.p l.k l.out l.invariant c.loop-p-test.false
+    taken_all (places at_loop_p) (many at_loop_p) (n at_loop_p) (row at_loop_p) (all at_loop_p) (fits at_loop_p) l.p l.k l.out l.invariant
+    c.loop-p-test.false

@@ -74,7 +74,12 @@ slice_bounds-keep_row-count c = omega arith
 pub keep_row-requires : goal.keep_row-requires
 keep_row-requires c =
     let in_loop_r = (goal.at.keep_row-requires c).In-loop-r in
-    let a = (start in_loop_r).args in record { shuffle = shuffle_there a.shuffles.now a.n a.rows (r in_loop_r) (all in_loop_r) c.loop-r-test.true; places_len = (start in_loop_r).requires.places_len; n_value = ap (λ m. count (λ i. ltb (get_or a.places.now i 0) m) a.n) (as_long in_loop_r) ∙ (start in_loop_r).requires.n_value ∙ sym (as_long in_loop_r) }
+    let a = (start in_loop_r).args in record {
+      shuffle = shuffle_there a.shuffles.now a.n a.rows (r in_loop_r) (all in_loop_r) c.loop-r-test.true;
+      places_len = (start in_loop_r).requires.places_len;
+      n_value = ap (λ m. count (λ i. ltb (get_or a.places.now i 0) m) a.n) (as_long in_loop_r) ∙ (start in_loop_r).requires.n_value ∙ sym
+          (as_long in_loop_r);
+    }
 
 pub overflow_add-r : goal.overflow_add-r
 overflow_add-r c = omega (arith, c.loop-r-test.true, (all ((goal.at.overflow_add-r c).In-loop-r)).few)
@@ -89,8 +94,10 @@ loop-r-preserved c =
     let written = as_written in_loop_r _ c.keep_row.ensures in (
       omega (arith, c.loop-r-test.true),
       (
-        row_length (placed in_loop_r (many in_loop_r)) (many in_loop_r) (r in_loop_r) (out in_loop_r) _ (row in_loop_r).there l.invariant.1.1 written ∙ l.invariant.1.0,
-        row_written (placed in_loop_r (many in_loop_r)) (many in_loop_r) (r in_loop_r) (out in_loop_r) _ (row in_loop_r).there l.invariant.1.1 written,
+        row_length (placed in_loop_r (many in_loop_r)) (many in_loop_r) (r in_loop_r) (out in_loop_r) _ (row in_loop_r).there
+            l.invariant.1.1 written ∙ l.invariant.1.0,
+        row_written (placed in_loop_r (many in_loop_r)) (many in_loop_r) (r in_loop_r) (out in_loop_r) _ (row in_loop_r).there
+            l.invariant.1.1 written,
       ),
     )
 

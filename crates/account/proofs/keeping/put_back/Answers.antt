@@ -40,8 +40,10 @@ value c =
     let numbers = c.args.numbers.now in
     let place = get_or c.args.places.now c.loop-i.i 0 in
     elim c.if-place-numbers.branch [
-      | then-place-numbers w ↦ w.number-is ∙ to_z-of_z w64 (at numbers place) (record { sfits = w.number-1.given }) ∙ sym (ap (λ t. cond t (at numbers place) (pos 0)) (lt-ltb place (length numbers) w.if-place-numbers.true))
-      | else-place-numbers w ↦ w.number-is ∙ sym (ap (λ t. cond t (at numbers place) (pos 0)) (le-ltb place (length numbers) w.if-place-numbers.false))
+      | then-place-numbers w ↦ w.number-is ∙ to_z-of_z w64 (at numbers place) (record { sfits = w.number-1.given }) ∙ sym (ap (λ t. cond t
+          (at numbers place) (pos 0)) (lt-ltb place (length numbers) w.if-place-numbers.true))
+      | else-place-numbers w ↦ w.number-is ∙ sym (ap (λ t. cond t (at numbers place) (pos 0)) (le-ltb place (length numbers)
+          w.if-place-numbers.false))
     ]
 
 pub offset_bounds-out-i : goal.offset_bounds-out-i

@@ -106,7 +106,8 @@ slice_bounds-put_back-count-in-loop-k c = omega arith
 pub put_back-requires : goal.put_back-requires
 put_back-requires c =
     let in_loop_k = (goal.at.put_back-requires c).In-loop-k in
-    mid_len (k in_loop_k * n in_loop_k) (k in_loop_k * n in_loop_k + n in_loop_k) c.loop-k.out (room in_loop_k) ∙ apart (k in_loop_k * n in_loop_k) (n in_loop_k)
+    mid_len (k in_loop_k * n in_loop_k) (k in_loop_k * n in_loop_k + n in_loop_k) c.loop-k.out (room in_loop_k) ∙ apart (k in_loop_k * n
+    in_loop_k) (n in_loop_k)
 
 pub overflow_add-k : goal.overflow_add-k
 overflow_add-k c = omega (arith, c.loop-k-test.true)

@@ -150,7 +150,11 @@ slice_bounds-kept_weights-end c = sym (length-take-le _ _ (room ((goal.at.slice_
 pub gather_pairs-requires : goal.gather_pairs-requires
 gather_pairs-requires c =
     let after_pair_room_weight_space = (goal.at.gather_pairs-requires c).After-pair_room-weight_space in
-    let s = begun after_pair_room_weight_space in record { zones = rising s; pairs_len = (good s).job.weighted.count; out_len = length-take-le _ _ (room after_pair_room_weight_space) }
+    let s = begun after_pair_room_weight_space in record {
+      zones = rising s;
+      pairs_len = (good s).job.weighted.count;
+      out_len = length-take-le _ _ (room after_pair_room_weight_space);
+    }
 
 pub slice_bounds-class_space-end : goal.slice_bounds-class_space-end
 slice_bounds-class_space-end c = room2 c
@@ -161,7 +165,11 @@ slice_bounds-kept_classes-end c = sym (length-take-le _ _ (room2 ((goal.at.slice
 pub gather_pairs-requires-2 : goal.gather_pairs-requires-2
 gather_pairs-requires-2 c =
     let after_pair_room_class_space = (goal.at.gather_pairs-requires-2 c).After-pair_room-class_space in
-    let s = begun2 after_pair_room_class_space in record { zones = rising s; pairs_len = (good s).count; out_len = length-take-le _ _ (room2 after_pair_room_class_space) }
+    let s = begun2 after_pair_room_class_space in record {
+      zones = rising s;
+      pairs_len = (good s).count;
+      out_len = length-take-le _ _ (room2 after_pair_room_class_space);
+    }
 
 pub overflow_mul-nine : goal.overflow_mul-nine
 overflow_mul-nine c = omega (arith, nine_most (start ((goal.at.overflow_mul-nine c).After-gather_pairs-2)))
@@ -181,7 +189,12 @@ slice_bounds-kept_locals-end c = sym (length-take-le _ _ (most (start ((goal.at.
 pub zone_classes-sums-requires : goal.zone_classes-sums-requires
 zone_classes-sums-requires c =
     let after_gather_pairs = (goal.at.zone_classes-sums-requires c).After-gather_pairs-2 in
-    let s = start after_gather_pairs in record { class_job = gathered_job (n s) (values s) (weights s) (classes s) (kept after_gather_pairs) (good s); rows_len = s.requires.rows_len; class_locals_len = length-take-le _ _ (nine_most s); locals_len = length-take-le _ _ (most s) }
+    let s = start after_gather_pairs in record {
+      class_job = gathered_job (n s) (values s) (weights s) (classes s) (kept after_gather_pairs) (good s);
+      rows_len = s.requires.rows_len;
+      class_locals_len = length-take-le _ _ (nine_most s);
+      locals_len = length-take-le _ _ (most s);
+    }
 
 pub slice_bounds-place_space-end : goal.slice_bounds-place_space-end
 slice_bounds-place_space-end c =
@@ -194,12 +207,20 @@ slice_bounds-places-end c =
     sym (length-take-le _ _ (good s).job.valued.zones)
 
 pub find_places-requires : goal.find_places-requires
-find_places-requires c = let s = start (from_work ((goal.at.find_places-requires c).After-zone_classes-sums)) in record { zones = rising s; places_len = length-take-le _ _ (good s).job.valued.zones }
+find_places-requires c = let s = start (from_work ((goal.at.find_places-requires c).After-zone_classes-sums)) in record {
+  zones = rising s;
+  places_len = length-take-le _ _ (good s).job.valued.zones;
+}
 
 pub put_back_rows-requires : goal.put_back_rows-requires
 put_back_rows-requires c =
     let after_find_places = (goal.at.put_back_rows-requires c).After-find_places in
-    let s = entry after_find_places in record { places_len_bound = omega (arith, placed after_find_places, (good s).job.valued.zones); many_bound = most s; numbers_len = (work after_find_places).zone_classes-sums.auto.class_locals ∙ length-take-le _ _ (nine_most s); out_len = s.requires.class_locals_len ∙ ap (λ t. 9 * t) (sym (placed after_find_places)) }
+    let s = entry after_find_places in record {
+      places_len_bound = omega (arith, placed after_find_places, (good s).job.valued.zones);
+      many_bound = most s;
+      numbers_len = (work after_find_places).zone_classes-sums.auto.class_locals ∙ length-take-le _ _ (nine_most s);
+      out_len = s.requires.class_locals_len ∙ ap (λ t. 9 * t) (sym (placed after_find_places));
+    }
 
 pub put_back-requires : goal.put_back-requires
 put_back-requires c =

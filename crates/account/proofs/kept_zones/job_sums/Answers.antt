@@ -11,4 +11,7 @@ returns-then-zones-n c =
     let weights = c.args.weights.now in
     let all = sym (zones_count n weights c.args.zones.now c.requires.zones_value) ∙ c.if-zones-n.true in
     let valued = c.requires.job.valued.near.count in
-    let weighted = c.requires.job.weighted.count in record { result_value = c.zone_sums.ensures.result_value ∙ sym (all_figures n values weights all valued weighted); locals_after = c.zone_sums.ensures.locals_after ∙ sym (all_locals n values weights all valued weighted) }
+    let weighted = c.requires.job.weighted.count in record {
+      result_value = c.zone_sums.ensures.result_value ∙ sym (all_figures n values weights all valued weighted);
+      locals_after = c.zone_sums.ensures.locals_after ∙ sym (all_locals n values weights all valued weighted);
+    }

@@ -64,7 +64,10 @@ slice_bounds-kept_values-end c = sym (length-take-le _ _ (few ((goal.at.slice_bo
 pub gather_values-requires : goal.gather_values-requires
 gather_values-requires c =
     let start = (goal.at.gather_values-requires c).Start in
-    record { zones = zones_rise_in (n start) (weights start) (zones start) c.requires.zones_value (values start) (job start); out_len = length-take-le _ _ (few start) }
+    record {
+      zones = zones_rise_in (n start) (weights start) (zones start) c.requires.zones_value (values start) (job start);
+      out_len = length-take-le _ _ (few start);
+    }
 
 -- the array has room for the pairs of the kept zones
 module _ (c : After-pair_room-weight_space) where
@@ -83,7 +86,11 @@ slice_bounds-kept_weights-end c = sym (length-take-le _ _ (pairs_there ((goal.at
 pub gather_pairs-requires : goal.gather_pairs-requires
 gather_pairs-requires c =
     let after_pair_room_weight_space = (goal.at.gather_pairs-requires c).After-pair_room-weight_space in
-    let s = start after_pair_room_weight_space in record { zones = rise s; pairs_len = (job s).weighted.count; out_len = length-take-le _ _ (pairs_there after_pair_room_weight_space) }
+    let s = start after_pair_room_weight_space in record {
+      zones = rise s;
+      pairs_len = (job s).weighted.count;
+      out_len = length-take-le _ _ (pairs_there after_pair_room_weight_space);
+    }
 
 -- what is gathered
 module _ (c : After-gather_pairs) where
@@ -111,7 +118,10 @@ pub slice_bounds-places-end : goal.slice_bounds-places-end
 slice_bounds-places-end c = sym (length-take-le _ _ (most (begun ((goal.at.slice_bounds-places-end c).After-gather_pairs))))
 
 pub find_places-requires : goal.find_places-requires
-find_places-requires c = let s = begun ((goal.at.find_places-requires c).After-gather_pairs) in record { zones = rise s; places_len = length-take-le _ _ (most s) }
+find_places-requires c = let s = begun ((goal.at.find_places-requires c).After-gather_pairs) in record {
+  zones = rise s;
+  places_len = length-take-le _ _ (most s);
+}
 
 -- back from the places to what is gathered
 abbrev from_places : After-find_places → After-gather_pairs
@@ -135,14 +145,20 @@ pub slice_bounds-shuffle_space-end : goal.slice_bounds-shuffle_space-end
 slice_bounds-shuffle_space-end c = numbers_there c
 
 pub slice_bounds-kept_shuffles-end : goal.slice_bounds-kept_shuffles-end
-slice_bounds-kept_shuffles-end c = sym (length-take-le _ _ (numbers_there ((goal.at.slice_bounds-kept_shuffles-end c).After-shuffle_room-shuffle_space)))
+slice_bounds-kept_shuffles-end c = sym (length-take-le _ _ (numbers_there ((goal.at.slice_bounds-kept_shuffles-end
+    c).After-shuffle_room-shuffle_space)))
 
 pub keep_rows-requires : goal.keep_rows-requires
 keep_rows-requires c =
     let after_shuffle_room_shuffle_space = (goal.at.keep_rows-requires c).After-shuffle_room-shuffle_space in
     let s = first after_shuffle_room_shuffle_space in
     let e = s.requires.zones_value in
-    let told = (found after_shuffle_room_shuffle_space).find_places.ensures in record { shuffles = all s; places_len = places_long (n s) (weights s) (zones s) e _ told; n_value = places_count (n s) (weights s) (zones s) e s.args.rows (shuffles s) (all s) _ told; out_len = length-take-le _ _ (numbers_there after_shuffle_room_shuffle_space) }
+    let told = (found after_shuffle_room_shuffle_space).find_places.ensures in record {
+      shuffles = all s;
+      places_len = places_long (n s) (weights s) (zones s) e _ told;
+      n_value = places_count (n s) (weights s) (zones s) e s.args.rows (shuffles s) (all s) _ told;
+      out_len = length-take-le _ _ (numbers_there after_shuffle_room_shuffle_space);
+    }
 
 -- the shuffles of the kept zones
 module _ (c : After-keep_rows) where

@@ -54,7 +54,10 @@ slice_bounds-kept_values-end c = sym (length-take-le _ _ (few ((goal.at.slice_bo
 pub gather_values-requires : goal.gather_values-requires
 gather_values-requires c =
     let start = (goal.at.gather_values-requires c).Start in
-    record { zones = zones_rise_in (n start) (weights start) (zones start) c.requires.zones_value (values start) (job start); out_len = length-take-le _ _ (few start) }
+    record {
+      zones = zones_rise_in (n start) (weights start) (zones start) c.requires.zones_value (values start) (job start);
+      out_len = length-take-le _ _ (few start);
+    }
 
 -- the array has room for the pairs of the kept zones
 module _ (c : After-pair_room-weight_space) where
@@ -73,7 +76,11 @@ slice_bounds-kept_weights-end c = sym (length-take-le _ _ (pairs_there ((goal.at
 pub gather_pairs-requires : goal.gather_pairs-requires
 gather_pairs-requires c =
     let after_pair_room_weight_space = (goal.at.gather_pairs-requires c).After-pair_room-weight_space in
-    let s = start after_pair_room_weight_space in record { zones = rise s; pairs_len = (job s).weighted.count; out_len = length-take-le _ _ (pairs_there after_pair_room_weight_space) }
+    let s = start after_pair_room_weight_space in record {
+      zones = rise s;
+      pairs_len = (job s).weighted.count;
+      out_len = length-take-le _ _ (pairs_there after_pair_room_weight_space);
+    }
 
 -- what is gathered
 module _ (c : After-gather_pairs) where
@@ -116,7 +123,10 @@ pub slice_bounds-places-end : goal.slice_bounds-places-end
 slice_bounds-places-end c = sym (length-take-le _ _ (most (begun (from_sums ((goal.at.slice_bounds-places-end c).After-zone_sums-sums)))))
 
 pub find_places-requires : goal.find_places-requires
-find_places-requires c = let s = begun (from_sums ((goal.at.find_places-requires c).After-zone_sums-sums)) in record { zones = rise s; places_len = length-take-le _ _ (most s) }
+find_places-requires c = let s = begun (from_sums ((goal.at.find_places-requires c).After-zone_sums-sums)) in record {
+  zones = rise s;
+  places_len = length-take-le _ _ (most s);
+}
 
 -- back from the places to the sums
 abbrev from_places : After-find_places → After-zone_sums-sums

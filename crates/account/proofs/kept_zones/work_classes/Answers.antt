@@ -49,16 +49,43 @@ abbrev start : Then-zones-n → Start
 start c = ((goal.at.Then-zones-n c).Start)
 
 pub zone_classes-requires : goal.zone_classes-requires
-zone_classes-requires c = let p = (start ((goal.at.zone_classes-requires c).Then-zones-n)).requires in record { class_job = p.class_job; rows_len = p.rows_len; class_locals_len = p.class_locals_len; locals_len = p.locals_len }
+zone_classes-requires c = let p = (start ((goal.at.zone_classes-requires c).Then-zones-n)).requires in record {
+  class_job = p.class_job;
+  rows_len = p.rows_len;
+  class_locals_len = p.class_locals_len;
+  locals_len = p.locals_len;
+}
 
 pub returns-then-zones-n : goal.returns-then-zones-n
 returns-then-zones-n c =
     let s = start ((goal.at.returns-then-zones-n c).Then-zones-n) in
     let a = s.args in let all = as_kept a.n a.values.now a.weights.now a.classes.now s.requires.class_job a.zones.now s.requires.zones_value
-    c.if-zones-n.true (c.zone_classes.ensures.result_value, (c.zone_classes.ensures.rows_after, (c.zone_classes.ensures.class_locals_after, c.zone_classes.ensures.locals_after))) in record { result_value = all.0; rows_after = all.1.0; class_locals_after = all.1.1.0; locals_after = all.1.1.1 }
+    c.if-zones-n.true (
+      c.zone_classes.ensures.result_value,
+      (
+        c.zone_classes.ensures.rows_after,
+        (c.zone_classes.ensures.class_locals_after, c.zone_classes.ensures.locals_after),
+      ),
+    ) in record {
+      result_value = all.0;
+      rows_after = all.1.0;
+      class_locals_after = all.1.1.0;
+      locals_after = all.1.1.1;
+    }
 
 pub classes_of_kept-requires : goal.classes_of_kept-requires
-classes_of_kept-requires c = record { class_job = c.requires.class_job; zones_value = c.requires.zones_value; rows_len = c.requires.rows_len; class_locals_len = c.requires.class_locals_len; locals_len = c.requires.locals_len }
+classes_of_kept-requires c = record {
+  class_job = c.requires.class_job;
+  zones_value = c.requires.zones_value;
+  rows_len = c.requires.rows_len;
+  class_locals_len = c.requires.class_locals_len;
+  locals_len = c.requires.locals_len;
+}
 
 pub returns : goal.returns
-returns c = record { result_value = c.classes_of_kept.ensures.result_value; rows_after = c.classes_of_kept.ensures.rows_after; class_locals_after = c.classes_of_kept.ensures.class_locals_after; locals_after = c.classes_of_kept.ensures.locals_after }
+returns c = record {
+  result_value = c.classes_of_kept.ensures.result_value;
+  rows_after = c.classes_of_kept.ensures.rows_after;
+  class_locals_after = c.classes_of_kept.ensures.class_locals_after;
+  locals_after = c.classes_of_kept.ensures.locals_after;
+}

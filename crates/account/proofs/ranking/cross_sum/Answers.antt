@@ -1,4 +1,4 @@
--- `cross_sum` meets its contract. The loop's invariant: the accumulator's bits are those of the sum of the local numerators passed.
+-- `cross_sum` meets its contract. The loop's invariant: the accumulator is the sum of the local numerators passed.
 -- Assumes nothing.
 use mathlib.Core.Path.{◌∙◌}
 use Prim.Native.Nat.{◌+◌}
@@ -33,7 +33,8 @@ module _ (c : After-deviation-1) where
       Is (to_z w64 b.loop-i.acc-bits +ℤ r64 (r64 (at a.args.d.now b.loop-i.i) *ℤ r64 c.neighbour_sum-neighbours.result))
       (sum (local_of (pair_at a.args.weights.now a.args.n) (at a.args.d.now) a.args.n) (b.loop-i.i + 1))
       6039797760000000000
-  turn = running_more (cross_runs _ _ a.requires.weighted _ a.requires.sized) b.loop-i.i (to_z w64 b.loop-i.acc-bits) (omega arith) b.loop-i.invariant.1 (rd w64 local tt)
+  turn = running_more (cross_runs _ _ a.requires.weighted _ a.requires.sized) b.loop-i.i (to_z w64 b.loop-i.acc-bits) (omega arith)
+      b.loop-i.invariant.1 (rd w64 local tt)
 
 pub loop-i-init : goal.loop-i-init
 loop-i-init c = (omega arith, running_none _)

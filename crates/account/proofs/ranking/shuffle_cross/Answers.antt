@@ -48,26 +48,38 @@ pub slice_bounds-shuffle_deviations-end : goal.slice_bounds-shuffle_deviations-e
 slice_bounds-shuffle_deviations-end c = sym (length-take-le _ _ c.requires.weighted.zones)
 
 pub shuffle_deviations-requires : goal.shuffle_deviations-requires
-shuffle_deviations-requires c = record { d_len = c.requires.sized.count; moved_len = length-take-le _ _ c.requires.weighted.zones; shuffle = c.requires.shuffle }
+shuffle_deviations-requires c = record {
+  d_len = c.requires.sized.count;
+  moved_len = length-take-le _ _ c.requires.weighted.zones;
+  shuffle = c.requires.shuffle;
+}
 
 pub slice_bounds-moved-end-2 : goal.slice_bounds-moved-end-2
 slice_bounds-moved-end-2 c =
     let after_shuffle_deviations = (goal.at.slice_bounds-moved-end-2 c).After-shuffle_deviations in
-    front_le {A = ℤ} _ _ (table (moved after_shuffle_deviations) (n after_shuffle_deviations)) _ c.shuffle_deviations.ensures (as_long after_shuffle_deviations)
+    front_le {A = ℤ} _ _ (table (moved after_shuffle_deviations) (n after_shuffle_deviations)) _ c.shuffle_deviations.ensures (as_long
+    after_shuffle_deviations)
 
 pub slice_bounds-cross_sum-end : goal.slice_bounds-cross_sum-end
 slice_bounds-cross_sum-end c =
     let after_shuffle_deviations = (goal.at.slice_bounds-cross_sum-end c).After-shuffle_deviations in
-    front_length {A = ℤ} _ _ (table (moved after_shuffle_deviations) (n after_shuffle_deviations)) _ c.shuffle_deviations.ensures (as_long after_shuffle_deviations)
+    front_length {A = ℤ} _ _ (table (moved after_shuffle_deviations) (n after_shuffle_deviations)) _ c.shuffle_deviations.ensures (as_long
+    after_shuffle_deviations)
 
 pub cross_sum-requires : goal.cross_sum-requires
 cross_sum-requires c =
     let after_shuffle_deviations = (goal.at.cross_sum-requires c).After-shuffle_deviations in
-    record { weighted = (a after_shuffle_deviations).requires.weighted; sized = sized after_shuffle_deviations _ (front {A = ℤ} _ _ (table (moved after_shuffle_deviations) (n after_shuffle_deviations)) _ c.shuffle_deviations.ensures (as_long after_shuffle_deviations)) }
+    record {
+      weighted = (a after_shuffle_deviations).requires.weighted;
+      sized = sized after_shuffle_deviations _ (front {A = ℤ} _ _ (table (moved after_shuffle_deviations) (n after_shuffle_deviations)) _
+          c.shuffle_deviations.ensures (as_long after_shuffle_deviations));
+    }
 
 pub returns : goal.returns
 returns c =
     let after_shuffle_deviations = (goal.at.returns c).After-shuffle_deviations in
-    let e = same after_shuffle_deviations _ (front {A = ℤ} _ _ (table (moved after_shuffle_deviations) (n after_shuffle_deviations)) _ c.shuffle_deviations.ensures (as_long after_shuffle_deviations)) in
+    let e = same after_shuffle_deviations _ (front {A = ℤ} _ _ (table (moved after_shuffle_deviations) (n after_shuffle_deviations)) _
+    c.shuffle_deviations.ensures (as_long after_shuffle_deviations)) in
     let w = (a after_shuffle_deviations).requires in
-    (rd w64 (deviations_cross_told _ _ w.weighted (moved after_shuffle_deviations) (shuffled_size _ _ _ _ _ w.sized w.shuffle) (c.cross_sum.ensures ∙ e)) tt).same
+    (rd w64 (deviations_cross_told _ _ w.weighted (moved after_shuffle_deviations) (shuffled_size _ _ _ _ _ w.sized w.shuffle)
+    (c.cross_sum.ensures ∙ e)) tt).same

@@ -61,7 +61,11 @@ pub loop-r-init : goal.loop-r-init
 loop-r-init c = (omega arith, none_yet _ _)
 
 pub shuffle_cross-cross-requires : goal.shuffle_cross-cross-requires
-shuffle_cross-cross-requires c = record { weighted = c.requires.weighted; sized = c.requires.sized; shuffle = shuffle_there _ _ _ _ c.requires.shuffles c.loop-r-test.true }
+shuffle_cross-cross-requires c = record {
+  weighted = c.requires.weighted;
+  sized = c.requires.sized;
+  shuffle = shuffle_there _ _ _ _ c.requires.shuffles c.loop-r-test.true;
+}
 
 pub overflow_add-less : goal.overflow_add-less
 overflow_add-less c = omega (arith, (small ((goal.at.overflow_add-less c).After-shuffle_cross-cross)).0)
@@ -84,9 +88,13 @@ loop-r-preserved c =
     let t = (b after_shuffle_cross_cross).loop-r.invariant.1 in (
       omega arith,
       elim c.if-cross-own.branch [
-        | then-cross-own w ↦ rw (w.less-is, w.equal-is, w.greater-is) (one_less (numbers after_shuffle_cross_cross) (own after_shuffle_cross_cross) t (less after_shuffle_cross_cross _ w.if-cross-own.true))
-        | else-cross-own+then-own-cross w ↦ rw (w.less-is, w.equal-is, w.greater-is) (one_greater (numbers after_shuffle_cross_cross) (own after_shuffle_cross_cross) t (more after_shuffle_cross_cross _ w.if-own-cross.true))
-        | else-cross-own+else-own-cross w ↦ rw (w.less-is, w.equal-is, w.greater-is) (one_equal (numbers after_shuffle_cross_cross) (own after_shuffle_cross_cross) t (less after_shuffle_cross_cross _ w.if-cross-own.false) (more after_shuffle_cross_cross _ w.if-own-cross.false))
+        | then-cross-own w ↦ rw (w.less-is, w.equal-is, w.greater-is) (one_less (numbers after_shuffle_cross_cross) (own
+            after_shuffle_cross_cross) t (less after_shuffle_cross_cross _ w.if-cross-own.true))
+        | else-cross-own+then-own-cross w ↦ rw (w.less-is, w.equal-is, w.greater-is) (one_greater (numbers after_shuffle_cross_cross) (own
+            after_shuffle_cross_cross) t (more after_shuffle_cross_cross _ w.if-own-cross.true))
+        | else-cross-own+else-own-cross w ↦ rw (w.less-is, w.equal-is, w.greater-is) (one_equal (numbers after_shuffle_cross_cross) (own
+            after_shuffle_cross_cross) t (less after_shuffle_cross_cross _ w.if-cross-own.false) (more after_shuffle_cross_cross _
+            w.if-own-cross.false))
       ],
     )
 

@@ -54,7 +54,11 @@ slice_bounds-deviations-end c = sym (length-take-le _ _ c.requires.job.valued.zo
 
 pub deviations-requires : goal.deviations-requires
 deviations-requires c =
-    let v = c.requires.job.valued in record { valued = v; total_value = (rd w64 (total_told _ _ v c.total-total.ensures) tt).same; d_len = length-take-le _ _ v.zones }
+    let v = c.requires.job.valued in record {
+      valued = v;
+      total_value = (rd w64 (total_told _ _ v c.total-total.ensures) tt).same;
+      d_len = length-take-le _ _ v.zones;
+    }
 
 pub slice_bounds-d-end-2 : goal.slice_bounds-d-end-2
 slice_bounds-d-end-2 c =
@@ -70,7 +74,11 @@ pub tally-requires : goal.tally-requires
 tally-requires c =
     let after_deviations = (goal.at.tally-requires c).After-deviations in
     let w = (a after_deviations).requires in
-    let d = front {A = ℤ} _ _ (expected after_deviations) _ c.deviations.ensures (as_long after_deviations) in record { weighted = w.job.weighted; sized = deviations_sized _ _ _ w.job.valued d; shuffles = w.shuffles }
+    let d = front {A = ℤ} _ _ (expected after_deviations) _ c.deviations.ensures (as_long after_deviations) in record {
+      weighted = w.job.weighted;
+      sized = deviations_sized _ _ _ w.job.valued d;
+      shuffles = w.shuffles;
+    }
 
 pub returns : goal.returns
 unfolding zones_rank

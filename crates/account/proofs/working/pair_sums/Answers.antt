@@ -28,10 +28,17 @@ held c = locals_are _ _ _ c.requires.job _ _ c.requires.d_value c.local_numerato
 
 pub local_numerators-requires : goal.local_numerators-requires
 local_numerators-requires c =
-    let r = c.requires.job in record { weighted = r.weighted; sized = deviations_sized _ _ _ r.valued c.requires.d_value; locals_len = c.requires.locals_len }
+    let r = c.requires.job in record {
+      weighted = r.weighted;
+      sized = deviations_sized _ _ _ r.valued c.requires.d_value;
+      locals_len = c.requires.locals_len;
+    }
 
 pub sum_of-cross-requires : goal.sum_of-cross-requires
-sum_of-cross-requires c = record { n_bound = c.requires.job.valued.zones; sized = locals_sized _ _ _ c.requires.job _ (held ((goal.at.sum_of-cross-requires c).After-local_numerators)) }
+sum_of-cross-requires c = record {
+  n_bound = c.requires.job.valued.zones;
+  sized = locals_sized _ _ _ c.requires.job _ (held ((goal.at.sum_of-cross-requires c).After-local_numerators));
+}
 
 pub returns : goal.returns
 returns c =

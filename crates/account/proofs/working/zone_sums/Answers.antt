@@ -55,7 +55,11 @@ slice_bounds-deviations-end c = sym (length-take-le _ _ c.requires.job.valued.zo
 
 pub deviations-requires : goal.deviations-requires
 deviations-requires c =
-    let v = c.requires.job.valued in record { valued = v; total_value = summed ((goal.at.deviations-requires c).After-total-total); d_len = length-take-le _ _ v.zones }
+    let v = c.requires.job.valued in record {
+      valued = v;
+      total_value = summed ((goal.at.deviations-requires c).After-total-total);
+      d_len = length-take-le _ _ v.zones;
+    }
 
 pub slice_bounds-d-end-2 : goal.slice_bounds-d-end-2
 slice_bounds-d-end-2 c =
@@ -70,7 +74,11 @@ slice_bounds-pair_sums-end c =
 pub pair_sums-pairs-requires : goal.pair_sums-pairs-requires
 pair_sums-pairs-requires c =
     let after_deviations = (goal.at.pair_sums-pairs-requires c).After-deviations in
-    record { job = (a after_deviations).requires.job; d_value = front {A = ℤ} _ _ (expected after_deviations) _ c.deviations.ensures (as_long after_deviations); locals_len = (a after_deviations).requires.locals_len }
+    record {
+      job = (a after_deviations).requires.job;
+      d_value = front {A = ℤ} _ _ (expected after_deviations) _ c.deviations.ensures (as_long after_deviations);
+      locals_len = (a after_deviations).requires.locals_len;
+    }
 
 pub returns : goal.returns
 returns c =

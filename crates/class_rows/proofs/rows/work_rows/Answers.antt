@@ -69,7 +69,8 @@ returns-then-sizes-ne0 c =
     let b = c in
     let a = b.args in
     refused a.n a.values.now a.weights.now a.classes.now a.rows a.locals.now _ _
-    (by_sizes a.n a.values.now a.weights.now a.classes.now a.rows (length a.locals.now) _ (sizes_gave ((goal.at.returns-then-sizes-ne0 c).After-judge_sizes-sizes))
+    (by_sizes a.n a.values.now a.weights.now a.classes.now a.rows (length a.locals.now) _ (sizes_gave ((goal.at.returns-then-sizes-ne0
+    c).After-judge_sizes-sizes))
     b.if-sizes-ne0.true)
     b.if-sizes-ne0.true
     c.pack_rows.ensures.0

@@ -61,7 +61,8 @@ slice_bounds-put_figures-end c =
 pub put_figures-requires-2 : goal.put_figures-requires-2
 put_figures-requires-2 c =
     let b = first_put ((goal.at.put_figures-requires-2 c).After-put_figures) in record {
-      numerators = numerators_same (spread_read b) refl (numerators_first _ (s b).requires.parts_in_bounds (s b).requires.reportable.class_numerators);
+      numerators = numerators_same (spread_read b) refl (numerators_first _ (s b).requires.parts_in_bounds (s
+          b).requires.reportable.class_numerators);
       figures_len = sym (length-take-le _ _ (s b).requires.parts_in_bounds);
     }
 

@@ -108,7 +108,13 @@ report_job-requires c =
     let job = reportable (n b) (values b) (weights b) (classes b) [] (taken b z) _ k.1 in record {
       reportable = reportable_same (rows_left b z) (numerators_left b z) (locals_left b z) job;
       figures_len = (s b).requires.figures_fit ∙ sym (ap length (locals_left b z) ∙ job_locals_length (n b) (values b) (weights b));
-      parts_in_bounds = omega (arith, ap length (numerators_left b z), class_locals_length (n b) (values b) (weights b) (classes b), (s b).requires.parts_few);
+      parts_in_bounds = omega (
+        arith,
+        ap length (numerators_left b z),
+        class_locals_length (n b) (values b) (weights b) (classes b),
+        (s
+            b).requires.parts_few,
+      );
     }
 
 pub returns-in-Refused : goal.returns-in-Refused

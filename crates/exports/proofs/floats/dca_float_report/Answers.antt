@@ -25,7 +25,8 @@ fit e = sym e.judge_sizes-sizes.ensures ∙ e.if-sizes-ne0.false
 
 pub returns-then-sizes-ne0 : goal.returns-then-sizes-ne0
 returns-then-sizes-ne0 c =
-    let a = (start ((goal.at.returns-then-sizes-ne0 c).After-judge_sizes-sizes)).args in let all = report_by_sizes a.n a.values.now a.weights.now a.classes.now a.globals.now a.locals.now a.pairs.now
+    let a = (start ((goal.at.returns-then-sizes-ne0 c).After-judge_sizes-sizes)).args in let all = report_by_sizes a.n a.values.now
+    a.weights.now a.classes.now a.globals.now a.locals.now a.pairs.now
     a.has_pair.now
     _
     c.judge_sizes-sizes.ensures
@@ -33,14 +34,16 @@ returns-then-sizes-ne0 c =
 
 pub returns-then-pairs-ne18 : goal.returns-then-pairs-ne18
 returns-then-pairs-ne18 c =
-    let a = (start ((goal.at.returns-then-pairs-ne18 c).After-judge_sizes-sizes)).args in let all = report_by_pairs a.n a.values.now a.weights.now a.classes.now a.globals.now a.locals.now a.pairs.now
+    let a = (start ((goal.at.returns-then-pairs-ne18 c).After-judge_sizes-sizes)).args in let all = report_by_pairs a.n a.values.now
+    a.weights.now a.classes.now a.globals.now a.locals.now a.pairs.now
     a.has_pair.now
     (fit ((goal.at.returns-then-pairs-ne18 c).Else-sizes-ne0))
     c.if-pairs-ne18.true in record { number = all.0; globals = all.1.0; figures = all.1.1.0; pairs = all.1.1.1.0; having = all.1.1.1.1 }
 
 pub returns-then-has_pair-ne9 : goal.returns-then-has_pair-ne9
 returns-then-has_pair-ne9 c =
-    let a = (start ((goal.at.returns-then-has_pair-ne9 c).After-judge_sizes-sizes)).args in let all = report_by_having a.n a.values.now a.weights.now a.classes.now a.globals.now a.locals.now a.pairs.now
+    let a = (start ((goal.at.returns-then-has_pair-ne9 c).After-judge_sizes-sizes)).args in let all = report_by_having a.n a.values.now
+    a.weights.now a.classes.now a.globals.now a.locals.now a.pairs.now
     a.has_pair.now
     (fit ((goal.at.returns-then-has_pair-ne9 c).Else-sizes-ne0))
     c.if-has_pair-ne9.true in record { number = all.0; globals = all.1.0; figures = all.1.1.0; pairs = all.1.1.1.0; having = all.1.1.1.1 }
@@ -79,7 +82,11 @@ put_pair-requires c =
     let a = (start ((goal.at.Else-has_pair-ne9 e).After-judge_sizes-sizes)).args in
     let said = b.plain_report-report.ensures in record {
       k_bound = omega arith;
-      k_in_bounds = omega (arith, own_fits a.n a.values.now a.weights.now (length a.globals.now) 2 (fit ((goal.at.Else-has_pair-ne9 e).Else-sizes-ne0)));
+      k_in_bounds = omega (
+        arith,
+        own_fits a.n a.values.now a.weights.now (length a.globals.now) 2 (fit ((goal.at.Else-has_pair-ne9
+            e).Else-sizes-ne0)),
+      );
       readable_pair = pair_readable a.n a.values.now a.weights.now a.classes.now a.globals.now a.locals.now a.pairs.now
           a.has_pair.now (fit ((goal.at.Else-has_pair-ne9 e).Else-sizes-ne0)) e.if-pairs-ne18.false e.if-has_pair-ne9.false _ _ refl
           (length-take-le _ _ (zones ((goal.at.Else-has_pair-ne9 e).Else-sizes-ne0)))
@@ -104,7 +111,8 @@ returns-in-Refused c =
     let b = in_refused ((goal.at.returns-in-Refused c).In-Refused) in
     let e = tested b in
     let a = (start ((goal.at.Else-has_pair-ne9 e).After-judge_sizes-sizes)).args in
-    let said = b.plain_report-report.ensures in let all = report_by_refusal a.n a.values.now a.weights.now a.classes.now a.globals.now a.locals.now a.pairs.now
+    let said = b.plain_report-report.ensures in let all = report_by_refusal a.n a.values.now a.weights.now a.classes.now a.globals.now
+    a.locals.now a.pairs.now
     a.has_pair.now
     (fit ((goal.at.Else-has_pair-ne9 e).Else-sizes-ne0))
     e.if-pairs-ne18.false
@@ -128,7 +136,8 @@ returns-in-Reported c =
     let b = in_reported ((goal.at.returns-in-Reported c).In-Reported) in
     let e = tested b in
     let a = (start ((goal.at.Else-has_pair-ne9 e).After-judge_sizes-sizes)).args in
-    let said = b.plain_report-report.ensures in let all = report_by_pair a.n a.values.now a.weights.now a.classes.now a.globals.now a.locals.now a.pairs.now
+    let said = b.plain_report-report.ensures in let all = report_by_pair a.n a.values.now a.weights.now a.classes.now a.globals.now
+    a.locals.now a.pairs.now
     a.has_pair.now
     (fit ((goal.at.Else-has_pair-ne9 e).Else-sizes-ne0))
     e.if-pairs-ne18.false

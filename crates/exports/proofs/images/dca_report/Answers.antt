@@ -3,7 +3,11 @@ use Rattle.exports.proofs.ImageAnswers.{report_by_place, report_by_refusal, repo
 use Rattle.exports.proofs.images.dca_report.Goals as goal
 
 pub returns-then-filled-ne1 : goal.returns-then-filled-ne1
-returns-then-filled-ne1 c = let a = c.args in let all = report_by_place a.image.now a.text.now a.filled.now c.if-filled-ne1.true in record { number = all.0; text = all.1.0; filled = all.1.1 }
+returns-then-filled-ne1 c = let a = c.args in let all = report_by_place a.image.now a.text.now a.filled.now c.if-filled-ne1.true in record {
+  number = all.0;
+  text = all.1.0;
+  filled = all.1.1;
+}
 
 pub returns-in-Refused : goal.returns-in-Refused
 returns-in-Refused c =

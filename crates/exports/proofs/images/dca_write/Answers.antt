@@ -27,7 +27,8 @@ judged :
 judged b =
     b.judge_zone_count-zones.ensures ∙ ap (λ (g : Given). first_broken (zone_count_rule g.values ∷ [])) b.given-given.ensures
 
-sound : (e : Else-zones-ne0) → first_broken (zone_count_rule (given_by (start ((goal.at.Else-zones-ne0 e).After-judge_zone_count-zones)).args.counts.now).values ∷ []) ≡ 0
+sound : (e : Else-zones-ne0) → first_broken (zone_count_rule (given_by (start ((goal.at.Else-zones-ne0
+    e).After-judge_zone_count-zones)).args.counts.now).values ∷ []) ≡ 0
 sound e = sym (judged ((goal.at.Else-zones-ne0 e).After-judge_zone_count-zones)) ∙ e.if-zones-ne0.false
 
 -- the writer was given the counts

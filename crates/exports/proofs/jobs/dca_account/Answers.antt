@@ -18,7 +18,8 @@ fit e = sym e.judge_sizes-sizes.ensures ∙ e.if-sizes-ne0.false
 
 pub returns-then-sizes-ne0 : goal.returns-then-sizes-ne0
 returns-then-sizes-ne0 c =
-    let a = (start ((goal.at.returns-then-sizes-ne0 c).After-judge_sizes-sizes)).args in let all = account_by_sizes a.n a.values.now a.weights.now a.locals.now a.sums.now _ c.judge_sizes-sizes.ensures
+    let a = (start ((goal.at.returns-then-sizes-ne0 c).After-judge_sizes-sizes)).args in let all = account_by_sizes a.n a.values.now
+    a.weights.now a.locals.now a.sums.now _ c.judge_sizes-sizes.ensures
     c.if-sizes-ne0.true in record { number = all.0; locals = all.1.0; sums = all.1.1 }
 
 pub put_sums-requires : goal.put_sums-requires
@@ -35,7 +36,8 @@ put_sums-requires c =
 
 pub returns-in-Refused : goal.returns-in-Refused
 returns-in-Refused c =
-    let a = (start ((goal.at.returns-in-Refused c).After-judge_sizes-sizes)).args in let all = account_by_refusal a.n a.values.now a.weights.now a.locals.now a.sums.now (fit ((goal.at.returns-in-Refused c).Else-sizes-ne0)) _ _ c.account.ensures.number
+    let a = (start ((goal.at.returns-in-Refused c).After-judge_sizes-sizes)).args in let all = account_by_refusal a.n a.values.now
+    a.weights.now a.locals.now a.sums.now (fit ((goal.at.returns-in-Refused c).Else-sizes-ne0)) _ _ c.account.ensures.number
     c.account.ensures.figures
     c.account.ensures.lent
     _
@@ -43,7 +45,8 @@ returns-in-Refused c =
 
 pub returns-in-Accounted : goal.returns-in-Accounted
 returns-in-Accounted c =
-    let a = (start ((goal.at.returns-in-Accounted c).After-judge_sizes-sizes)).args in let all = account_by_sums a.n a.values.now a.weights.now a.locals.now a.sums.now (fit ((goal.at.returns-in-Accounted c).Else-sizes-ne0)) _ _ c.account.ensures.number
+    let a = (start ((goal.at.returns-in-Accounted c).After-judge_sizes-sizes)).args in let all = account_by_sums a.n a.values.now
+    a.weights.now a.locals.now a.sums.now (fit ((goal.at.returns-in-Accounted c).Else-sizes-ne0)) _ _ c.account.ensures.number
     c.account.ensures.figures
     c.account.ensures.lent
     _

@@ -22,7 +22,8 @@ zones e =
 
 pub returns-then-sizes-ne0 : goal.returns-then-sizes-ne0
 returns-then-sizes-ne0 c =
-    let a = (start ((goal.at.returns-then-sizes-ne0 c).After-judge_sizes-sizes)).args in let all = class_by_sizes a.n a.values.now a.weights.now a.classes.now a.rows.now a.class_locals.now _
+    let a = (start ((goal.at.returns-then-sizes-ne0 c).After-judge_sizes-sizes)).args in let all = class_by_sizes a.n a.values.now
+    a.weights.now a.classes.now a.rows.now a.class_locals.now _
     c.judge_sizes-sizes.ensures c.if-sizes-ne0.true in record { number = all.0; rows = all.1.0; numerators = all.1.1 }
 
 pub slice_bounds-space-end : goal.slice_bounds-space-end
@@ -38,10 +39,20 @@ pub returns-in-Refused : goal.returns-in-Refused
 returns-in-Refused c =
     let a = (start ((goal.at.returns-in-Refused c).After-judge_sizes-sizes)).args in
     let said = c.class_account.ensures in let all = class_by_refusal a.n a.values.now a.weights.now a.classes.now a.rows.now a.class_locals.now _
-    (length-take-le _ _ (zones ((goal.at.returns-in-Refused c).Else-sizes-ne0))) _ _ _ said.number said.figures said.rows said.numerators _ c.in-Refused.is in record { number = all.0; rows = all.1.0; numerators = all.1.1 }
+    (length-take-le _ _ (zones ((goal.at.returns-in-Refused c).Else-sizes-ne0))) _ _ _ said.number said.figures said.rows said.numerators
+    _ c.in-Refused.is in record {
+      number = all.0;
+      rows = all.1.0;
+      numerators = all.1.1;
+    }
 
 pub returns-in-Accounted : goal.returns-in-Accounted
 returns-in-Accounted c =
     let a = (start ((goal.at.returns-in-Accounted c).After-judge_sizes-sizes)).args in
     let said = c.class_account.ensures in let all = class_by_sums a.n a.values.now a.weights.now a.classes.now a.rows.now a.class_locals.now _
-    (length-take-le _ _ (zones ((goal.at.returns-in-Accounted c).Else-sizes-ne0))) _ _ _ said.number said.figures said.rows said.numerators _ c.in-Accounted.is in record { number = all.0; rows = all.1.0; numerators = all.1.1 }
+    (length-take-le _ _ (zones ((goal.at.returns-in-Accounted c).Else-sizes-ne0))) _ _ _ said.number said.figures said.rows
+    said.numerators _ c.in-Accounted.is in record {
+      number = all.0;
+      rows = all.1.0;
+      numerators = all.1.1;
+    }

@@ -18,7 +18,8 @@ fit e = sym e.judge_sizes-sizes.ensures ∙ e.if-sizes-ne0.false
 
 pub returns-then-sizes-ne0 : goal.returns-then-sizes-ne0
 returns-then-sizes-ne0 c =
-    let a = (start ((goal.at.returns-then-sizes-ne0 c).After-judge_sizes-sizes)).args in let all = rank_by_sizes a.n a.values.now a.weights.now a.shuffles.now a.counts.now _ c.judge_sizes-sizes.ensures
+    let a = (start ((goal.at.returns-then-sizes-ne0 c).After-judge_sizes-sizes)).args in let all = rank_by_sizes a.n a.values.now
+    a.weights.now a.shuffles.now a.counts.now _ c.judge_sizes-sizes.ensures
     c.if-sizes-ne0.true in record { number = all.0; lent = all.1 }
 
 pub put_rank-requires : goal.put_rank-requires
@@ -28,14 +29,16 @@ put_rank-requires c =
 
 pub returns-in-Refused : goal.returns-in-Refused
 returns-in-Refused c =
-    let a = (start ((goal.at.returns-in-Refused c).After-judge_sizes-sizes)).args in let all = rank_by_refusal a.n a.values.now a.weights.now a.shuffles.now a.counts.now (fit ((goal.at.returns-in-Refused c).Else-sizes-ne0)) _ c.rank.ensures.number
+    let a = (start ((goal.at.returns-in-Refused c).After-judge_sizes-sizes)).args in let all = rank_by_refusal a.n a.values.now
+    a.weights.now a.shuffles.now a.counts.now (fit ((goal.at.returns-in-Refused c).Else-sizes-ne0)) _ c.rank.ensures.number
     c.rank.ensures.counts
     _
     c.in-Refused.is in record { number = all.0; lent = all.1 }
 
 pub returns-in-Counted : goal.returns-in-Counted
 returns-in-Counted c =
-    let a = (start ((goal.at.returns-in-Counted c).After-judge_sizes-sizes)).args in let all = rank_by_counts a.n a.values.now a.weights.now a.shuffles.now a.counts.now (fit ((goal.at.returns-in-Counted c).Else-sizes-ne0)) _ c.rank.ensures.number
+    let a = (start ((goal.at.returns-in-Counted c).After-judge_sizes-sizes)).args in let all = rank_by_counts a.n a.values.now
+    a.weights.now a.shuffles.now a.counts.now (fit ((goal.at.returns-in-Counted c).Else-sizes-ne0)) _ c.rank.ensures.number
     c.rank.ensures.counts
     _
     _

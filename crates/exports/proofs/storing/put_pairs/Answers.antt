@@ -24,7 +24,11 @@ pub put_pair-requires : goal.put_pair-requires
 put_pair-requires c =
     let l = c.loop-k in
     let inside = c.loop-k-test.true in
-    let here : l.k < length c.args.pairs = omega (arith, inside, c.well_formed.1.0.1) in record { k_bound = inside; k_in_bounds = omega (arith, inside, l.invariant.count); readable_pair = subst ReadablePair (sym (there c.args.pairs l.k _ no_pair here)) (c.requires.readable_pairs l.k here) }
+    let here : l.k < length c.args.pairs = omega (arith, inside, c.well_formed.1.0.1) in record {
+      k_bound = inside;
+      k_in_bounds = omega (arith, inside, l.invariant.count);
+      readable_pair = subst ReadablePair (sym (there c.args.pairs l.k _ no_pair here)) (c.requires.readable_pairs l.k here);
+    }
 
 pub overflow_add-k : goal.overflow_add-k
 overflow_add-k c = omega (arith, c.loop-k-test.true)

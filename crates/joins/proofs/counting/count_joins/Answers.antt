@@ -67,7 +67,8 @@ module _ (c : In-loop-p) where
       is_+
       (rd w64
       (val so_far 36864
-      (entry_size (n start) (categories start) (weights start) _ p entry start.requires.weights_value start.requires.weights_len start.requires.n_bound
+      (entry_size (n start) (categories start) (weights start) _ p entry start.requires.weights_value start.requires.weights_len
+      start.requires.n_bound
       c.loop-p.invariant entry_low))
       tt)
       (nat w64 (get_or (weights start) p 0) 9 light tt)

@@ -29,12 +29,14 @@ module _ (c : After-judge_sizes-sizes) where
       ∷ []
 
 -- where the sizes are good, the rest decides
-then_rest : (c : Else-sizes-ne0) (r : ℕ) → r ≡ first_broken (rest ((goal.at.Else-sizes-ne0 c).After-judge_sizes-sizes)) → let g = (a ((goal.at.Else-sizes-ne0 c).After-judge_sizes-sizes)).args in
+then_rest : (c : Else-sizes-ne0) (r : ℕ) → r ≡ first_broken (rest ((goal.at.Else-sizes-ne0 c).After-judge_sizes-sizes)) → let g = (a
+    ((goal.at.Else-sizes-ne0 c).After-judge_sizes-sizes)).args in
     r ≡ join_refusal g.n g.categories.now g.weights.now g.table
 unfolding join_refusal join_rules
 then_rest c r e =
     let after_judge_sizes_sizes = (goal.at.Else-sizes-ne0 c).After-judge_sizes-sizes in
-    e ∙ first_next (rest after_judge_sizes_sizes) 0 (sizes after_judge_sizes_sizes) (tt, (tt, tt)) (sym c.judge_sizes-sizes.ensures ∙ c.if-sizes-ne0.false)
+    e ∙ first_next (rest after_judge_sizes_sizes) 0 (sizes after_judge_sizes_sizes) (tt, (tt, tt)) (sym c.judge_sizes-sizes.ensures ∙
+    c.if-sizes-ne0.false)
 
 -- what each test that failed has shown, by the number of its rule
 holds4 : (c : Else-any_above) → any_above 9 (a ((goal.at.Else-any_above c).After-judge_sizes-sizes)).args.weights.now ≡ false
@@ -65,15 +67,28 @@ any_on_diagonal-requires c = tt
 
 pub returns-then-any_on_diagonal : goal.returns-then-any_on_diagonal
 returns-then-any_on_diagonal c =
-    then_rest ((goal.at.returns-then-any_on_diagonal c).Else-sizes-ne0) 5 (rw (holds4 ((goal.at.returns-then-any_on_diagonal c).Else-any_above), sym c.any_on_diagonal.ensures ∙ c.if-any_on_diagonal.true) refl)
+    then_rest ((goal.at.returns-then-any_on_diagonal c).Else-sizes-ne0) 5 (rw (
+      holds4 ((goal.at.returns-then-any_on_diagonal
+          c).Else-any_above),
+      sym c.any_on_diagonal.ensures ∙ c.if-any_on_diagonal.true,
+    ) refl)
 
 pub any_above-requires-2 : goal.any_above-requires-2
 any_above-requires-2 c = tt
 
 pub returns-then-any_above-2 : goal.returns-then-any_above-2
 returns-then-any_above-2 c =
-    then_rest ((goal.at.returns-then-any_above-2 c).Else-sizes-ne0) 8 (rw (holds4 ((goal.at.returns-then-any_above-2 c).Else-any_above), holds5 ((goal.at.returns-then-any_above-2 c).Else-any_on_diagonal), sym c.any_above-2.ensures ∙ c.if-any_above-2.true) refl)
+    then_rest ((goal.at.returns-then-any_above-2 c).Else-sizes-ne0) 8 (rw (
+      holds4 ((goal.at.returns-then-any_above-2 c).Else-any_above),
+      holds5 ((goal.at.returns-then-any_above-2 c).Else-any_on_diagonal),
+      sym c.any_above-2.ensures ∙ c.if-any_above-2.true,
+    ) refl)
 
 pub returns : goal.returns
 returns c =
-    then_rest ((goal.at.returns c).Else-sizes-ne0) 0 (rw (holds4 ((goal.at.returns c).Else-any_above), holds5 ((goal.at.returns c).Else-any_on_diagonal), sym c.any_above-2.ensures ∙ c.if-any_above-2.false) refl)
+    then_rest ((goal.at.returns c).Else-sizes-ne0) 0 (rw (
+      holds4 ((goal.at.returns c).Else-any_above),
+      holds5 ((goal.at.returns
+          c).Else-any_on_diagonal),
+      sym c.any_above-2.ensures ∙ c.if-any_above-2.false,
+    ) refl)

@@ -52,7 +52,11 @@ slice_bounds-mark_columns-end c = sym (length-take-le _ _ c.requires.n_bound)
 
 pub mark_columns-requires : goal.mark_columns-requires
 unfolding table
-mark_columns-requires c = record { n_bound = c.requires.n_bound; weights_len = c.requires.weights_len; marks_value = table_front (λ j. 0) c.args.n 64 c.requires.n_bound }
+mark_columns-requires c = record {
+  n_bound = c.requires.n_bound;
+  weights_len = c.requires.weights_len;
+  marks_value = table_front (λ j. 0) c.args.n 64 c.requires.n_bound;
+}
 
 pub loop-i-init : goal.loop-i-init
 unfolding passing
@@ -71,7 +75,12 @@ slice_bounds-touches-end c =
 pub touches-requires : goal.touches-requires
 touches-requires c =
     let at_loop_i = (goal.at.touches-requires c).At-loop-i in
-    let s = start at_loop_i in record { n_bound = s.requires.n_bound; weights_len = s.requires.weights_len; i_lt_n = c.loop-i-test.true; marks_value = front {A = ℕ} _ _ (marks at_loop_i) _ c.mark_columns.ensures (as_long at_loop_i) }
+    let s = start at_loop_i in record {
+      n_bound = s.requires.n_bound;
+      weights_len = s.requires.weights_len;
+      i_lt_n = c.loop-i-test.true;
+      marks_value = front {A = ℕ} _ _ (marks at_loop_i) _ c.mark_columns.ensures (as_long at_loop_i);
+    }
 
 pub overflow_cast-zones : goal.overflow_cast-zones
 overflow_cast-zones c = omega (arith, (start ((goal.at.overflow_cast-zones c).At-loop-i)).requires.n_bound, c.loop-i-test.true)
@@ -107,7 +116,10 @@ loop-i-preserved c =
         )
         | else-touches w ↦ (
           w.many-is ∙ count_no (test at_loop_i) c.loop-i.i c.loop-i.many inv.0 (told ∙ w.if-touches.false),
-          record { same = w.zones-is ∙ inv.1.same ∙ ap (sets (start at_loop_i).args.zones.now 0) (list_passed (test at_loop_i) c.loop-i.i _ (told ∙ w.if-touches.false) refl) },
+          record {
+            same = w.zones-is ∙ inv.1.same ∙ ap (sets (start at_loop_i).args.zones.now 0) (list_passed (test at_loop_i) c.loop-i.i _ (told
+                ∙ w.if-touches.false) refl);
+          },
         )
       ],
     )
@@ -124,4 +136,14 @@ returns c =
     let front : Stored old 0 (passing (test at_loop_i) (n at_loop_i)) c.loop-i.zones =
     record { same = c.loop-i.invariant.1.1.same ∙ ap (λ k. sets old 0 (passing (test at_loop_i) k)) all } in
     let few_kept : length (passing (test at_loop_i) (n at_loop_i)) ≤ length old =
-    omega (arith, passing_length (test at_loop_i) (n at_loop_i), count_le (test at_loop_i) (n at_loop_i), (start at_loop_i).requires.n_bound, (start at_loop_i).requires.zones_len) in record { value = c.loop-i.invariant.1.0 ∙ ap (count (test at_loop_i)) all; zones_after = stored_over front few_kept }
+    omega (
+      arith,
+      passing_length (test at_loop_i) (n at_loop_i),
+      count_le (test at_loop_i) (n at_loop_i),
+      (start
+          at_loop_i).requires.n_bound,
+      (start at_loop_i).requires.zones_len,
+    ) in record {
+      value = c.loop-i.invariant.1.0 ∙ ap (count (test at_loop_i)) all;
+      zones_after = stored_over front few_kept;
+    }

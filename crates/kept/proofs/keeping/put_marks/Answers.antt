@@ -40,7 +40,11 @@ slice_bounds-mark_columns-end c = sym (length-take-le _ _ c.requires.n_bound)
 
 pub mark_columns-requires : goal.mark_columns-requires
 unfolding table
-mark_columns-requires c = record { n_bound = c.requires.n_bound; weights_len = c.requires.weights_len; marks_value = table_front (λ j. 0) c.args.n 64 c.requires.n_bound }
+mark_columns-requires c = record {
+  n_bound = c.requires.n_bound;
+  weights_len = c.requires.weights_len;
+  marks_value = table_front (λ j. 0) c.args.n 64 c.requires.n_bound;
+}
 
 pub loop-i-init : goal.loop-i-init
 loop-i-init c =
@@ -59,7 +63,12 @@ slice_bounds-touches-end c =
 pub touches-requires : goal.touches-requires
 touches-requires c =
     let at_loop_i = (goal.at.touches-requires c).At-loop-i in
-    let s = start at_loop_i in record { n_bound = s.requires.n_bound; weights_len = s.requires.weights_len; i_lt_n = c.loop-i-test.true; marks_value = front {A = ℕ} _ _ (columns at_loop_i) _ c.mark_columns.ensures (as_long at_loop_i) }
+    let s = start at_loop_i in record {
+      n_bound = s.requires.n_bound;
+      weights_len = s.requires.weights_len;
+      i_lt_n = c.loop-i-test.true;
+      marks_value = front {A = ℕ} _ _ (columns at_loop_i) _ c.mark_columns.ensures (as_long at_loop_i);
+    }
 
 pub bounds-marks-i : goal.bounds-marks-i
 bounds-marks-i c =
@@ -77,7 +86,11 @@ loop-i-preserved c =
     let inv = c.loop-i.invariant.1 in
     let told = sym c.touches.ensures in
     let marked : c.if-touches.mark ≡ cond (test at_loop_i c.loop-i.i) 1 0 =
-    elim c.if-touches.branch [ then-touches w ↦ w.mark-is ∙ rw (told ∙ w.if-touches.true) refl | else-touches w ↦ w.mark-is ∙ rw (told ∙ w.if-touches.false) refl ] in (
+    elim c.if-touches.branch [
+      | then-touches w ↦ w.mark-is ∙ rw (told ∙ w.if-touches.true) refl
+      | else-touches w ↦ w.mark-is ∙ rw (told ∙
+          w.if-touches.false) refl
+    ] in (
       omega arith,
       (
         simp length-set inv.0,

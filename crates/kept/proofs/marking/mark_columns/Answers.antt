@@ -13,7 +13,12 @@ unfolding some
 loop-i-init c = (omega arith, c.requires.marks_value)
 
 pub mark_row-requires : goal.mark_row-requires
-mark_row-requires c = record { n_bound = c.requires.n_bound; weights_len = c.requires.weights_len; i_lt_n = c.loop-i-test.true; marks_value = c.loop-i.invariant.1 }
+mark_row-requires c = record {
+  n_bound = c.requires.n_bound;
+  weights_len = c.requires.weights_len;
+  i_lt_n = c.loop-i-test.true;
+  marks_value = c.loop-i.invariant.1;
+}
 
 pub overflow_add-i : goal.overflow_add-i
 overflow_add-i c = omega arith

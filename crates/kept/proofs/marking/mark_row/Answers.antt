@@ -41,7 +41,12 @@ loop-j-preserved c =
     let inv = c.loop-j.invariant.1 in (
       omega arith,
       changed_next _ _ _ c.loop-j.j c.loop-j.marks c.if-weights-row-gt0.mark inv h
-          (elim c.if-weights-row-gt0.branch [ then-weights-row-gt0 w ↦ mark_set a.n a.weights.now a.i c.loop-j.j c.if-weights-row-gt0.mark w.mark-is w.if-weights-row-gt0.true | else-weights-row-gt0 w ↦ mark_stays a.n a.weights.now a.i c.loop-j.j c.if-weights-row-gt0.mark (w.mark-is ∙ inv.left c.loop-j.j (omega arith) h) w.if-weights-row-gt0.false ]),
+          (elim c.if-weights-row-gt0.branch [
+            | then-weights-row-gt0 w ↦ mark_set a.n a.weights.now a.i c.loop-j.j c.if-weights-row-gt0.mark
+                w.mark-is w.if-weights-row-gt0.true
+            | else-weights-row-gt0 w ↦ mark_stays a.n a.weights.now a.i c.loop-j.j
+                c.if-weights-row-gt0.mark (w.mark-is ∙ inv.left c.loop-j.j (omega arith) h) w.if-weights-row-gt0.false
+          ]),
     )
 
 pub shape_of-marks : goal.shape_of-marks

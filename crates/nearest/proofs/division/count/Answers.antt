@@ -36,7 +36,22 @@ overflow_sub-lacking c = omega (arith, lacks c)
 pub returns-then-lacking-most : goal.returns-then-lacking-most
 returns-then-lacking-most c =
     let after_room_lacking = (goal.at.returns-then-lacking-most c).After-room-lacking in
-    let all = counted _ _ _ _ c.room-lacking.ensures (omega (arith, lacks after_room_lacking)) (omega (arith, lacks after_room_lacking)) (omega arith) in record { result_nonzero = all.0; upper_bound = all.1.0; upper_bound_2 = all.1.1.0; result_bound = all.1.1.1 }
+    let all = counted _ _ _ _ c.room-lacking.ensures (omega (arith, lacks after_room_lacking)) (omega (arith, lacks after_room_lacking))
+    (omega arith) in record {
+      result_nonzero = all.0;
+      upper_bound = all.1.0;
+      upper_bound_2 = all.1.1.0;
+      result_bound = all.1.1.1;
+    }
 
 pub returns-else-lacking-most : goal.returns-else-lacking-most
-returns-else-lacking-most c = let all = counted _ _ _ _ c.room-lacking.ensures (omega arith) (omega (arith, lacks ((goal.at.returns-else-lacking-most c).After-room-lacking))) (omega arith) in record { result_nonzero = all.0; upper_bound = all.1.0; upper_bound_2 = all.1.1.0; result_bound = all.1.1.1 }
+returns-else-lacking-most c = let all = counted _ _ _ _ c.room-lacking.ensures (omega arith) (omega (
+  arith,
+  lacks
+      ((goal.at.returns-else-lacking-most c).After-room-lacking),
+)) (omega arith) in record {
+  result_nonzero = all.0;
+  upper_bound = all.1.0;
+  upper_bound_2 = all.1.1.0;
+  result_bound = all.1.1.1;
+}

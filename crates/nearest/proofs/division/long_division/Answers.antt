@@ -45,18 +45,36 @@ loop-x-init c =
 pub loop-x-preserved-then-most-lt-WORTH : goal.loop-x-preserved-then-most-lt-WORTH
 loop-x-preserved-then-most-lt-WORTH c =
     let l = c.loop-x in
-    further _ _ _ _ _ 1 _ _ _ c.requires.a_nonzero c.requires.divisor_bound l.invariant.0 (c.next_digit-x.ensures.rest_value, (c.next_digit-x.ensures.rest_lt_divisor_2, (c.next_digit-x.ensures.whole_bound_2, c.next_digit-x.ensures.halvings_value)))
+    further _ _ _ _ _ 1 _ _ _ c.requires.a_nonzero c.requires.divisor_bound l.invariant.0 (
+      c.next_digit-x.ensures.rest_value,
+      (c.next_digit-x.ensures.rest_lt_divisor_2, (c.next_digit-x.ensures.whole_bound_2, c.next_digit-x.ensures.halvings_value)),
+    )
 
 pub more_digits-x-requires : goal.more_digits-x-requires
 more_digits-x-requires c =
     let l = c.loop-x in
     let room = c.room-most in
-    let e = c.count.ensures in record { rest_lt_divisor = l.invariant.1; count_bound = less_often _ _ _ _ e.upper_bound room.ensures.inside; count_bound_2 = e.result_bound; count_bound_3 = e.upper_bound_2; halvings_bound = omega arith }
+    let e = c.count.ensures in record {
+      rest_lt_divisor = l.invariant.1;
+      count_bound = less_often _ _ _ _ e.upper_bound room.ensures.inside;
+      count_bound_2 = e.result_bound;
+      count_bound_3 = e.upper_bound_2;
+      halvings_bound = omega arith;
+    }
 
 pub loop-x-preserved : goal.loop-x-preserved
 loop-x-preserved c =
     let l = c.loop-x in
-    further _ _ _ _ _ c.count.result _ _ _ c.requires.a_nonzero c.requires.divisor_bound l.invariant.0 (c.more_digits-x.ensures.rest_value, (c.more_digits-x.ensures.rest_lt_divisor_2, (c.more_digits-x.ensures.whole_bound, c.more_digits-x.ensures.halvings_value)))
+    further _ _ _ _ _ c.count.result _ _ _ c.requires.a_nonzero c.requires.divisor_bound l.invariant.0 (
+      c.more_digits-x.ensures.rest_value,
+      (
+        c.more_digits-x.ensures.rest_lt_divisor_2,
+        (
+          c.more_digits-x.ensures.whole_bound,
+          c.more_digits-x.ensures.halvings_value,
+        ),
+      ),
+    )
 
 pub returns : goal.returns
 returns c =

@@ -17,4 +17,9 @@ pub returns : goal.returns
 returns c =
     let a = c.args in
     let p = c.requires in
-    let D : 0 < a.divisor = omega arith in record { rest_value = further_same a.x.whole a.x.rest a.divisor a.count p.rest_lt_divisor p.count_bound p.count_bound_2; rest_lt_divisor_2 = mod-lt _ D; whole_bound = further_most a.x.whole a.x.rest a.divisor a.count p.rest_lt_divisor p.count_bound p.count_bound_2; halvings_value = refl }
+    let D : 0 < a.divisor = omega arith in record {
+      rest_value = further_same a.x.whole a.x.rest a.divisor a.count p.rest_lt_divisor p.count_bound p.count_bound_2;
+      rest_lt_divisor_2 = mod-lt _ D;
+      whole_bound = further_most a.x.whole a.x.rest a.divisor a.count p.rest_lt_divisor p.count_bound p.count_bound_2;
+      halvings_value = refl;
+    }

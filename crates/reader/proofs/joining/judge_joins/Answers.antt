@@ -111,7 +111,9 @@ judge_join-number-requires c = c.requires.n_bound
 pub returns-then-number-ne0 : goal.returns-then-number-ne0
 returns-then-number-ne0 c =
     let after_judge_join_number = (goal.at.returns-then-number-ne0 c).After-judge_join-number in
-    turn_found (join_rules (n after_judge_join_number) (join after_judge_join_number)) (join_numbered (n after_judge_join_number) (join after_judge_join_number)) (start after_judge_join_number).args.k (i after_judge_join_number) _ (omega arith) (passed after_judge_join_number).1
+    turn_found (join_rules (n after_judge_join_number) (join after_judge_join_number)) (join_numbered (n after_judge_join_number) (join
+    after_judge_join_number)) (start after_judge_join_number).args.k (i after_judge_join_number) _ (omega arith) (passed
+    after_judge_join_number).1
     (number_is after_judge_join_number) c.if-number-ne0.true
 
 pub overflow_mul-next : goal.overflow_mul-next
@@ -133,9 +135,13 @@ pub loop-i-preserved : goal.loop-i-preserved
 loop-i-preserved c =
     let after_judge_join_number = (goal.at.loop-i-preserved c).After-judge_join-number in (
       omega arith,
-      turn_next (join_rules (n after_judge_join_number) (join after_judge_join_number)) (join_numbered (n after_judge_join_number) (join after_judge_join_number)) (i after_judge_join_number) (passed after_judge_join_number).1 (sym (number_is after_judge_join_number) ∙ c.if-number-ne0.false),
+      turn_next (join_rules (n after_judge_join_number) (join after_judge_join_number)) (join_numbered (n after_judge_join_number) (join
+          after_judge_join_number)) (i after_judge_join_number) (passed after_judge_join_number).1 (sym (number_is
+          after_judge_join_number) ∙ c.if-number-ne0.false),
       one_passed (n after_judge_join_number) (join after_judge_join_number) (i after_judge_join_number) _
-          (place_read (image after_judge_join_number) (start after_judge_join_number).args.at (i after_judge_join_number) (n after_judge_join_number) _ _ (at_from after_judge_join_number).wide-from.ensures.0 (at_to after_judge_join_number).wide-to.ensures.0),
+          (place_read (image after_judge_join_number) (start after_judge_join_number).args.at (i after_judge_join_number) (n
+          after_judge_join_number) _ _ (at_from after_judge_join_number).wide-from.ensures.0 (at_to
+          after_judge_join_number).wide-to.ensures.0),
     )
 
 pub returns : goal.returns

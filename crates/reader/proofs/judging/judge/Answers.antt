@@ -23,7 +23,8 @@ module _ (c : After-pass-values) where
   image_1 = image ((goal.at.After-pass-values c).After-in_values-v)
 
   walked_1 : Walked image_1 image_1 (from_categories image_1) (rules_1 image_1) 0 c.in_values-v.result 0 4 c.pass-values.result
-  walked_1 = walked (start image_1) 4 (in_values image_1) 4 (λ z. refl) (met_1 ((goal.at.After-pass-values c).After-in_values-v)) c.pass-values.ensures
+  walked_1 = walked (start image_1) 4 (in_values image_1) 4 (λ z. refl) (met_1 ((goal.at.After-pass-values c).After-in_values-v))
+      c.pass-values.ensures
 
   zones_1 : Zones image_1 c.in_values-v.result c.pass-values.result.count
   zones_1 = zones image_1 (met_1 ((goal.at.After-pass-values c).After-in_values-v)) walked_1
@@ -36,7 +37,8 @@ module _ (c : After-in_categories-c) where
   met_2 :
       Met image_2 (rules_1 image_2) (in_categories (count image_2) (from_categories image_2)) c.in_values-v.result
       c.in_categories-c.result c.pass-values.result.next 1
-  met_2 = categories_met image_2 (zones_1 ((goal.at.After-in_categories-c c).After-pass-values)) (walked_1 ((goal.at.After-in_categories-c c).After-pass-values)).stage c.in_categories-c.result c.in_categories-c.ensures
+  met_2 = categories_met image_2 (zones_1 ((goal.at.After-in_categories-c c).After-pass-values)) (walked_1 ((goal.at.After-in_categories-c
+      c).After-pass-values)).stage c.in_categories-c.result c.in_categories-c.ensures
 
 module _ (c : After-pass-categories) where
   abbrev image_3 : List ℕ
@@ -46,7 +48,8 @@ module _ (c : After-pass-categories) where
       Walked image_3 (from_categories image_3) (from_joins image_3) (rules_2 image_3) c.in_values-v.result
       c.in_categories-c.result c.pass-values.result.next 1 c.pass-categories.result
   walked_2 =
-      walked (walked_1 ((goal.at.After-pass-categories c).After-pass-values)).stage 1 (in_categories (count image_3) (from_categories image_3)) 1 (λ z. refl)
+      walked (walked_1 ((goal.at.After-pass-categories c).After-pass-values)).stage 1 (in_categories (count image_3) (from_categories
+      image_3)) 1 (λ z. refl)
       (met_2 ((goal.at.After-pass-categories c).After-in_categories-c))
       c.pass-categories.ensures
 
@@ -61,7 +64,8 @@ module _ (c : After-in_joins-j) where
   met_3 :
       Met image_4 (rules_2 image_4) (in_joins (count image_4) (from_joins image_4)) c.in_categories-c.result
       c.in_joins-j.result c.pass-categories.result.next 3
-  met_3 = joins_met image_4 (zones_2 ((goal.at.After-in_joins-j c).After-pass-categories)) (walked_2 ((goal.at.After-in_joins-j c).After-pass-categories)).stage c.in_joins-j.result c.in_joins-j.ensures
+  met_3 = joins_met image_4 (zones_2 ((goal.at.After-in_joins-j c).After-pass-categories)) (walked_2 ((goal.at.After-in_joins-j
+      c).After-pass-categories)).stage c.in_joins-j.result c.in_joins-j.ensures
 
 module _ (c : After-pass-joins) where
   abbrev image_5 : List ℕ
@@ -71,7 +75,8 @@ module _ (c : After-pass-joins) where
       Walked image_5 (from_joins image_5) (from_places image_5) (rules_3 image_5) c.in_categories-c.result
       c.in_joins-j.result c.pass-categories.result.next 3 c.pass-joins.result
   walked_3 =
-      walked (walked_2 ((goal.at.After-pass-joins c).After-pass-categories)).stage 3 (in_joins (count image_5) (from_joins image_5)) 3 (λ z. refl) (met_3 ((goal.at.After-pass-joins c).After-in_joins-j))
+      walked (walked_2 ((goal.at.After-pass-joins c).After-pass-categories)).stage 3 (in_joins (count image_5) (from_joins image_5)) 3 (λ
+      z. refl) (met_3 ((goal.at.After-pass-joins c).After-in_joins-j))
       c.pass-joins.ensures
 
   zones_3 : Zones image_5 c.in_joins-j.result c.pass-values.result.count
@@ -85,7 +90,8 @@ module _ (c : After-in_places-p) where
   met_4 :
       Met image_6 (rules_3 image_6) (in_places (count image_6) (from_places image_6)) c.in_joins-j.result
       c.in_places-p.result c.pass-joins.result.next 8
-  met_4 = places_met image_6 (zones_3 ((goal.at.After-in_places-p c).After-pass-joins)) (walked_3 ((goal.at.After-in_places-p c).After-pass-joins)).stage c.in_places-p.result c.in_places-p.ensures
+  met_4 = places_met image_6 (zones_3 ((goal.at.After-in_places-p c).After-pass-joins)) (walked_3 ((goal.at.After-in_places-p
+      c).After-pass-joins)).stage c.in_places-p.result c.in_places-p.ensures
 
 module _ (c : After-pass-places) where
   abbrev image_7 : List ℕ
@@ -95,7 +101,8 @@ module _ (c : After-pass-places) where
       Walked image_7 (from_places image_7) (from_bands image_7) (rules_4 image_7) c.in_joins-j.result
       c.in_places-p.result c.pass-joins.result.next 8 c.pass-places.result
   walked_4 =
-      walked (walked_3 ((goal.at.After-pass-places c).After-pass-joins)).stage 8 (in_places (count image_7) (from_places image_7)) 8 (λ z. refl) (met_4 ((goal.at.After-pass-places c).After-in_places-p))
+      walked (walked_3 ((goal.at.After-pass-places c).After-pass-joins)).stage 8 (in_places (count image_7) (from_places image_7)) 8 (λ z.
+      refl) (met_4 ((goal.at.After-pass-places c).After-in_places-p))
       c.pass-places.ensures
 
   zones_4 : Zones image_7 c.in_places-p.result c.pass-values.result.count
@@ -121,7 +128,8 @@ module _ (c : After-pass-bands) where
       Walked image_9 (from_bands image_9) (from_shuffles image_9) (rules_5 image_9) c.in_places-p.result
       c.in_bands-b.result c.pass-places.result.next 4 c.pass-bands.result
   walked_5 =
-      walked (walked_4 ((goal.at.After-pass-bands c).After-pass-places)).stage 4 (in_bands (count (from_places image_9)) (from_bands image_9)) 4 (λ z. refl)
+      walked (walked_4 ((goal.at.After-pass-bands c).After-pass-places)).stage 4 (in_bands (count (from_places image_9)) (from_bands
+      image_9)) 4 (λ z. refl)
       (met_5 ((goal.at.After-pass-bands c).After-in_bands-b)) c.pass-bands.ensures
 
   zones_5 :
@@ -139,7 +147,8 @@ module _ (c : After-in_shuffles-s) where
   met_6 :
       Met image_10 (rules_5 image_10) (in_shuffles (count image_10) (from_shuffles image_10)) c.in_bands-b.result
       c.in_shuffles-s.result c.pass-bands.result.next n
-  met_6 = shuffles_met image_10 (zones_5 ((goal.at.After-in_shuffles-s c).After-pass-bands)) (walked_5 ((goal.at.After-in_shuffles-s c).After-pass-bands)).stage c.in_shuffles-s.result c.in_shuffles-s.ensures
+  met_6 = shuffles_met image_10 (zones_5 ((goal.at.After-in_shuffles-s c).After-pass-bands)) (walked_5 ((goal.at.After-in_shuffles-s
+      c).After-pass-bands)).stage c.in_shuffles-s.result c.in_shuffles-s.ensures
 
 module _ (c : After-pass-shuffles) where
   abbrev image_11 : List ℕ
@@ -149,8 +158,10 @@ module _ (c : After-pass-shuffles) where
       Walked image_11 (from_shuffles image_11) (rest image_11) (rules_6 image_11) c.in_bands-b.result
       c.in_shuffles-s.result c.pass-bands.result.next (n ((goal.at.After-pass-shuffles c).After-in_shuffles-s)) c.pass-shuffles.result
   walked_6 =
-      walked (walked_5 ((goal.at.After-pass-shuffles c).After-pass-bands)).stage (count image_11) (in_shuffles (count image_11) (from_shuffles image_11)) (n ((goal.at.After-pass-shuffles c).After-in_shuffles-s))
-      (zones_5 ((goal.at.After-pass-shuffles c).After-pass-bands)).counted (met_6 ((goal.at.After-pass-shuffles c).After-in_shuffles-s)) c.pass-shuffles.ensures
+      walked (walked_5 ((goal.at.After-pass-shuffles c).After-pass-bands)).stage (count image_11) (in_shuffles (count image_11)
+      (from_shuffles image_11)) (n ((goal.at.After-pass-shuffles c).After-in_shuffles-s))
+      (zones_5 ((goal.at.After-pass-shuffles c).After-pass-bands)).counted (met_6 ((goal.at.After-pass-shuffles c).After-in_shuffles-s))
+      c.pass-shuffles.ensures
 
 pub in_values-v-requires : goal.in_values-v-requires
 in_values-v-requires c = λ z. omega arith
@@ -198,14 +209,18 @@ judge_end-number-requires c =
     let after_pass_bands = (goal.at.judge_end-number-requires c).After-pass-bands in
     let after_pass_joins = (goal.at.judge_end-number-requires c).After-pass-joins in
     λ z.
-    let to_joins = (walked_4 ((goal.at.judge_end-number-requires c).After-pass-places)).back ((walked_5 after_pass_bands).back ((walked_6 c).back z)) in
+    let to_joins = (walked_4 ((goal.at.judge_end-number-requires c).After-pass-places)).back ((walked_5 after_pass_bands).back ((walked_6
+    c).back z)) in
     let to_values = (walked_2 ((goal.at.judge_end-number-requires c).After-pass-categories)).back ((walked_3 after_pass_joins).back to_joins) in
-    summable (image_11 c) _ _ _ ((met_1 ((goal.at.judge_end-number-requires c).After-in_values-v)).none to_values) ((met_3 ((goal.at.judge_end-number-requires c).After-in_joins-j)).none to_joins)
+    summable (image_11 c) _ _ _ ((met_1 ((goal.at.judge_end-number-requires c).After-in_values-v)).none to_values) ((met_3
+    ((goal.at.judge_end-number-requires c).After-in_joins-j)).none to_joins)
     ((zones_5 after_pass_bands).counted ((walked_6 c).back z)) ((walked_3 after_pass_joins).found to_joins)
 
 pub returns : goal.returns
 returns c =
     let after_pass_shuffles = (goal.at.returns c).After-pass-shuffles in
-    judged (image_11 after_pass_shuffles) c.judge_end-number.result (walked_1 ((goal.at.returns c).After-pass-values)) (walked_2 ((goal.at.returns c).After-pass-categories)) (walked_3 ((goal.at.returns c).After-pass-joins)) (walked_4 ((goal.at.returns c).After-pass-places)) (walked_5 ((goal.at.returns c).After-pass-bands))
+    judged (image_11 after_pass_shuffles) c.judge_end-number.result (walked_1 ((goal.at.returns c).After-pass-values)) (walked_2
+    ((goal.at.returns c).After-pass-categories)) (walked_3 ((goal.at.returns c).After-pass-joins)) (walked_4 ((goal.at.returns
+    c).After-pass-places)) (walked_5 ((goal.at.returns c).After-pass-bands))
     (walked_6 after_pass_shuffles)
     c.judge_end-number.ensures

@@ -69,19 +69,25 @@ unfolding in_bands
 returns-then-number-ne0 c =
     let after_judge_frame_number = (goal.at.returns-then-number-ne0 c).After-judge_frame-number in
     let a = start after_judge_frame_number in
-    stopped a.args.before (4) _ 11 _ (b a) _ _ _ c.judge_frame-number.ensures (counted after_judge_frame_number) (judged after_judge_frame_number) c.if-number-ne0.true
+    stopped a.args.before (4) _ 11 _ (b a) _ _ _ c.judge_frame-number.ensures (counted after_judge_frame_number) (judged
+    after_judge_frame_number) c.if-number-ne0.true
 
 pub overflow_add-at : goal.overflow_add-at
 overflow_add-at c = omega (arith, whole c)
 
 pub judge_bands-requires : goal.judge_bands-requires
-judge_bands-requires c = let few = neither (ltb 8 (k (j c))) _ (unbroken _ 11 _ (j c).judge_band_count-counted.ensures (passed c).allowed) in record { at_in_bounds = omega (arith, whole c); k_bound = ltb-false 8 (k (j c)) few.0 }
+judge_bands-requires c = let few = neither (ltb 8 (k (j c))) _ (unbroken _ 11 _ (j c).judge_band_count-counted.ensures (passed c).allowed)
+    in record {
+      at_in_bounds = omega (arith, whole c);
+      k_bound = ltb-false 8 (k (j c)) few.0;
+    }
 
 pub returns : goal.returns
 unfolding in_bands
 returns c =
     let after_judge_frame_number = (goal.at.returns c).After-judge_frame-number in
     let a = start after_judge_frame_number in
-    by_items a.args.before (4) _ 11 _ (b a) _ _ _ c.judge_frame-number.ensures (counted after_judge_frame_number) (judged after_judge_frame_number) c.if-number-ne0.false _
+    by_items a.args.before (4) _ 11 _ (b a) _ _ _ c.judge_frame-number.ensures (counted after_judge_frame_number) (judged
+    after_judge_frame_number) c.if-number-ne0.false _
     (c.judge_bands.ensures
     ∙ items_from (λ m l. first_broken (band_rules (words m l))) a.args.image.now a.args.at _ (counted after_judge_frame_number))

@@ -66,7 +66,8 @@ unfolding in_joins
 returns-then-number-ne0 c =
     let after_judge_frame_number = (goal.at.returns-then-number-ne0 c).After-judge_frame-number in
     let a = start after_judge_frame_number in
-    stopped a.args.before (3) _ 14 _ (b a) _ _ _ c.judge_frame-number.ensures (counted after_judge_frame_number) (judged after_judge_frame_number) c.if-number-ne0.true
+    stopped a.args.before (3) _ 14 _ (b a) _ _ _ c.judge_frame-number.ensures (counted after_judge_frame_number) (judged
+    after_judge_frame_number) c.if-number-ne0.true
 
 pub overflow_add-at : goal.overflow_add-at
 overflow_add-at c = omega (arith, whole c)
@@ -79,6 +80,7 @@ unfolding in_joins
 returns c =
     let after_judge_frame_number = (goal.at.returns c).After-judge_frame-number in
     let a = start after_judge_frame_number in
-    by_items a.args.before (3) _ 14 _ (b a) _ _ _ c.judge_frame-number.ensures (counted after_judge_frame_number) (judged after_judge_frame_number) c.if-number-ne0.false _
+    by_items a.args.before (3) _ 14 _ (b a) _ _ _ c.judge_frame-number.ensures (counted after_judge_frame_number) (judged
+    after_judge_frame_number) c.if-number-ne0.false _
     (c.judge_joins.ensures
     ∙ items_from (λ m l. first_broken (in_turn (join_rules a.args.n (join_in l)) m)) a.args.image.now a.args.at _ (counted after_judge_frame_number))

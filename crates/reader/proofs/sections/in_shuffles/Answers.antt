@@ -62,27 +62,39 @@ pub judge_shuffle_count-counted-requires : goal.judge_shuffle_count-counted-requ
 judge_shuffle_count-counted-requires c = tt
 
 pub judge_frame-number-requires : goal.judge_frame-number-requires
-judge_frame-number-requires c = record { at_in_bounds = c.requires.at_in_bounds; size_bound = c.requires.n_bound; k_bound = omega (arith, c.two_at-k.ensures.upper_bound) }
+judge_frame-number-requires c = record {
+  at_in_bounds = c.requires.at_in_bounds;
+  size_bound = c.requires.n_bound;
+  k_bound = omega (arith, c.two_at-k.ensures.upper_bound);
+}
 
 pub returns-then-number-ne0 : goal.returns-then-number-ne0
 unfolding in_shuffles
 returns-then-number-ne0 c =
     let after_judge_frame_number = (goal.at.returns-then-number-ne0 c).After-judge_frame-number in
     let a = start after_judge_frame_number in
-    stopped a.args.before a.args.n _ 14 _ (b a) _ _ _ c.judge_frame-number.ensures (counted after_judge_frame_number) (judged after_judge_frame_number) c.if-number-ne0.true
+    stopped a.args.before a.args.n _ 14 _ (b a) _ _ _ c.judge_frame-number.ensures (counted after_judge_frame_number) (judged
+    after_judge_frame_number) c.if-number-ne0.true
 
 pub overflow_add-at : goal.overflow_add-at
 overflow_add-at c = omega (arith, whole c)
 
 pub judge_shuffles-requires : goal.judge_shuffles-requires
-judge_shuffles-requires c = let few = ltb-false 499 (k (j c)) (unbroken _ 14 _ (j c).judge_shuffle_count-counted.ensures (passed c).allowed) in record { le_n = (a c).requires.le_n (passed c).none; n_bound = (a c).requires.n_bound (passed c).none; k_bound = few; k_in_bounds = omega (arith, whole c) }
+judge_shuffles-requires c = let few = ltb-false 499 (k (j c)) (unbroken _ 14 _ (j c).judge_shuffle_count-counted.ensures (passed
+    c).allowed) in record {
+      le_n = (a c).requires.le_n (passed c).none;
+      n_bound = (a c).requires.n_bound (passed c).none;
+      k_bound = few;
+      k_in_bounds = omega (arith, whole c);
+    }
 
 pub returns : goal.returns
 unfolding in_shuffles
 returns c =
     let after_judge_frame_number = (goal.at.returns c).After-judge_frame-number in
     let a = start after_judge_frame_number in
-    by_items a.args.before a.args.n _ 14 _ (b a) _ _ _ c.judge_frame-number.ensures (counted after_judge_frame_number) (judged after_judge_frame_number) c.if-number-ne0.false _
+    by_items a.args.before a.args.n _ 14 _ (b a) _ _ _ c.judge_frame-number.ensures (counted after_judge_frame_number) (judged
+    after_judge_frame_number) c.if-number-ne0.false _
     (c.judge_shuffles.ensures
     ∙ items_from (λ m l. first_broken (shuffle_rules a.args.n (bytes (m * a.args.n) l))) a.args.image.now a.args.at _
     (counted after_judge_frame_number))

@@ -67,19 +67,25 @@ unfolding in_values
 returns-then-number-ne0 c =
     let after_judge_frame_number = (goal.at.returns-then-number-ne0 c).After-judge_frame-number in
     let a = start after_judge_frame_number in
-    stopped a.args.before (4) _ 0 _ (b a) _ _ _ c.judge_frame-number.ensures (counted after_judge_frame_number) (judged after_judge_frame_number) c.if-number-ne0.true
+    stopped a.args.before (4) _ 0 _ (b a) _ _ _ c.judge_frame-number.ensures (counted after_judge_frame_number) (judged
+    after_judge_frame_number) c.if-number-ne0.true
 
 pub overflow_add-at : goal.overflow_add-at
 overflow_add-at c = omega (arith, whole c)
 
 pub judge_values-requires : goal.judge_values-requires
-judge_values-requires c = let few = in_range 2 64 (k (j c)) (unbroken _ 0 _ (j c).judge_zone_count-counted.ensures (passed c).allowed) in record { at_in_bounds = omega (arith, whole c); k_bound = few.1 }
+judge_values-requires c = let few = in_range 2 64 (k (j c)) (unbroken _ 0 _ (j c).judge_zone_count-counted.ensures (passed c).allowed) in
+    record {
+      at_in_bounds = omega (arith, whole c);
+      k_bound = few.1;
+    }
 
 pub returns : goal.returns
 unfolding in_values
 returns c =
     let after_judge_frame_number = (goal.at.returns c).After-judge_frame-number in
     let a = start after_judge_frame_number in
-    by_items a.args.before (4) _ 0 _ (b a) _ _ _ c.judge_frame-number.ensures (counted after_judge_frame_number) (judged after_judge_frame_number) c.if-number-ne0.false _
+    by_items a.args.before (4) _ 0 _ (b a) _ _ _ c.judge_frame-number.ensures (counted after_judge_frame_number) (judged
+    after_judge_frame_number) c.if-number-ne0.false _
     (c.judge_values.ensures
     ∙ items_from (λ m l. first_broken (value_rules (signed_words m l))) a.args.image.now a.args.at _ (counted after_judge_frame_number))

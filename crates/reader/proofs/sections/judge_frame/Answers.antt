@@ -31,7 +31,8 @@ module _ (a : Start) where
       N.mul-le-mul (a.requires.size_bound z) few
 
 pub returns-then-before-ne0 : goal.returns-then-before-ne0
-returns-then-before-ne0 c = sym (kept_when_refused c.args.before (answer ((goal.at.returns-then-before-ne0 c).Start)) c.args.before c.if-before-ne0.true)
+returns-then-before-ne0 c = sym (kept_when_refused c.args.before (answer ((goal.at.returns-then-before-ne0 c).Start)) c.args.before
+    c.if-before-ne0.true)
 
 pub cut-requires : goal.cut-requires
 cut-requires c = c.requires.at_in_bounds c.if-before-ne0.false

@@ -48,37 +48,76 @@ abbrev from_fifth : After-store_words → Start
 from_fifth c = from_fourth (fourth c)
 
 pub store_signed-requires : goal.store_signed-requires
-store_signed-requires c = let r = has_room ((goal.at.store_signed-requires c).Start) in record { at_in_bounds = r.values_there; k_in_bounds = r.values_room }
+store_signed-requires c = let r = has_room ((goal.at.store_signed-requires c).Start) in record {
+  at_in_bounds = r.values_there;
+  k_in_bounds = r.values_room;
+}
 
 pub store_bytes-requires : goal.store_bytes-requires
-store_bytes-requires c = let r = has_room (from_first ((goal.at.store_bytes-requires c).After-store_signed)) in record { k_in_bounds = r.categories_there; k_in_bounds_2 = r.categories_room }
+store_bytes-requires c = let r = has_room (from_first ((goal.at.store_bytes-requires c).After-store_signed)) in record {
+  k_in_bounds = r.categories_there;
+  k_in_bounds_2 = r.categories_room;
+}
 
 pub store_weights-requires : goal.store_weights-requires
-store_weights-requires c = let r = has_room (from_second ((goal.at.store_weights-requires c).After-store_bytes)) in record { joinable = r.joins_there; n_in_bounds = r.weights_room }
+store_weights-requires c = let r = has_room (from_second ((goal.at.store_weights-requires c).After-store_bytes)) in record {
+  joinable = r.joins_there;
+  n_in_bounds = r.weights_room;
+}
 
 pub overflow_add-layout-3 : goal.overflow_add-layout-3
-overflow_add-layout-3 c = let a = from_third ((goal.at.overflow_add-layout-3 c).After-store_weights) in omega (arith, a.well_formed, (has_room a).places_there)
+overflow_add-layout-3 c = let a = from_third ((goal.at.overflow_add-layout-3 c).After-store_weights) in omega (
+  arith,
+  a.well_formed,
+  (has_room a).places_there,
+)
 
 pub overflow_mul-layout : goal.overflow_mul-layout
-overflow_mul-layout c = let a = from_third ((goal.at.overflow_mul-layout c).After-store_weights) in omega (arith, a.well_formed, (has_room a).places_room)
+overflow_mul-layout c = let a = from_third ((goal.at.overflow_mul-layout c).After-store_weights) in omega (
+  arith,
+  a.well_formed,
+  (has_room
+      a).places_room,
+)
 
 pub store_signed-requires-2 : goal.store_signed-requires-2
-store_signed-requires-2 c = let r = has_room (from_third ((goal.at.store_signed-requires-2 c).After-store_weights)) in record { at_in_bounds = r.places_there; k_in_bounds = r.places_room }
+store_signed-requires-2 c = let r = has_room (from_third ((goal.at.store_signed-requires-2 c).After-store_weights)) in record {
+  at_in_bounds = r.places_there;
+  k_in_bounds = r.places_room;
+}
 
 pub overflow_add-layout-4 : goal.overflow_add-layout-4
-overflow_add-layout-4 c = let a = from_fourth ((goal.at.overflow_add-layout-4 c).After-store_signed-2) in omega (arith, a.well_formed, (has_room a).bands_there)
+overflow_add-layout-4 c = let a = from_fourth ((goal.at.overflow_add-layout-4 c).After-store_signed-2) in omega (
+  arith,
+  a.well_formed,
+  (has_room a).bands_there,
+)
 
 pub store_words-requires : goal.store_words-requires
-store_words-requires c = let r = has_room (from_fourth ((goal.at.store_words-requires c).After-store_signed-2)) in record { at_in_bounds = r.bands_there; k_in_bounds = r.bands_room }
+store_words-requires c = let r = has_room (from_fourth ((goal.at.store_words-requires c).After-store_signed-2)) in record {
+  at_in_bounds = r.bands_there;
+  k_in_bounds = r.bands_room;
+}
 
 pub overflow_add-layout-5 : goal.overflow_add-layout-5
-overflow_add-layout-5 c = let a = from_fifth ((goal.at.overflow_add-layout-5 c).After-store_words) in omega (arith, a.well_formed, (has_room a).shuffles_there)
+overflow_add-layout-5 c = let a = from_fifth ((goal.at.overflow_add-layout-5 c).After-store_words) in omega (
+  arith,
+  a.well_formed,
+  (has_room a).shuffles_there,
+)
 
 pub overflow_mul-layout-2 : goal.overflow_mul-layout-2
-overflow_mul-layout-2 c = let a = from_fifth ((goal.at.overflow_mul-layout-2 c).After-store_words) in omega (arith, a.well_formed, (has_room a).shuffles_room)
+overflow_mul-layout-2 c = let a = from_fifth ((goal.at.overflow_mul-layout-2 c).After-store_words) in omega (
+  arith,
+  a.well_formed,
+  (has_room a).shuffles_room,
+)
 
 pub store_bytes-requires-2 : goal.store_bytes-requires-2
-store_bytes-requires-2 c = let r = has_room (from_fifth ((goal.at.store_bytes-requires-2 c).After-store_words)) in record { k_in_bounds = r.shuffles_there; k_in_bounds_2 = r.shuffles_room }
+store_bytes-requires-2 c = let r = has_room (from_fifth ((goal.at.store_bytes-requires-2 c).After-store_words)) in record {
+  k_in_bounds = r.shuffles_there;
+  k_in_bounds_2 = r.shuffles_room;
+}
 
 pub shape_of-values : goal.shape_of-values
 shape_of-values c = (first (second (third (fourth (fifth ((goal.at.shape_of-values c).After-store_bytes-2)))))).store_signed.auto.buffer

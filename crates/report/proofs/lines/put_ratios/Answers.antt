@@ -56,17 +56,28 @@ overflow_mul-of_geary-4 c =
     fit w64 (geary_divisor_is (sums t) (reads t) (start t).requires.within) tt
 
 pub put_figure_line-place-requires : goal.put_figure_line-place-requires
-put_figure_line-place-requires c = let s = start (told ((goal.at.put_figure_line-place-requires c).After-struct_told-5-1)) in record { short = record { letters = omega arith; items = omega arith }; readable = s.requires.readable_pair.of_moran; room = omega (arith, s.requires.room) }
+put_figure_line-place-requires c = let s = start (told ((goal.at.put_figure_line-place-requires c).After-struct_told-5-1)) in record {
+  short = record { letters = omega arith; items = omega arith };
+  readable = s.requires.readable_pair.of_moran;
+  room = omega (arith, s.requires.room);
+}
 
 pub put_figure_line-end-requires : goal.put_figure_line-end-requires
 put_figure_line-end-requires c =
     let s = start (told ((goal.at.put_figure_line-end-requires c).After-struct_told-5-1)) in
-    let first = c.put_figure_line-place.ensures in record { short = record { letters = omega arith; items = omega arith }; readable = s.requires.readable_pair.of_geary; room = omega (arith, s.requires.room, first.few, put_length first) }
+    let first = c.put_figure_line-place.ensures in record {
+      short = record { letters = omega arith; items = omega arith };
+      readable = s.requires.readable_pair.of_geary;
+      room = omega (arith, s.requires.room, first.few, put_length first);
+    }
 
 pub put_line-requires : goal.put_line-requires
 put_line-requires c =
     let s = start (told ((goal.at.put_line-requires c).After-struct_told-5-1)) in
-    let both = put_then c.put_figure_line-place.ensures c.put_figure_line-end.ensures in record { short = record { letters = omega arith; items = omega arith }; room = omega (arith, s.requires.room, both.few, put_length both) }
+    let both = put_then c.put_figure_line-place.ensures c.put_figure_line-end.ensures in record {
+      short = record { letters = omega arith; items = omega arith };
+      room = omega (arith, s.requires.room, both.few, put_length both);
+    }
 
 pub returns : goal.returns
 returns c =

@@ -34,7 +34,11 @@ slice_bounds-put_pair_line-end-in-loop-k c = refl
 pub put_pair_line-place-requires : goal.put_pair_line-place-requires
 put_pair_line-place-requires c =
     let in_loop_k = (goal.at.put_pair_line-place-requires c).In-loop-k in
-    let k = c.loop-k.k in record { short = record { letters = omega arith; items = omega arith }; readable_pair = rw (there c.args.pairs k _ no_pair (known in_loop_k)) (c.requires.readable_pairs k (known in_loop_k)); room = omega (arith, put_length c.loop-k.invariant.1) }
+    let k = c.loop-k.k in record {
+      short = record { letters = omega arith; items = omega arith };
+      readable_pair = rw (there c.args.pairs k _ no_pair (known in_loop_k)) (c.requires.readable_pairs k (known in_loop_k));
+      room = omega (arith, put_length c.loop-k.invariant.1);
+    }
 
 pub overflow_add-k : goal.overflow_add-k
 overflow_add-k c = omega arith

@@ -10,7 +10,11 @@ pub loop-r-init : goal.loop-r-init
 loop-r-init c = (omega arith, put_each_none (λ row. each (table_line _ row) (numbered 8)))
 
 pub put_table_row-place-requires : goal.put_table_row-place-requires
-put_table_row-place-requires c = record { table_len = c.requires.table_len; r_bound = omega arith; room = omega (arith, put_length c.loop-r.invariant.1) }
+put_table_row-place-requires c = record {
+  table_len = c.requires.table_len;
+  r_bound = omega arith;
+  room = omega (arith, put_length c.loop-r.invariant.1);
+}
 
 pub overflow_add-r : goal.overflow_add-r
 overflow_add-r c = omega arith

@@ -37,7 +37,10 @@ pub slice_bounds-put_line-end-then-joins-gt0 : goal.slice_bounds-put_line-end-th
 slice_bounds-put_line-end-then-joins-gt0 c = refl
 
 pub put_line-place-requires : goal.put_line-place-requires
-put_line-place-requires c = record { short = record { letters = omega arith; items = omega arith }; room = omega (arith, put_length c.loop-s.invariant.1) }
+put_line-place-requires c = record {
+  short = record { letters = omega arith; items = omega arith };
+  room = omega (arith, put_length c.loop-s.invariant.1);
+}
 
 pub overflow_add-s : goal.overflow_add-s
 overflow_add-s c = omega arith
@@ -58,7 +61,12 @@ turn c =
     let row = (nat w64 a.r 8 (omega arith) tt).same in
     let column = (nat w64 s 8 (omega arith) tt).same in
     let joins = to_z-of_z w64 (get_or table (a.r * 8 + s) (pos 0)) (sfits_of c.joins-1.given) in
-    elim c.if-joins-gt0.branch [ then-joins-gt0 w ↦ rw (w.page-is, w.place-is) (put_as w.put_line-place.ensures (table_text table a.r s row column joins w.if-joins-gt0.true)) | else-joins-gt0 w ↦ rw (w.page-is, w.place-is) (put_as put_none (no_table_text table a.r s joins w.if-joins-gt0.false)) ]
+    elim c.if-joins-gt0.branch [
+      | then-joins-gt0 w ↦ rw (w.page-is, w.place-is) (put_as w.put_line-place.ensures (table_text table a.r s
+          row column joins w.if-joins-gt0.true))
+      | else-joins-gt0 w ↦ rw (w.page-is, w.place-is) (put_as put_none (no_table_text table a.r s
+          joins w.if-joins-gt0.false))
+    ]
 
 pub loop-s-preserved : goal.loop-s-preserved
 loop-s-preserved c =

@@ -53,7 +53,10 @@ pub bounds-figures-zone : goal.bounds-figures-zone
 bounds-figures-zone c = known ((goal.at.bounds-figures-zone c).In-loop-i)
 
 pub put_bits_line-place-requires : goal.put_bits_line-place-requires
-put_bits_line-place-requires c = record { short = record { letters = omega arith; items = omega arith }; room = omega (arith, put_length c.loop-i.invariant.1) }
+put_bits_line-place-requires c = record {
+  short = record { letters = omega arith; items = omega arith };
+  room = omega (arith, put_length c.loop-i.invariant.1);
+}
 
 pub overflow_add-i : goal.overflow_add-i
 overflow_add-i c = omega arith

@@ -7,4 +7,7 @@ use Rattle.report.proofs.reading.put_report.Goals as goal
 pub put_text-requires : goal.put_text-requires
 put_text-requires c =
     let w = c.weight_room-weights in
-    let s = c.shuffle_room-shuffles in record { exact = rw (eq-eqb (length w.result) 4096 (sym w.ensures), eq-eqb (length s.result) 31936 (sym s.ensures)); room = c.requires }
+    let s = c.shuffle_room-shuffles in record {
+      exact = rw (eq-eqb (length w.result) 4096 (sym w.ensures), eq-eqb (length s.result) 31936 (sym s.ensures));
+      room = c.requires;
+    }

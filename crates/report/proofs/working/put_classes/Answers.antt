@@ -9,7 +9,12 @@ pub returns-then-bands-eq0 : goal.returns-then-bands-eq0
 returns-then-bands-eq0 c = put_as put_none (sym (none_counted _ _ c.if-bands-eq0.true))
 
 pub put_rows-requires : goal.put_rows-requires
-put_rows-requires c = let p = c.requires in record { rows_len = p.rows_len; readable_pairs = p.readable_pairs; last_bound = p.bands_bound; room = omega (arith, p.bands_bound, p.room) }
+put_rows-requires c = let p = c.requires in record {
+  rows_len = p.rows_len;
+  readable_pairs = p.readable_pairs;
+  last_bound = p.bands_bound;
+  room = omega (arith, p.bands_bound, p.room);
+}
 
 pub returns : goal.returns
 returns c =

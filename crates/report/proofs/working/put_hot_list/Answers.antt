@@ -95,17 +95,24 @@ module _ (c : After-order) where
 pub slice_bounds-space-end-2 : goal.slice_bounds-space-end-2
 slice_bounds-space-end-2 c =
     let after_order = (goal.at.slice_bounds-space-end-2 c).After-order in
-    in_front (n after_order) (weights after_order) (locals after_order) _ (s after_order).requires.zoned.few (zones after_order) _ (zones_left after_order)
+    in_front (n after_order) (weights after_order) (locals after_order) _ (s after_order).requires.zoned.few (zones after_order) _
+    (zones_left after_order)
 
 pub slice_bounds-put_zones-end : goal.slice_bounds-put_zones-end
 slice_bounds-put_zones-end c =
     let after_order = (goal.at.slice_bounds-put_zones-end c).After-order in
-    sym (front_length (n after_order) (weights after_order) (locals after_order) _ (s after_order).requires.zoned.few (zones after_order) _ (zones_left after_order))
+    sym (front_length (n after_order) (weights after_order) (locals after_order) _ (s after_order).requires.zoned.few (zones after_order)
+    _ (zones_left after_order))
 
 pub put_zones-requires : goal.put_zones-requires
 put_zones-requires c =
     let after_order = (goal.at.put_zones-requires c).After-order in
-    let z = (s after_order).requires.zoned in record { listed = listed (n after_order) (weights after_order) (locals after_order) _ z.few (zones after_order) _ (zones_left after_order) z.locals_fit z.figures_fit; room = room (n after_order) (weights after_order) (locals after_order) _ z.few (zones after_order) _ (zones_left after_order) _ _ z.most (omega (arith, (s after_order).requires.room)) }
+    let z = (s after_order).requires.zoned in record {
+      listed = listed (n after_order) (weights after_order) (locals after_order) _ z.few (zones after_order) _ (zones_left after_order)
+          z.locals_fit z.figures_fit;
+      room = room (n after_order) (weights after_order) (locals after_order) _ z.few (zones after_order) _ (zones_left after_order) _ _
+          z.most (omega (arith, (s after_order).requires.room));
+    }
 
 pub returns : goal.returns
 returns c =
@@ -113,5 +120,7 @@ returns c =
     let z = (s after_order).requires.zoned in
     let a = (s after_order).args in
     put_as
-    (put_most c.put_zones.ensures (narrow (n after_order) (weights after_order) (locals after_order) _ z.few (zones after_order) _ (zones_left after_order) z.most))
-    (lines (n after_order) (weights after_order) (locals after_order) _ z.few (zones after_order) _ (zones_left after_order) _ _ _ (to_z-of_z w64 a.spread (s after_order).ranges.spread))
+    (put_most c.put_zones.ensures (narrow (n after_order) (weights after_order) (locals after_order) _ z.few (zones after_order) _
+    (zones_left after_order) z.most))
+    (lines (n after_order) (weights after_order) (locals after_order) _ z.few (zones after_order) _ (zones_left after_order) _ _ _
+    (to_z-of_z w64 a.spread (s after_order).ranges.spread))

@@ -96,7 +96,8 @@ module _ (c : After-plain_report-report) where
       c.plain_report-report.new.locals c.plain_report-report.new.figures
   said =
       let told = c.plain_report-report.ensures in
-      reports sound classed.within _ _ _ refl (length-take-le _ _ sound.zones) (length-take-le _ _ sound.zones) told.sums told.whole told.pairs told.rows
+      reports sound classed.within _ _ _ refl (length-take-le _ _ sound.zones) (length-take-le _ _ sound.zones) told.sums told.whole
+      told.pairs told.rows
       told.locals told.figures
 
 -- the sums and the pair that were answered are the job's

@@ -26,7 +26,12 @@ loop-k-preserved c =
     let t = test c.args.named.now in
     let k = c.loop-k.k in (
       omega arith,
-      elim c.if-named-k-eq0.branch [ then-named-k-eq0 w ↦ w.found-is ∙ some_found t (k + 1) k (omega arith) (eq-eqb _ _ w.if-named-k-eq0.true) | else-named-k-eq0 w ↦ w.found-is ∙ c.loop-k.invariant.1 ∙ some_same t k (ne_eqb _ _ w.if-named-k-eq0.false) ],
+      elim c.if-named-k-eq0.branch [
+        | then-named-k-eq0 w ↦ w.found-is ∙ some_found t (k + 1) k (omega arith) (eq-eqb _ _
+            w.if-named-k-eq0.true)
+        | else-named-k-eq0 w ↦ w.found-is ∙ c.loop-k.invariant.1 ∙ some_same t k (ne_eqb _ _
+            w.if-named-k-eq0.false)
+      ],
     )
 
 pub returns : goal.returns

@@ -9,7 +9,8 @@ use Rattle.shuffles.proofs.lacking.mark.Given as goal
 
 abbrev pub invariant-loop-i : goal.invariant-loop-i
 invariant-loop-i l =
-    (l.i ≤ l.n) × ((length l.named ≡ 256) × ((k : ℕ) → k < 256 → get_or l.named k 0 ≡ mark_of (some (λ i'. eqb (pair_at l.shuffles l.n l.r i') k) l.i)))
+    (l.i ≤ l.n) × ((length l.named ≡ 256) × ((k : ℕ) → k < 256 → get_or l.named k 0 ≡ mark_of (some (λ i'. eqb (pair_at l.shuffles l.n l.r
+    i') k) l.i)))
 
 abbrev pub decreases-loop-i : goal.decreases-loop-i
 decreases-loop-i l = l.n - l.i

@@ -44,7 +44,8 @@ module _ (c : Joined-weight-gt0) where
   clear : (ltb 0 (get_or weights place 0) && eqb (place / n) (place % n)) ≡ false
   clear =
       elim c.if-weight-gt0.branch [
-        | then-weight-gt0+else-p-n w ↦ second_fails (ltb 0 (get_or weights place 0)) (eqb (place / n) (place % n)) (ne_eqb (place / n) (place % n) w.if-p-n.false)
+        | then-weight-gt0+else-p-n w ↦ second_fails (ltb 0 (get_or weights place 0)) (eqb (place / n) (place % n)) (ne_eqb (place / n)
+            (place % n) w.if-p-n.false)
         | else-weight-gt0 w ↦ rw (le-ltb 0 (get_or weights place 0) w.if-weight-gt0.false)
       ]
 
