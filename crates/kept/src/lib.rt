@@ -3,10 +3,15 @@
 
 mod keeping;
 mod marking;
+mod returned;
 
 ghost use Rattle.std.specs.Prelude.{◌≡◌};
 ghost use Rattle.kept.specs.Answers.{number_of, many_in, keep_refusal, keep_many, keep_left};
 ghost use Rattle.kept.specs.Answers.{marks_refusal, marks_left};
+ghost use Rattle.kept.specs.Answers.{reduce_refusal, reduce_left};
+
+// Of values not returned, which no other call here looks at yet: whether one that is returned is beyond the limit, and how many there are.
+pub use returned::{any_value_beyond, count_missing};
 
 // The number of the refusal, or how many zones are kept.
 #[derive(Clone, Copy)]
@@ -40,5 +45,21 @@ pub fn mark(n: usize, weights: &[u8], marks: &mut [u8]) -> u8
         return sizes;
     }
     keeping::put_marks(n, weights, marks);
+    0
+}
+
+// Puts the weights that count into `counting`, which has n × n places: 0 in the row and in the column of a zone whose value is not returned.
+// Answers the number of the refusal, 0 where nothing is refused; where n is outside 2 to 64 or a list has another length, `counting` is left
+// as it was.
+pub fn reduce(n: usize, values: &[i32], weights: &[u8], counting: &mut [u8]) -> u8
+    ensures number { result ≡ reduce_refusal n values.now weights.now counting.old }
+    ensures lent { counting.new ≡ reduce_left n values.now weights.now counting.old }
+{
+    let pairs = weights.len();
+    let misfit = judges::judge_sizes(n, values.len(), weights.len(), counting.len(), pairs);
+    if misfit != 0 {
+        return misfit;
+    }
+    returned::reduce_rows(n, values, weights, counting);
     0
 }
