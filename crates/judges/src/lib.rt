@@ -2,49 +2,29 @@
 // and whether a weight stands on the diagonal.
 #![tactic(auto)]
 
-ghost use Rattle.std.specs.Prelude.{◌≡◌, [], ◌∷◌, ◌*◌};
-ghost use Rattle.whole.specs.Rules.{first_broken, size_rules};
+mod sizes;
+
+ghost use Rattle.std.specs.Prelude.{◌≡◌};
+ghost use Rattle.whole.specs.Integer.{beyond};
 ghost use Rattle.whole.specs.Search.{any_beyond, any_above, any_on_diagonal};
 
-// 1 and 2: n, and the lengths of a list that has an item for each zone, of one that has a row of n for each, and of one that is lent and
-// must have so many places.
-pub fn judge_sizes(n: usize, items: usize, rows: usize, lent: usize, places: usize) -> u8
-    ensures { result ≡ first_broken (size_rules n ((items, n) ∷ (rows, n * n) ∷ (lent, places) ∷ [])) }
+pub use sizes::{Places, judge_lent};
+
+// Whether a number is beyond the limit in size.
+fn is_beyond(limit: u32, number: i32) -> bool
+    ensures { result ≡ beyond limit number }
 {
-    if n < 2 {
-        return 1;
-    }
-    if n > 64 {
-        return 1;
-    }
-    if items != n {
-        return 2;
-    }
-    if rows != n * n {
-        return 2;
-    }
-    if lent != places {
-        return 2;
-    }
-    0
+    number.unsigned_abs() > limit
 }
 
 // Whether some number is beyond the limit in size.
 pub fn any_beyond(limit: u32, numbers: &[i32]) -> bool
     ensures { result ≡ any_beyond limit numbers.now }
 {
-    let high = limit as i64;
-    let low = 0 - high;
-    let mut i: usize = 0;
-    while i < numbers.len() {
-        let x = numbers[i] as i64;
-        if x > high {
+    for number in numbers {
+        if is_beyond(limit, *number) {
             return true;
         }
-        if x < low {
-            return true;
-        }
-        i += 1;
     }
     false
 }
@@ -54,12 +34,10 @@ pub fn any_above(limit: u8, numbers: &[u8]) -> bool
     ensures { result ≡ any_above limit numbers.now }
 {
     let mut found = false;
-    let mut i: usize = 0;
-    while i < numbers.len() {
-        if numbers[i] > limit {
+    for number in numbers {
+        if *number > limit {
             found = true;
         }
-        i += 1;
     }
     found
 }
@@ -68,9 +46,8 @@ pub fn any_above(limit: u8, numbers: &[u8]) -> bool
 pub fn any_on_diagonal(n: usize, weights: &[u8]) -> bool
     ensures { result ≡ any_on_diagonal n weights.now }
 {
-    let mut i: usize = 0;
     let mut place: usize = 0;
-    while i < n {
+    for _ in 0..n {
         if place >= weights.len() {
             return false;
         }
@@ -81,7 +58,6 @@ pub fn any_on_diagonal(n: usize, weights: &[u8]) -> bool
             return false;
         }
         place += n + 1;
-        i += 1;
     }
     false
 }

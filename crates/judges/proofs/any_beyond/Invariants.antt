@@ -1,9 +1,4 @@
-use mathlib.Core.Path.{◌≡◌}
-use mathlib.Core.Bool.{Bool, false}
-use mathlib.Core.List.{List}
-use Prim.Native.Nat.{ℕ, ◌-◌, ◌≤◌}
-use lib.IntN.{ℤ}
-use lib.ListN.{length}
+use Rattle.std.proofs.Common.{◌≡◌, Bool, false, List, ℕ, ℤ}
 use Rattle.whole.specs.Integer.{beyond}
 use Rattle.whole.specs.Search.{some}
 use Rattle.whole.specs.Table.{at}
@@ -12,8 +7,5 @@ use Rattle.judges.proofs.any_beyond.Given as goal
 abbrev pub test : ℕ → List ℤ → ℕ → Bool
 test limit numbers k = beyond limit (at numbers k)
 
-abbrev pub invariant-loop-i : goal.invariant-loop-i
-invariant-loop-i l = (l.i ≤ length l.numbers) × (some (test l.limit l.numbers) l.i ≡ false)
-
-abbrev pub decreases-loop-i : goal.decreases-loop-i
-decreases-loop-i l = length l.numbers - l.i
+abbrev pub invariant-loop-number : goal.invariant-loop-number
+invariant-loop-number l = some (test l.fn.limit l.fn.numbers) l.number-index ≡ false

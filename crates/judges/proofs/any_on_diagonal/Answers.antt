@@ -31,62 +31,44 @@ rest_behind n weights i e h = sym (none_some (test n weights) n (λ k p. go k (d
     go k (yes p) = some_none (test n weights) i k e p
     go k (no p) = ap (ltb 0) (get_or-eq_default weights 0 (omega (arith, h, N.mul-le-mul_right n (later k i p))))
 
-pub loop-i-init : goal.loop-i-init
-loop-i-init c = (omega arith, omega arith, some_zero _)
+pub loop-init : goal.loop-init
+loop-init c = (omega arith, some_zero _)
 
 pub returns-then-place-weights : goal.returns-then-place-weights
 unfolding any_on_diagonal
 returns-then-place-weights c =
     let a = c.args in
-    rest_behind a.n a.weights.now c.loop-i.i c.loop-i.invariant.2 (omega arith)
-
-pub bounds-weights-place : goal.bounds-weights-place
-bounds-weights-place c = omega arith
+    rest_behind a.n a.weights.now c.loop.counter c.loop.invariant.1 (omega arith)
 
 pub returns-then-weights-place-gt0 : goal.returns-then-weights-place-gt0
 unfolding any_on_diagonal pair_at
 returns-then-weights-place-gt0 c =
     let a = c.args in
-    let here = ap (λ k. get_or a.weights.now k 0) c.loop-i.invariant.1 in
-    some_found (test a.n a.weights.now) a.n c.loop-i.i (omega arith) (sym (ap (ltb 0) here) ∙ lt-ltb _ _ c.if-weights-place-gt0.true)
-
-pub overflow_sub-weights : goal.overflow_sub-weights
-overflow_sub-weights c = omega arith
+    let here = ap (λ k. get_or a.weights.now k 0) c.loop.invariant.0 in
+    some_found (test a.n a.weights.now) a.n c.loop.counter (omega arith) (sym (ap (ltb 0) here) ∙ lt-ltb _ _ c.if-weights-place-gt0.true)
 
 -- the entry looked at has no weight
 passed : (c : Else-weights-place-gt0) →
     let b = c in
     let a = b.args in
-    some (test a.n a.weights.now) (b.loop-i.i + 1) ≡ false
+    some (test a.n a.weights.now) (b.loop.counter + 1) ≡ false
 unfolding pair_at
 passed c =
     let a = c.args in
-    let here = ap (λ k. get_or a.weights.now k 0) c.loop-i.invariant.1 in
-    some_more (test a.n a.weights.now) c.loop-i.i c.loop-i.invariant.2 (sym (ap (ltb 0) here) ∙ le-ltb _ _ c.if-weights-place-gt0.false)
+    let here = ap (λ k. get_or a.weights.now k 0) c.loop.invariant.0 in
+    some_more (test a.n a.weights.now) c.loop.counter c.loop.invariant.1 (sym (ap (ltb 0) here) ∙ le-ltb _ _ c.if-weights-place-gt0.false)
 
 pub returns-then-weights-place : goal.returns-then-weights-place
 unfolding any_on_diagonal
 returns-then-weights-place c =
     let a = c.args in
-    rest_behind a.n a.weights.now (c.loop-i.i + 1) (passed ((goal.at.returns-then-weights-place c).Else-weights-place-gt0)) (omega arith)
+    rest_behind a.n a.weights.now (c.loop.counter + 1) (passed ((goal.at.returns-then-weights-place c).Else-weights-place-gt0)) (omega arith)
 
-pub overflow_add-place : goal.overflow_add-place
-overflow_add-place c = omega arith
-
-pub overflow_add-place-in-loop-i : goal.overflow_add-place-in-loop-i
-overflow_add-place-in-loop-i c = omega arith
-
-pub overflow_add-i : goal.overflow_add-i
-overflow_add-i c = omega arith
-
-pub loop-i-smaller : goal.loop-i-smaller
-loop-i-smaller c = omega arith
-
-pub loop-i-preserved : goal.loop-i-preserved
-loop-i-preserved c = (omega arith, omega arith, passed ((goal.at.loop-i-preserved c).Else-weights-place-gt0))
+pub loop-preserved : goal.loop-preserved
+loop-preserved c = (omega arith, passed ((goal.at.loop-preserved c).Else-weights-place-gt0))
 
 pub returns : goal.returns
 unfolding any_on_diagonal
 returns c =
     let a = c.args in
-    some_done (test a.n a.weights.now) c.loop-i.i _ (omega arith) c.loop-i.invariant.2
+    some_done (test a.n a.weights.now) c.loop.counter _ (omega arith) c.loop.invariant.1

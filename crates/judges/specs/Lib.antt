@@ -1,0 +1,2 @@
+-- What a buyer must believe of the judges.
+pub mod Sizes

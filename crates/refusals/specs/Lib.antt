@@ -1,0 +1,2 @@
+-- What a buyer must believe of refusals.
+pub mod Refusals
