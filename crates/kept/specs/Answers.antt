@@ -1,23 +1,17 @@
 -- What the calls answer that find the kept zones, and what they leave in the list that they are lent. Assumes nothing.
-use Rattle.std.specs.Prelude.{cond, List, [], ◌∷◌, ℕ, ◌*◌, ℤ, length}
+use Rattle.std.specs.Prelude.{cond, List, [], ◌∷◌, ℕ, ◌*◌, ℤ, length, Result, Ok, Err}
+use Rattle.refusals.specs.declared.Refusal.{Refusal}
 use Rattle.whole.specs.Rules.{first_broken, size_rules, unless_refused}
 use Rattle.whole.specs.Table.{table, over}
 use Rattle.kept.specs.Kept.{keeps, kept_zones, kept_count}
 use Rattle.kept.specs.Returned.{reduced}
-use Rattle.kept.specs.declared.Answer.{Answer}
-use Rattle.kept.specs.declared.Answer.TheVariants.{Refused, Kept}
 
 -- ---- the kept zones in a list: 64 places are lent
 
--- the number of the refusal, 0 where nothing is refused
-unfoldable pub number_of : Answer → ℕ
-number_of (Refused number) = number
-number_of (Kept many) = 0
-
 -- how many zones are kept, none where the call is refused
-unfoldable pub many_in : Answer → List ℕ
-many_in (Refused number) = []
-many_in (Kept many) = many ∷ []
+unfoldable pub many_in : Result ℕ Refusal → List ℕ
+many_in (Ok many) = many ∷ []
+many_in (Err refusal) = []
 
 module _ (n : ℕ) (weights zones : List ℕ) where
   -- 1 and 2; the refusal is 0 where no rule is broken

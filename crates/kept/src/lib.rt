@@ -6,60 +6,61 @@ mod marking;
 mod returned;
 
 ghost use Rattle.std.specs.Prelude.{◌≡◌};
-ghost use Rattle.kept.specs.Answers.{number_of, many_in, keep_refusal, keep_many, keep_left};
+ghost use Rattle.refusals.specs.Refusals.{number_of};
+ghost use Rattle.kept.specs.Answers.{many_in, keep_refusal, keep_many, keep_left};
 ghost use Rattle.kept.specs.Answers.{marks_refusal, marks_left};
 ghost use Rattle.kept.specs.Answers.{reduce_refusal, reduce_left};
 
 // Of values not returned, which no other call here looks at yet: whether one that is returned is beyond the limit, and how many there are.
+use judges::Places;
+use refusals::Refusal;
 pub use returned::{any_value_beyond, count_missing};
-
-// The number of the refusal, or how many zones are kept.
-#[derive(Clone, Copy)]
-pub enum Answer {
-    Refused(u8),
-    Kept(usize),
-}
 
 // Puts the zones kept, rising, at the front of `zones`, which has 64 places, and answers how many they are. Where n is outside 2 to 64
 // or a list has another length, `zones` is left as it was.
-pub fn keep(n: usize, weights: &[u8], zones: &mut [u8]) -> Answer
+pub fn keep(n: usize, weights: &[u8], zones: &mut [u8]) -> Result<usize, Refusal>
     ensures number { number_of result ≡ keep_refusal n weights.now zones.old }
     ensures many { many_in result ≡ keep_many n weights.now zones.old }
     ensures lent { zones.new ≡ keep_left n weights.now zones.old }
 {
-    let sizes = judges::judge_sizes(n, n, weights.len(), zones.len(), 64);
-    if sizes != 0 {
-        return Answer::Refused(sizes);
-    }
-    Answer::Kept(keeping::put_kept(n, weights, zones))
+    judges::judge_lent(
+        n,
+        &[
+            (weights.len(), Places::Pairs),
+            (zones.len(), Places::Fixed(64)),
+        ],
+    )?;
+    Ok(keeping::put_kept(n, weights, zones))
 }
 
-// Puts a 1 for each zone that is kept and a 0 for each that is left out into `marks`, which has n places. Answers the number of the
-// refusal, 0 where nothing is refused; where n is outside 2 to 64 or a list has another length, `marks` is left as it was.
-pub fn mark(n: usize, weights: &[u8], marks: &mut [u8]) -> u8
-    ensures number { result ≡ marks_refusal n weights.now marks.old }
+// Puts a 1 for each zone that is kept and a 0 for each that is left out into `marks`, which has n places. Where n is outside 2 to 64 or a list has another length, `marks` is left as it was.
+pub fn mark(n: usize, weights: &[u8], marks: &mut [u8]) -> Result<(), Refusal>
+    ensures number { number_of result ≡ marks_refusal n weights.now marks.old }
     ensures lent { marks.new ≡ marks_left n weights.now marks.old }
 {
-    let sizes = judges::judge_sizes(n, n, weights.len(), marks.len(), n);
-    if sizes != 0 {
-        return sizes;
-    }
+    judges::judge_lent(
+        n,
+        &[(weights.len(), Places::Pairs), (marks.len(), Places::Zones)],
+    )?;
     keeping::put_marks(n, weights, marks);
-    0
+    Ok(())
 }
 
 // Puts the weights that count into `counting`, which has n × n places: 0 in the row and in the column of a zone whose value is not returned.
 // Answers the number of the refusal, 0 where nothing is refused; where n is outside 2 to 64 or a list has another length, `counting` is left
 // as it was.
-pub fn reduce(n: usize, values: &[i32], weights: &[u8], counting: &mut [u8]) -> u8
-    ensures number { result ≡ reduce_refusal n values.now weights.now counting.old }
+pub fn reduce(n: usize, values: &[i32], weights: &[u8], counting: &mut [u8]) -> Result<(), Refusal>
+    ensures number { number_of result ≡ reduce_refusal n values.now weights.now counting.old }
     ensures lent { counting.new ≡ reduce_left n values.now weights.now counting.old }
 {
-    let pairs = weights.len();
-    let misfit = judges::judge_sizes(n, values.len(), weights.len(), counting.len(), pairs);
-    if misfit != 0 {
-        return misfit;
-    }
+    judges::judge_lent(
+        n,
+        &[
+            (values.len(), Places::Zones),
+            (weights.len(), Places::Pairs),
+            (counting.len(), Places::Pairs),
+        ],
+    )?;
     returned::reduce_rows(n, values, weights, counting);
-    0
+    Ok(())
 }
