@@ -33,7 +33,8 @@ pub fn keep(n: usize, weights: &[u8], zones: &mut [u8]) -> Result<usize, Refusal
     Ok(keeping::put_kept(n, weights, zones))
 }
 
-// Puts a 1 for each zone that is kept and a 0 for each that is left out into `marks`, which has n places. Where n is outside 2 to 64 or a list has another length, `marks` is left as it was.
+// Puts a 1 for each zone that is kept and a 0 for each that is left out into `marks`, which has n places. Where n is outside 2 to 64 or a
+// list has another length, `marks` is left as it was.
 pub fn mark(n: usize, weights: &[u8], marks: &mut [u8]) -> Result<(), Refusal>
     ensures number { number_of result ≡ marks_refusal n weights.now marks.old }
     ensures lent { marks.new ≡ marks_left n weights.now marks.old }
@@ -47,8 +48,7 @@ pub fn mark(n: usize, weights: &[u8], marks: &mut [u8]) -> Result<(), Refusal>
 }
 
 // Puts the weights that count into `counting`, which has n × n places: 0 in the row and in the column of a zone whose value is not returned.
-// Answers the number of the refusal, 0 where nothing is refused; where n is outside 2 to 64 or a list has another length, `counting` is left
-// as it was.
+// Where n is outside 2 to 64 or a list has another length, `counting` is left as it was.
 pub fn reduce(n: usize, values: &[i32], weights: &[u8], counting: &mut [u8]) -> Result<(), Refusal>
     ensures number { number_of result ≡ reduce_refusal n values.now weights.now counting.old }
     ensures lent { counting.new ≡ reduce_left n values.now weights.now counting.old }
