@@ -4,27 +4,30 @@
 mod lacking;
 
 ghost use Rattle.std.specs.Prelude.{◌≡◌};
+ghost use Rattle.refusals.specs.Refusals.{number_of};
 ghost use Rattle.shuffles.specs.Shuffles.{shuffle_refusal};
 
-// 1, 2 and 13: the number of the first broken rule, 0 where none is broken.
-pub fn judge_shuffles(n: usize, shuffles: &[u8]) -> u8
-    ensures { result ≡ shuffle_refusal n shuffles.now }
+use refusals::Refusal;
+
+// 1, 2 and 13.
+pub fn judge_shuffles(n: usize, shuffles: &[u8]) -> Result<(), Refusal>
+    ensures { number_of result ≡ shuffle_refusal n shuffles.now }
 {
     if n < 2 {
-        return 1;
+        return Err(Refusal::Zones);
     }
     if n > 64 {
-        return 1;
+        return Err(Refusal::Zones);
     }
     let rows = shuffles.len() / n;
     if rows > 499 {
-        return 2;
+        return Err(Refusal::Length);
     }
     if shuffles.len() != rows * n {
-        return 2;
+        return Err(Refusal::Length);
     }
     if lacking::any_lacking(n, shuffles, rows) {
-        return 13;
+        return Err(Refusal::Shuffle);
     }
-    0
+    Ok(())
 }
