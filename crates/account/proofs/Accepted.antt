@@ -1,5 +1,5 @@
 -- What a job is like in which no rule is broken. Assumes nothing.
-use mathlib.Core.Path.{◌≡◌, refl, sym, ◌∙◌}
+use mathlib.Core.Path.{◌≡◌, refl, sym}
 use mathlib.Core.Bool.{Bool, true, false, not, ◌||◌, true≢false}
 use mathlib.Core.List.{List, [], ◌∷◌, ◌++◌}
 use Prim.Native.Nat.{ℕ, ◌*◌, ◌≤◌, ◌<◌}
@@ -66,16 +66,16 @@ pub unfitted :
 unfitted n values weights lent others f e =
     rw (le-ltb n 2 f.two, le-ltb 64 n f.zones, eq-eqb values n f.values_fit, eq-eqb weights (n * n) f.weights_fit, e) refl
 
--- where a job's two lists do not fit, with n places beside them, they do not with any further lists
+-- where a job's two lists do not fit, they do not with any further lists
 pub also_misfits :
-    (n values weights : ℕ) (lent : List (ℕ × ℕ)) → misfits (job_lengths n values weights ((n, n) ∷ [])) ≡ true →
+    (n values weights : ℕ) (lent : List (ℕ × ℕ)) → misfits (job_lengths n values weights []) ≡ true →
     misfits (job_lengths n values weights lent) ≡ true
 also_misfits n values weights lent = go (not (eqb values n)) (not (eqb weights (n * n)))
   where
-    go : (first second : Bool) → (first || (second || (not (eqb n n) || false))) ≡ true → (first || (second || misfits lent)) ≡ true
+    go : (first second : Bool) → (first || (second || false)) ≡ true → (first || (second || misfits lent)) ≡ true
     go true second e = refl
     go false true e = refl
-    go false false e = let z : (not (eqb n n) || false) ≡ false = rw (eq-eqb n n refl) refl in absurd (true≢false (sym e ∙ z))
+    go false false e = absurd (true≢false (sym e))
 
 -- ---- a job in which 3, 4 and 5 hold
 pub record Lawful (n : ℕ) (values : List ℤ) (weights : List ℕ) : Type 0 where

@@ -1,6 +1,7 @@
 -- What a judge found: a number, or the zones kept, which `keep` left at the front of a list. Assumes nothing.
 use mathlib.Core.Path.{◌≡◌, refl, sym, ap, ◌∙◌, subst}
 use mathlib.Core.Bool.{Bool}
+use Rattle.std.proofs.Common.{Result, Ok, Err}
 use mathlib.Core.List.{List, [], ◌∷◌}
 use Prim.Native.Nat.{ℕ, ◌*◌, ◌≤◌, ◌<◌}
 use native.Mathlib.Decide.{dec_lt}
@@ -14,36 +15,32 @@ use Rattle.whole.specs.Rules.{first_broken}
 use Rattle.whole.specs.Table.{at, over}
 use Rattle.whole.proofs.Lists.{front, front_le}
 use Rattle.whole.proofs.Rules.{first_here, first_next, worked_when_taken}
+use Rattle.refusals.specs.declared.Refusal.{Refusal}
+use Rattle.refusals.specs.Refusals.{number_by}
 use Rattle.kept.specs.Kept.{kept_zones, kept_count, kept_values}
 use Rattle.kept.specs.Answers.{many_in, keep_refusal, keep_many, keep_left}
-use Rattle.kept.specs.declared.Answer.{Answer}
-use Rattle.kept.specs.declared.Answer.TheVariants.{Refused, Kept}
 use Rattle.kept.proofs.KeptZones.{zones_length}
 use Rattle.kept.proofs.Sized.{let_in}
 use Rattle.account.specs.Measures.{spread_of}
 use Rattle.account.specs.Refusals.{list_rules, job_spread, sum_rules, job_rules}
 use Rattle.account.specs.Steps.{Valued, Zones, gathered, Finds}
-use Rattle.account.specs.declared.judging.Found.{Found}
 use Rattle.account.proofs.Accepted.{Lawful}
 use Rattle.account.proofs.KeptJob.{six_by_count}
 use Rattle.account.proofs.KeptLists.{zones_are, values_gathered}
 
 -- ---- what is found of a call, by its number
-module _ (n : ℕ) (weights : List ℕ) {refusal : ℕ} (left : List ℕ) (r : Found) where
+module _ (n : ℕ) (weights : List ℕ) {refusal : ℕ} (left : List ℕ) where
   -- where there is one, nothing is said of the zones
-  pub by_number : r.number ≡ refusal → (r.number ≡ 0 → ⊥) → Finds n weights refusal left r
-  by_number e some = record { number = e; many = λ z. absurd (some (e ∙ z)); front = λ z. absurd (some (e ∙ z)) }
+  pub by_number : (e : Refusal) → number_by e ≡ refusal → Finds n weights refusal left (Err e)
+  by_number e h = record { number = h; many = tt; front = tt }
 
   -- what was found of the job is found of the call, where it has the job's number
-  pub as_job : {job : ℕ} → job ≡ refusal → Finds n weights job left r → Finds n weights refusal left r
-  as_job e f = subst (λ k. Finds n weights k left r) e f
+  pub as_job : {job : ℕ} (r : Result ℕ Refusal) → job ≡ refusal → Finds n weights job left r → Finds n weights refusal left r
+  as_job r e f = subst (λ k. Finds n weights k left r) e f
 
   -- and where the job has none, its zones are the call's
-  pub with_zones :
-      {job : ℕ} (s : Found) → Finds n weights job left s → job ≡ 0 → r.kept ≡ s.kept → r.number ≡ refusal →
-      Finds n weights refusal left r
-  with_zones s f none k e =
-      record { number = e; many = λ z. k ∙ f.many none; front = λ z. ap (λ many. take many left) k ∙ f.front none }
+  pub with_zones : {job : ℕ} (many : ℕ) → Finds n weights job left (Ok many) → 0 ≡ refusal → Finds n weights refusal left (Ok many)
+  with_zones many f e = record { number = e; many = f.many; front = f.front }
 
 -- ---- the zones kept, as many as there are, at the front of a list
 pub record Left (n : ℕ) (weights left : List ℕ) (many : ℕ) : Type 0 where
@@ -59,14 +56,14 @@ front_fits l k e = pick (dec_lt (length l) k)
     pick (yes h) = let all = ap length (take_all k l (omega arith)) in omega arith
     pick (no h) = omega arith
 
--- so a judge that gives no number has left them
+-- so a judge that refuses nothing has left them
 pub found_left :
-    {n : ℕ} {weights : List ℕ} {refusal : ℕ} {left : List ℕ} {r : Found} → Finds n weights refusal left r → refusal ≡ 0 →
-    Left n weights left r.kept
-found_left {n} {weights} {refusal} {left} {r} f z = record {
-  as_many = f.many z;
-  zones = f.front z;
-  room = front_fits left r.kept (ap length (f.front z) ∙ zones_length n weights ∙ sym (f.many z));
+    {n : ℕ} {weights : List ℕ} {refusal : ℕ} {left : List ℕ} {many : ℕ} → Finds n weights refusal left (Ok many) →
+    Left n weights left many
+found_left {n} {weights} {refusal} {left} {many} f = record {
+  as_many = f.many;
+  zones = f.front;
+  room = front_fits left many (ap length f.front ∙ zones_length n weights ∙ sym f.many);
 }
 
 -- what `keep` answers and leaves, where it is lent the weights of n zones and 64 places: it refuses nothing
@@ -77,16 +74,16 @@ module _
   unfolding keep_refusal
   taken = let_in n (length weights) (length lent) 64 (record { two = two; zones = most; weights_fit = fit; lent_fit = places })
 
-  module _ (r : Answer) (e : many_in r ≡ keep_many n weights lent) where
+  module _ (r : Result ℕ Refusal) (e : many_in r ≡ keep_many n weights lent) where
     counted : many_in r ≡ kept_count n weights ∷ []
     unfolding keep_many
     counted = e ∙ worked_when_taken _ _ _ taken
 
-    pub never_refused : (number : ℕ) → r ≡ Refused number → ⊥
+    pub never_refused : (refusal : Refusal) → r ≡ Err refusal → ⊥
     unfolding many_in
-    never_refused number q = let z : ◌≡◌ {A = ℕ} 0 1 = ap length (sym (ap many_in q) ∙ counted) in omega arith
+    never_refused refusal q = let z : ◌≡◌ {A = ℕ} 0 1 = ap length (sym (ap many_in q) ∙ counted) in omega arith
 
-    pub zones_left : (left : List ℕ) (many : ℕ) → left ≡ keep_left n weights lent → r ≡ Kept many → Left n weights left many
+    pub zones_left : (left : List ℕ) (many : ℕ) → left ≡ keep_left n weights lent → r ≡ Ok many → Left n weights left many
     unfolding many_in keep_left
     zones_left left many l q =
         let kept = kept_zones n weights in

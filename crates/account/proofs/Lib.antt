@@ -19,7 +19,6 @@ pub mod KeptClasses
 pub mod Accepted
 pub mod Judged
 pub mod Found
-pub mod Answered
 pub mod ClassAnswered
 pub mod Theorems
 pub mod ClassTheorems

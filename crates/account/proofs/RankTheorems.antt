@@ -29,10 +29,12 @@ use Rattle.account.specs.Measures.{total_of, spread_of}
 use Rattle.account.specs.Refusals.{job_spread, job_rules, call_rules, account_rules, account_refusal}
 use Rattle.account.specs.Answers.{zones_figures, job_figures, job_row}
 use Rattle.account.specs.Rank.{shuffled, values_cross, shuffle_cross, compared, zones_rank, job_rank, rank_rules, rank_refusal}
-use Rattle.account.specs.Rank.{three, number_of, counts_of, rank_counts}
+use Rattle.account.specs.Rank.{three, counts_of, rank_counts}
+use Rattle.std.proofs.Common.{Result, Ok, Err}
+use Rattle.refusals.specs.declared.Refusal.{Refusal}
+use Rattle.refusals.specs.Refusals.{number_of}
+use Rattle.refusals.proofs.Refusals.{not_refused, cause_unique}
 use Rattle.account.specs.declared.Counts.{Counts}
-use Rattle.account.specs.declared.RankAnswer.{RankAnswer}
-use Rattle.account.specs.declared.RankAnswer.TheVariants.{Refused, Counted}
 use Rattle.account.proofs.Accepted.{rank_called, rank_accepted, let_in}
 use Rattle.account.proofs.Tallied.{all_counted}
 use Rattle.account.proofs.Theorems.{weight_one, spread_one}
@@ -165,31 +167,31 @@ made l e g = record { less = l; equal = e; greater = g }
 same : (l e g l' e' g' : ℕ) → l ≡ l' → e ≡ e' → g ≡ g' → made l e g ≡ made l' e' g'
 same l e g l' e' g' p q r = cc
 
-pub answer_unique : (a b : RankAnswer) → number_of a ≡ number_of b → counts_of a ≡ counts_of b → a ≡ b
-unfolding number_of counts_of made
-answer_unique (Refused k) (Refused l) e f = ap Refused e
-answer_unique (Refused k) (Counted t) e f = let z : ◌≡◌ {A = ℕ} 0 3 = ap length f in absurd (omega arith)
-answer_unique (Counted s) (Refused l) e f = let z : ◌≡◌ {A = ℕ} 3 0 = ap length f in absurd (omega arith)
-answer_unique (Counted s) (Counted t) e f = ap Counted (same _ _ _ _ _ _ (cc) (cc) (cc))
+pub answer_unique : (a b : Result Counts Refusal) → number_of a ≡ number_of b → counts_of a ≡ counts_of b → a ≡ b
+unfolding counts_of made
+answer_unique (Err k) (Err l) e f = ap Err (cause_unique k l e)
+answer_unique (Err k) (Ok t) e f = absurd (not_refused k e)
+answer_unique (Ok s) (Err l) e f = absurd (not_refused l (sym e))
+answer_unique (Ok s) (Ok t) e f = ap Ok (same _ _ _ _ _ _ (cc) (cc) (cc))
 
 -- ---- where nothing is refused, the answer is the counts of the job, which add up to the number of rows
-module _ (n : ℕ) (values : List ℤ) (weights shuffles : List ℕ) (taken : rank_refusal n values weights shuffles ≡ 0) (r : RankAnswer)
+module _ (n : ℕ) (values : List ℤ) (weights shuffles : List ℕ) (taken : rank_refusal n values weights shuffles ≡ 0) (r : Result Counts Refusal)
     (told : counts_of r ≡ rank_counts n values weights shuffles) where
   answered : counts_of r ≡ job_rank n values weights shuffles
   unfolding rank_counts
   answered = told ∙ worked_when_taken _ _ _ taken
 
-  pub ranked_counts : (counts : Counts) → r ≡ Counted counts → three counts ≡ job_rank n values weights shuffles
+  pub ranked_counts : (counts : Counts) → r ≡ Ok counts → three counts ≡ job_rank n values weights shuffles
   unfolding counts_of
   ranked_counts counts g = sym (ap counts_of g) ∙ answered
 
-  pub ranked_adds_up : (counts : Counts) → r ≡ Counted counts → counts.less + counts.equal + counts.greater ≡ length shuffles / n
+  pub ranked_adds_up : (counts : Counts) → r ≡ Ok counts → counts.less + counts.equal + counts.greater ≡ length shuffles / n
   ranked_adds_up counts g =
       let a = rank_accepted n values weights shuffles taken in
       ap (λ l. get_or l 0 0 + get_or l 1 0 + get_or l 2 0) (ranked_counts counts g)
       ∙ rank_adds_up n values weights shuffles
       ∙ whole_rows n (length shuffles) (omega (arith, a.two)) a.rows.count
 
-  pub never_refused : (k : ℕ) → r ≡ Refused k → ⊥
+  pub never_refused : (k : Refusal) → r ≡ Err k → ⊥
   unfolding counts_of job_rank zones_rank compared
   never_refused k g = let z : ◌≡◌ {A = ℕ} 0 3 = ap length (sym (ap counts_of g) ∙ answered) in omega arith

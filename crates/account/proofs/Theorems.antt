@@ -25,11 +25,13 @@ use Rattle.account.specs.Limits.{Limits}
 use Rattle.kept.specs.Kept.{keeps, kept_count, kept_zone, kept_place, kept_values, kept_pairs}
 use Rattle.kept.proofs.KeptZones.{kept_few, zone_stands, zone_at_place, place_within, values_at}
 use Rattle.account.specs.Refusals.{job_spread, job_rules, job_lengths, call_rules, account_rules, account_refusal}
-use Rattle.account.specs.Answers.{listed, number_of, zones_figures, figures_of, job_kept, job_figures, job_row, job_locals}
+use Rattle.account.specs.Answers.{listed, zones_figures, figures_of, job_kept, job_figures, job_row, job_locals}
 use Rattle.account.specs.Answers.{class_row, account_figures, account_locals}
+use Rattle.std.proofs.Common.{Result, Ok, Err}
+use Rattle.refusals.specs.declared.Refusal.{Refusal}
+use Rattle.refusals.specs.Refusals.{number_of}
+use Rattle.refusals.proofs.Refusals.{not_refused, cause_unique}
 use Rattle.account.specs.declared.Sums.{Sums}
-use Rattle.account.specs.declared.Answer.{Answer}
-use Rattle.account.specs.declared.Answer.TheVariants.{Refused, Accounted}
 use Rattle.account.proofs.Accepted.{Sound, fitting, accepted}
 use Rattle.account.proofs.Adding as adding
 use Rattle.account.proofs.Judged.{by_sizes}
@@ -256,33 +258,33 @@ same :
     made s m w p g k ≡ made s' m' w' p' g' k'
 same s m w p g k s' m' w' p' g' k' e1 e2 e3 e4 e5 e6 = cc
 
-pub answer_unique : (a b : Answer) → number_of a ≡ number_of b → figures_of a ≡ figures_of b → a ≡ b
-unfolding number_of figures_of made
-answer_unique (Refused k) (Refused l) e f = ap Refused e
-answer_unique (Refused k) (Accounted t) e f = let z : ◌≡◌ {A = ℕ} 0 1 = cc in absurd (omega arith)
-answer_unique (Accounted s) (Refused l) e f = let z : ◌≡◌ {A = ℕ} 0 1 = cc in absurd (omega arith)
-answer_unique (Accounted s) (Accounted t) e f = ap Accounted (same _ _ _ _ _ _ _ _ _ _ _ _ (cc) (cc) (cc) (cc) (cc) (ap nat_abs (ap (λ l. at l 5) f)))
+pub answer_unique : (a b : Result Sums Refusal) → number_of a ≡ number_of b → figures_of a ≡ figures_of b → a ≡ b
+unfolding figures_of made
+answer_unique (Err k) (Err l) e f = ap Err (cause_unique k l e)
+answer_unique (Err k) (Ok t) e f = absurd (not_refused k e)
+answer_unique (Ok s) (Err l) e f = absurd (not_refused l (sym e))
+answer_unique (Ok s) (Ok t) e f = ap Ok (same _ _ _ _ _ _ _ _ _ _ _ _ (cc) (cc) (cc) (cc) (cc) (ap nat_abs (ap (λ l. at l 5) f)))
 
 -- ---- where nothing is refused, the answer is the sums of the job, and the lent list holds its local numerators
 module _ (n : ℕ) (values : List ℤ) (weights : List ℕ) (locals : List ℤ) (taken : account_refusal n values weights locals ≡ 0) where
-  answered : (r : Answer) → figures_of r ≡ account_figures n values weights locals → figures_of r ≡ job_figures n values weights
+  answered : (r : Result Sums Refusal) → figures_of r ≡ account_figures n values weights locals → figures_of r ≡ job_figures n values weights
   unfolding account_figures
   answered r e = e ∙ worked_when_taken _ _ _ taken
 
   pub accounted_sums :
-      (r : Answer) (sums : Sums) → figures_of r ≡ account_figures n values weights locals → r ≡ Accounted sums →
+      (r : Result Sums Refusal) (sums : Sums) → figures_of r ≡ account_figures n values weights locals → r ≡ Ok sums →
       listed sums ≡ job_figures n values weights
   unfolding figures_of
   accounted_sums r sums e g = sym (ap figures_of g) ∙ answered r e
 
   -- which no more zones are counted in than there are
   pub accounted_kept :
-      (r : Answer) (sums : Sums) → figures_of r ≡ account_figures n values weights locals → r ≡ Accounted sums → sums.kept ≤ n
+      (r : Result Sums Refusal) (sums : Sums) → figures_of r ≡ account_figures n values weights locals → r ≡ Ok sums → sums.kept ≤ n
   unfolding job_figures zones_figures
   accounted_kept r sums e g =
       let same = ap (λ (l : List ℤ). nat_abs (at l 5)) (accounted_sums r sums e g) in omega (arith, same, kept_few n weights)
 
-  pub never_refused : (r : Answer) (k : ℕ) → figures_of r ≡ account_figures n values weights locals → r ≡ Refused k → ⊥
+  pub never_refused : (r : Result Sums Refusal) (k : Refusal) → figures_of r ≡ account_figures n values weights locals → r ≡ Err k → ⊥
   unfolding figures_of job_figures zones_figures
   never_refused r k e g = let z : ◌≡◌ {A = ℕ} 0 6 = ap length (sym (ap figures_of g) ∙ answered r e) in omega arith
 

@@ -1,15 +1,14 @@
 -- What the account answers, and what it leaves in the lent list of local numerators. Every measure of a job is taken over the zones
 -- kept: their own lists are those of a job in which every zone counts. What belongs to a zone is put back at it. Assumes nothing.
-use Rattle.std.specs.Prelude.{List, [], ◌∷◌, ℕ, ℤ, pos}
+use Rattle.std.specs.Prelude.{List, [], ◌∷◌, ℕ, ℤ, pos, Result, Ok, Err}
 use Rattle.whole.specs.Rules.{unless_refused}
 use Rattle.whole.specs.Table.{table, at, pair_at}
+use Rattle.refusals.specs.declared.Refusal.{Refusal}
 use Rattle.kept.specs.Kept.{kept_count, kept_values, kept_pairs, put_back}
 use Rattle.account.specs.Measures.{total_of, deviation_of, spread_of, weight_of, cross_of, squares_of, local_of}
 use Rattle.account.specs.Refusals.{account_refusal}
 use Rattle.account.specs.declared.Sums.{Sums}
 use Rattle.account.specs.declared.ClassRow.{ClassRow}
-use Rattle.account.specs.declared.Answer.{Answer}
-use Rattle.account.specs.declared.Answer.TheVariants.{Refused, Accounted}
 
 -- ---- what an answer says, by its cases
 
@@ -18,15 +17,10 @@ abbrev pub listed : Sums → List ℤ
 listed sums =
     sums.total ∷ sums.spread ∷ sums.weight ∷ sums.cross ∷ sums.squares ∷ pos sums.kept ∷ []
 
--- the number of the refusal, 0 where nothing is refused
-unfoldable pub number_of : Answer → ℕ
-number_of (Refused number) = number
-number_of (Accounted sums) = 0
-
 -- the six figures, none where the call is refused
-unfoldable pub figures_of : Answer → List ℤ
-figures_of (Refused number) = []
-figures_of (Accounted sums) = listed sums
+unfoldable pub figures_of : Result Sums Refusal → List ℤ
+figures_of (Ok sums) = listed sums
+figures_of (Err refusal) = []
 
 -- ---- of n zones, all of which count
 

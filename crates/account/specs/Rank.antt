@@ -1,19 +1,18 @@
 -- The rank of a job: how many shuffles of its values have a P less than, equal to and greater than its own. The job itself is not counted.
 -- A list of shuffles has a row of n zone numbers for each. A shuffle acts on the zones kept: in order they take its kept numbers. Assumes
 -- nothing.
-use Rattle.std.specs.Prelude.{List, [], ◌∷◌, ℕ, ◌*◌, ℤ, length}
+use Rattle.std.specs.Prelude.{List, [], ◌∷◌, ℕ, ◌*◌, ℤ, length, Result, Ok, Err}
 use Rattle.std.specs.Int.Signed.{lt_z}
 use Rattle.whole.specs.Integer.{equal}
 use Rattle.whole.specs.Rules.{Rule, first_broken, unless_refused}
 use Rattle.whole.specs.Search.{count}
 use Rattle.whole.specs.Table.{at, pair_at}
+use Rattle.refusals.specs.declared.Refusal.{Refusal}
 use Rattle.kept.specs.Kept.{kept_count, kept_values, kept_pairs, kept_shuffles}
 use Rattle.shuffles.specs.Shuffles.{shuffle_count, any_lacking}
 use Rattle.account.specs.Measures.{deviation_of, cross_of}
 use Rattle.account.specs.Refusals.{call_rules}
 use Rattle.account.specs.declared.Counts.{Counts}
-use Rattle.account.specs.declared.RankAnswer.{RankAnswer}
-use Rattle.account.specs.declared.RankAnswer.TheVariants.{Refused, Counted}
 
 -- ---- of n zones, all of which count
 
@@ -64,15 +63,10 @@ rank_refusal n values weights shuffles = first_broken (rank_rules n values weigh
 abbrev pub three : Counts → List ℕ
 three counts = counts.less ∷ counts.equal ∷ counts.greater ∷ []
 
--- the number of the refusal, 0 where nothing is refused
-unfoldable pub number_of : RankAnswer → ℕ
-number_of (Refused number) = number
-number_of (Counted counts) = 0
-
 -- the three counts, none where the call is refused
-unfoldable pub counts_of : RankAnswer → List ℕ
-counts_of (Refused number) = []
-counts_of (Counted counts) = three counts
+unfoldable pub counts_of : Result Counts Refusal → List ℕ
+counts_of (Ok counts) = three counts
+counts_of (Err refusal) = []
 
 -- the counts that the call answers
 unfoldable pub rank_counts : ℕ → List ℤ → List ℕ → List ℕ → List ℕ

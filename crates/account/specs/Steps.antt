@@ -1,16 +1,17 @@
 -- What the private functions ask of each other; no part of the public promise. Assumes nothing.
-use Rattle.std.specs.Prelude.{◌≡◌, cond, List, ℕ, zero, suc, ◌+◌, ◌*◌, ◌≤◌, ◌<◌, eqb, ltb, ℤ, pos, nat_abs, ◌+ℤ◌, ◌-ℤ◌, length, get_or, take}
+use Rattle.std.specs.Prelude.{◌≡◌, cond, List, ℕ, zero, suc, ◌+◌, ◌*◌, ◌≤◌, ◌<◌, eqb, ltb, ℤ, pos, nat_abs, ◌+ℤ◌, ◌-ℤ◌, length, get_or, take, Result, IfOk}
 use Rattle.whole.specs.Integer.{square}
 use Rattle.whole.specs.Search.{first}
 use Rattle.whole.specs.Sum.{sum}
 use Rattle.whole.specs.Table.{table, table_rows, at, pair_at}
+use Rattle.refusals.specs.declared.Refusal.{Refusal}
+use Rattle.refusals.specs.Refusals.{number_of}
 use Rattle.kept.specs.Kept.{passing, kept_zones, kept_count}
 use Rattle.account.specs.Measures.{deviation_of, row_of, cross_of, local_of}
 use Rattle.account.specs.Answers.{zones_local}
 use Rattle.account.specs.Classes.{class_weight, zones_class_row, zones_class_local, sum_at}
 use Rattle.account.specs.Rank.{shuffled}
 use Rattle.account.specs.declared.ClassRow.{ClassRow}
-use Rattle.account.specs.declared.judging.Found.{Found}
 
 -- n numbers, each at most b in size
 pub record Sized (b : ℕ) (numbers : List ℤ) (n : ℕ) : Type 0 where
@@ -69,11 +70,11 @@ at_place places many numbers i = cond (ltb (get_or places i 0) many) (numbers (g
 abbrev pub placed_number : List ℕ → ℕ → ℕ → (ℕ → ℕ) → ℕ → ℕ
 placed_number places many n row k = get_or places (row (get_or (passing (λ p. ltb (get_or places (row p) 0) many) n) k 0)) 0
 
--- what a judge found: the number of the refusal, and where that is 0 the zones kept, at the front of the list that it leaves
-pub record Finds (n : ℕ) (weights : List ℕ) (refusal : ℕ) (left : List ℕ) (r : Found) : Type 0 where
-  pub number : r.number ≡ refusal
-  pub many : refusal ≡ 0 → r.kept ≡ kept_count n weights
-  pub front : refusal ≡ 0 → take r.kept left ≡ kept_zones n weights
+-- what a judge found: the number of the refusal, or how many zones are kept, which stand at the front of the list that it leaves
+pub record Finds (n : ℕ) (weights : List ℕ) (refusal : ℕ) (left : List ℕ) (r : Result ℕ Refusal) : Type 0 where
+  pub number : number_of r ≡ refusal
+  pub many : IfOk r (λ many. many ≡ kept_count n weights)
+  pub front : IfOk r (λ many. take many left ≡ kept_zones n weights)
 
 -- ---- what is worked of n zones all of which count, in lists
 

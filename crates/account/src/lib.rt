@@ -13,16 +13,17 @@ mod ranking;
 mod shuffling;
 mod working;
 
-// What the reader and the writer of the job image judge by too.
 ghost use Rattle.std.specs.Prelude.{◌≡◌};
 ghost use Rattle.account.specs.Refusals.{account_refusal};
-ghost use Rattle.account.specs.Answers.{number_of, figures_of, account_figures, account_locals};
+ghost use Rattle.refusals.specs.Refusals.{number_of};
+ghost use Rattle.account.specs.Answers.{figures_of, account_figures, account_locals};
 ghost use Rattle.account.specs.Classes.{class_refusal, class_account_figures};
 ghost use Rattle.account.specs.Classes.{class_account_rows, class_account_locals, class_account_own};
 ghost use Rattle.account.specs.Rank.{rank_refusal, rank_counts, counts_of};
-ghost use Rattle.account.specs.Rank as rank;
 
+// What the reader and the writer of the job image judge by too.
 pub use judging::judge;
+use refusals::Refusal;
 
 // The whole numbers of a job.
 #[derive(Clone, Copy)]
@@ -52,13 +53,6 @@ pub struct ClassRow {
     pub squares: i64,
 }
 
-// The number of the refusal, or the sums.
-#[derive(Clone, Copy)]
-pub enum Answer {
-    Refused(u8),
-    Accounted(Sums),
-}
-
 // How many shuffles have a P that compares so with the job's own.
 #[derive(Clone, Copy)]
 pub struct Counts {
@@ -67,28 +61,21 @@ pub struct Counts {
     pub greater: usize,
 }
 
-// The number of the refusal, or the three counts.
-#[derive(Clone, Copy)]
-pub enum RankAnswer {
-    Refused(u8),
-    Counted(Counts),
-}
-
 // Works the account of the job. `locals` is lent n places for L(0), L(1), .., which is 0 at a zone left out, and is left as it was where
 // the job is refused.
-pub fn account(n: usize, values: &[i32], weights: &[u8], locals: &mut [i64]) -> Answer
+pub fn account(
+    n: usize,
+    values: &[i32],
+    weights: &[u8],
+    locals: &mut [i64],
+) -> Result<Sums, Refusal>
     ensures number { number_of result ≡ account_refusal n values.now weights.now locals.old }
     ensures figures { figures_of result ≡ account_figures n values.now weights.now locals.old }
     ensures lent { locals.new ≡ account_locals n values.now weights.now locals.old }
 {
     let mut zones: [u8; 64] = [0; 64];
-    let found = judging::judge_account(n, values, weights, locals.len(), &mut zones);
-    let refusal = found.number;
-    if refusal != 0 {
-        return Answer::Refused(refusal);
-    }
-    let many = found.kept;
-    Answer::Accounted(kept_zones::job_sums(n, values, weights, &zones[..many], locals))
+    let many = judging::judge_account(n, values, weights, locals.len(), &mut zones)?;
+    Ok(kept_zones::job_sums(n, values, weights, &zones[..many], locals))
 }
 
 // Works the class account of the job, whose pairs have the classes lent, and answers what the account answers: `rows` has 27 places for
@@ -102,7 +89,7 @@ pub fn class_account(
     rows: &mut [i64],
     class_locals: &mut [i64],
     locals: &mut [i64],
-) -> Answer
+) -> Result<Sums, Refusal>
     ensures number { number_of result ≡ class_refusal n values.now weights.now classes.now
         rows.old class_locals.old locals.old }
     ensures figures { figures_of result ≡ class_account_figures n values.now weights.now classes.now
@@ -116,7 +103,7 @@ pub fn class_account(
         rows.old class_locals.old locals.old }
 {
     let mut zones: [u8; 64] = [0; 64];
-    let found = judging::judge_classes(
+    let many = judging::judge_classes(
         n,
         values,
         weights,
@@ -125,13 +112,8 @@ pub fn class_account(
         class_locals.len(),
         locals.len(),
         &mut zones,
-    );
-    let number = found.number;
-    if number != 0 {
-        return Answer::Refused(number);
-    }
-    let many = found.kept;
-    Answer::Accounted(kept_zones::work_classes(
+    )?;
+    Ok(kept_zones::work_classes(
         n,
         values,
         weights,
@@ -145,17 +127,12 @@ pub fn class_account(
 
 // Counts the shuffles whose P is less than, equal to and greater than the job's own, which is not counted itself. `shuffles` has a row
 // of n zone numbers for each, 0 to 499 of them: the zones kept take, in order, the values of the kept zones that it names.
-pub fn rank(n: usize, values: &[i32], weights: &[u8], shuffles: &[u8]) -> RankAnswer
-    ensures number { rank.number_of result ≡ rank_refusal n values.now weights.now shuffles.now }
+pub fn rank(n: usize, values: &[i32], weights: &[u8], shuffles: &[u8]) -> Result<Counts, Refusal>
+    ensures number { number_of result ≡ rank_refusal n values.now weights.now shuffles.now }
     ensures counts { counts_of result ≡ rank_counts n values.now weights.now shuffles.now }
 {
     let mut zones: [u8; 64] = [0; 64];
-    let found = judging::judge_rank(n, values, weights, shuffles, &mut zones);
-    let broken = found.number;
-    if broken != 0 {
-        return RankAnswer::Refused(broken);
-    }
-    let many = found.kept;
+    let many = judging::judge_rank(n, values, weights, shuffles, &mut zones)?;
     let rows = shuffles.len() / n;
-    RankAnswer::Counted(kept_zones::work_rank(n, values, weights, &zones[..many], shuffles, rows))
+    Ok(kept_zones::work_rank(n, values, weights, &zones[..many], shuffles, rows))
 }

@@ -1,5 +1,5 @@
 -- Laws of the number of a refusal: it is never 0, and what a refused call was lent stays. Assumes nothing.
-use Rattle.std.proofs.Common.{◌≡◌, sym, ◌∙◌, ℕ, arith}
+use Rattle.std.proofs.Common.{◌≡◌, refl, sym, ap, ◌∙◌, ℕ, List, [], ◌∷◌, get_or, arith}
 use Rattle.whole.specs.Rules.{unless_refused}
 use Rattle.whole.proofs.Rules.{kept_when_refused, worked_when_taken}
 use Rattle.refusals.specs.declared.Refusal.{Refusal}
@@ -36,3 +36,37 @@ module _ {B : Type 0} (number : ℕ) (worked kept : B) where
   -- and is worked where an answer that is no refusal has the number
   pub worked_by : 0 ≡ number → unless_refused number worked kept ≡ worked
   worked_by h = worked_when_taken number worked kept (sym h)
+
+-- ---- a cause is known by its number
+causes : List Refusal
+causes =
+    Zones ∷ Zones ∷ Length ∷ Value ∷ Weight ∷ Diagonal ∷ Weightless ∷ Spreadless ∷ Category ∷ Class ∷ Coordinate ∷ Place ∷ Bands ∷ Shuffle
+    ∷ Cut ∷ Count ∷ Joins ∷ Trailing ∷ Ratio ∷ Output ∷ []
+
+by_place : ℕ → Refusal
+by_place k = get_or causes k Zones
+
+found_by_place : (e : Refusal) → by_place (number_by e) ≡ e
+unfolding by_place causes
+found_by_place Zones = refl
+found_by_place Length = refl
+found_by_place Value = refl
+found_by_place Weight = refl
+found_by_place Diagonal = refl
+found_by_place Weightless = refl
+found_by_place Spreadless = refl
+found_by_place Category = refl
+found_by_place Class = refl
+found_by_place Coordinate = refl
+found_by_place Place = refl
+found_by_place Bands = refl
+found_by_place Shuffle = refl
+found_by_place Cut = refl
+found_by_place Count = refl
+found_by_place Joins = refl
+found_by_place Trailing = refl
+found_by_place Ratio = refl
+found_by_place Output = refl
+
+pub cause_unique : (a b : Refusal) → number_by a ≡ number_by b → a ≡ b
+cause_unique a b e = sym (found_by_place a) ∙ ap by_place e ∙ found_by_place b

@@ -3,15 +3,15 @@
 
 mod lacking;
 
-ghost use Rattle.std.specs.Prelude.{◌≡◌};
+ghost use Rattle.std.specs.Prelude.{◌≡◌, length};
 ghost use Rattle.refusals.specs.Refusals.{number_of};
-ghost use Rattle.shuffles.specs.Shuffles.{shuffle_refusal};
+ghost use Rattle.shuffles.specs.Shuffles.{row_refusal, shuffle_refusal};
 
 use refusals::Refusal;
 
-// 1, 2 and 13.
-pub fn judge_shuffles(n: usize, shuffles: &[u8]) -> Result<(), Refusal>
-    ensures { number_of result ≡ shuffle_refusal n shuffles.now }
+// 1 and 2: n, and whether the list has nothing beside its 0 to 499 whole rows.
+pub fn judge_rows(n: usize, shuffles: &[u8]) -> Result<(), Refusal>
+    ensures { number_of result ≡ row_refusal n (length shuffles.now) }
 {
     if n < 2 {
         return Err(Refusal::Zones);
@@ -26,6 +26,15 @@ pub fn judge_shuffles(n: usize, shuffles: &[u8]) -> Result<(), Refusal>
     if shuffles.len() != rows * n {
         return Err(Refusal::Length);
     }
+    Ok(())
+}
+
+// 1, 2 and 13.
+pub fn judge_shuffles(n: usize, shuffles: &[u8]) -> Result<(), Refusal>
+    ensures { number_of result ≡ shuffle_refusal n shuffles.now }
+{
+    judge_rows(n, shuffles)?;
+    let rows = shuffles.len() / n;
     if lacking::any_lacking(n, shuffles, rows) {
         return Err(Refusal::Shuffle);
     }

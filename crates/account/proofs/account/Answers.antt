@@ -1,75 +1,52 @@
 -- `account` meets its contract: judged first, and worked only where no rule is broken. Assumes nothing.
-use mathlib.Core.Path.{◌≡◌, refl, sym, ◌∙◌}
+use Rattle.std.proofs.Common.{◌≡◌, sym, ◌∙◌}
+use Rattle.std.proofs.lemmas.Result.{err_from_is_err_and}
 use lib.Seq.{length-take-le}
+use Rattle.refusals.proofs.Refusals.{left_by, worked_by}
 use Rattle.account.specs.Refusals.{account_rules, account_refusal}
-use Rattle.account.specs.Answers.{figures_of}
+use Rattle.account.specs.Answers.{figures_of, account_figures, account_locals}
 use Rattle.account.proofs.Accepted.{Accepted, accepted}
-use Rattle.account.proofs.Answered.{refused, accounted}
 use Rattle.account.proofs.Found.{Left, found_left}
 use Rattle.account.proofs.account.Goals as goal
-use Rattle.account.proofs.account.Goals.{After-judge_account-found, Else-refusal-ne0, Start}
+use Rattle.account.proofs.account.Goals.{In_ok-many}
 
-abbrev start : After-judge_account-found → Start
-start b = ((goal.at.After-judge_account-found b).Start)
+module _ (c : In_ok-many) where
+  -- nothing is refused
+  none : 0 ≡ account_refusal c.args.n c.args.values.now c.args.weights.now c.args.locals.now
+  unfolding account_refusal account_rules
+  none = c.in_ok-many.ensures.number
 
--- what the judge found
-found :
-    (b : After-judge_account-found) →
-    let a = (start b).args in
-    b.judge_account-found.result.number ≡ account_refusal a.n a.values.now a.weights.now a.locals.now
-unfolding account_refusal account_rules
-found b = b.judge_account-found.ensures.number
+  good : Accepted c.args.n c.args.values.now c.args.weights.now c.args.locals.now
+  good = accepted _ _ _ _ (sym none)
 
--- nothing
-none :
-    (c : Else-refusal-ne0) →
-    let a = (start ((goal.at.Else-refusal-ne0 c).After-judge_account-found)).args in
-    account_refusal a.n a.values.now a.weights.now a.locals.now ≡ 0
-none c = sym (found ((goal.at.Else-refusal-ne0 c).After-judge_account-found)) ∙ c.if-refusal-ne0.false
+  -- and the zones kept
+  zones : Left c.args.n c.args.weights.now c.judge_account.new.zones c.in_ok-many.many
+  zones = found_left c.in_ok-many.ensures
 
-good : (c : Else-refusal-ne0) → let a = (start ((goal.at.Else-refusal-ne0 c).After-judge_account-found)).args in Accepted a.n a.values.now
-    a.weights.now a.locals.now
-good c = accepted _ _ _ _ (none c)
-
--- and the zones kept
-zones :
-    (c : Else-refusal-ne0) →
-    let b = c in
-    Left (start ((goal.at.Else-refusal-ne0 c).After-judge_account-found)).args.n (start ((goal.at.Else-refusal-ne0
-    c).After-judge_account-found)).args.weights.now b.judge_account-found.new.zones b.judge_account-found.result.kept
-unfolding account_refusal account_rules
-zones c = found_left c.judge_account-found.ensures (none c)
-
-pub slice_bounds-judge_account-end : goal.slice_bounds-judge_account-end
-slice_bounds-judge_account-end c = refl
-
-pub judge_account-found-requires : goal.judge_account-found-requires
-judge_account-found-requires c = refl
-
-pub returns-then-refusal-ne0 : goal.returns-then-refusal-ne0
-returns-then-refusal-ne0 c = let all = refused _ _ _ _ _ (found ((goal.at.returns-then-refusal-ne0 c).After-judge_account-found))
-    c.if-refusal-ne0.true in record {
-      number = all.0;
-      figures = all.1.0;
-      lent = all.1.1;
-    }
+pub returns-in_err-many : goal.returns-in_err-many
+unfolding account_refusal account_rules figures_of account_figures account_locals
+returns-in_err-many c =
+    let p = err_from_is_err_and c.from_residual.result c.from_residual.ensures.1 in
+    let e = c.in_err-many.ensures.number in
+    rw (p.1, p.2) (record { number = e; figures = sym (left_by _ _ _ _ e); lent = sym (left_by _ _ _ _ e) })
 
 pub slice_bounds-zones-end : goal.slice_bounds-zones-end
 slice_bounds-zones-end c = (zones c).room
 
 pub slice_bounds-job_sums-end : goal.slice_bounds-job_sums-end
-slice_bounds-job_sums-end c = sym (length-take-le _ _ (zones ((goal.at.slice_bounds-job_sums-end c).Else-refusal-ne0)).room)
+slice_bounds-job_sums-end c = sym (length-take-le _ _ (zones ((goal.at.slice_bounds-job_sums-end c).In_ok-many)).room)
 
 pub job_sums-requires : goal.job_sums-requires
-job_sums-requires c =
-    let else_refusal_ne0 = (goal.at.job_sums-requires c).Else-refusal-ne0 in
-    record { job = (good else_refusal_ne0).good.job; zones_value = (zones else_refusal_ne0).zones; locals_len = (good else_refusal_ne0).room }
+job_sums-requires c = let o = (goal.at.job_sums-requires c).In_ok-many in record {
+  job = (good o).good.job;
+  zones_value = (zones o).zones;
+  locals_len = (good o).room;
+}
 
 pub returns : goal.returns
-unfolding figures_of
-returns c = let all = accounted _ _ _ _ _ _ (none ((goal.at.returns c).Else-refusal-ne0)) c.job_sums.ensures.result_value
-    c.job_sums.ensures.locals_after in record {
-      number = all.0;
-      figures = all.1.0;
-      lent = all.1.1;
-    }
+unfolding figures_of account_figures account_locals
+returns c = let z = none ((goal.at.returns c).In_ok-many) in record {
+  number = z;
+  figures = c.job_sums.ensures.result_value ∙ sym (worked_by _ _ _ z);
+  lent = c.job_sums.ensures.locals_after ∙ sym (worked_by _ _ _ z);
+}

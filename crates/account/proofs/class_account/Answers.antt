@@ -1,87 +1,66 @@
 -- `class_account` meets its contract: judged first, and worked only where no rule is broken. Assumes nothing.
-use mathlib.Core.Path.{◌≡◌, refl, sym, ◌∙◌}
-use Prim.Native.Nat.{ℕ}
+use Rattle.std.proofs.Common.{◌≡◌, sym, ◌∙◌}
+use Rattle.std.proofs.lemmas.Result.{err_from_is_err_and}
 use lib.Seq.{length-take-le}
-use Rattle.whole.proofs.Rules.{kept_when_refused, worked_when_taken}
-use Rattle.account.specs.Answers.{number_of, figures_of}
+use Rattle.refusals.proofs.Refusals.{left_by, worked_by}
+use Rattle.account.specs.Answers.{figures_of}
 use Rattle.account.specs.Classes.{class_refusal, class_account_figures, class_account_rows, class_account_locals, class_account_own}
 use Rattle.account.proofs.Accepted.{class_job, class_accepted}
 use Rattle.account.proofs.Found.{Left, found_left}
 use Rattle.account.proofs.class_account.Goals as goal
-use Rattle.account.proofs.class_account.Goals.{After-judge_classes-found, Else-number-ne0, Start}
+use Rattle.account.proofs.class_account.Goals.{In_ok-many}
 
--- the refusal of what was lent
-abbrev refusal : Start → ℕ
-refusal s =
-    let a = s.args in
-    class_refusal a.n a.values.now a.weights.now a.classes.now a.rows.now a.class_locals.now a.locals.now
+module _ (c : In_ok-many) where
+  -- nothing is refused
+  none :
+      let a = c.args in
+      0 ≡ class_refusal a.n a.values.now a.weights.now a.classes.now a.rows.now a.class_locals.now a.locals.now
+  unfolding class_refusal
+  none = c.in_ok-many.ensures.number
 
-abbrev start : After-judge_classes-found → Start
-start b = ((goal.at.After-judge_classes-found b).Start)
+  -- and the zones kept
+  zones : Left c.args.n c.args.weights.now c.judge_classes.new.zones c.in_ok-many.many
+  zones = found_left c.in_ok-many.ensures
 
--- what the judge found
-found : (b : After-judge_classes-found) → b.judge_classes-found.result.number ≡ refusal (start b)
-unfolding class_refusal
-found b = b.judge_classes-found.ensures.number
-
--- nothing is refused
-taken : (c : Else-number-ne0) → refusal (start ((goal.at.Else-number-ne0 c).After-judge_classes-found)) ≡ 0
-taken c = sym (found ((goal.at.Else-number-ne0 c).After-judge_classes-found)) ∙ c.if-number-ne0.false
-
--- and the zones kept
-zones :
-    (c : Else-number-ne0) →
-    let b = c in
-    Left (start ((goal.at.Else-number-ne0 c).After-judge_classes-found)).args.n (start ((goal.at.Else-number-ne0
-    c).After-judge_classes-found)).args.weights.now b.judge_classes-found.new.zones b.judge_classes-found.result.kept
-unfolding class_refusal
-zones c = found_left c.judge_classes-found.ensures (taken c)
-
-pub slice_bounds-judge_classes-end : goal.slice_bounds-judge_classes-end
-slice_bounds-judge_classes-end c = refl
-
-pub judge_classes-found-requires : goal.judge_classes-found-requires
-judge_classes-found-requires c = refl
-
-pub returns-then-number-ne0 : goal.returns-then-number-ne0
-unfolding number_of figures_of class_account_figures class_account_rows class_account_locals class_account_own
-returns-then-number-ne0 c =
-    let after_judge_classes_found = (goal.at.returns-then-number-ne0 c).After-judge_classes-found in
-    let e = found after_judge_classes_found in
-    let some : refusal (start after_judge_classes_found) ≡ 0 → ⊥ = λ z. c.if-number-ne0.true (e ∙ z) in record {
+pub returns-in_err-many : goal.returns-in_err-many
+unfolding class_refusal figures_of class_account_figures class_account_rows class_account_locals class_account_own
+returns-in_err-many c =
+    let p = err_from_is_err_and c.from_residual.result c.from_residual.ensures.1 in
+    let e = c.in_err-many.ensures.number in
+    rw (p.1, p.2) (record {
       number = e;
-      figures = sym (kept_when_refused _ _ _ some);
-      rows = sym (kept_when_refused _ _ _ some);
-      numerators = sym (kept_when_refused _ _ _ some);
-      own = sym (kept_when_refused _ _ _ some);
-    }
+      figures = sym (left_by _ _ _ _ e);
+      rows = sym (left_by _ _ _ _ e);
+      numerators = sym (left_by _ _ _ _ e);
+      own = sym (left_by _ _ _ _ e);
+    })
 
 pub slice_bounds-zones-end : goal.slice_bounds-zones-end
 slice_bounds-zones-end c = (zones c).room
 
 pub slice_bounds-work_classes-end : goal.slice_bounds-work_classes-end
-slice_bounds-work_classes-end c = sym (length-take-le _ _ (zones ((goal.at.slice_bounds-work_classes-end c).Else-number-ne0)).room)
+slice_bounds-work_classes-end c = sym (length-take-le _ _ (zones ((goal.at.slice_bounds-work_classes-end c).In_ok-many)).room)
 
 pub work_classes-requires : goal.work_classes-requires
 unfolding class_refusal
 work_classes-requires c =
-    let else_number_ne0 = (goal.at.work_classes-requires c).Else-number-ne0 in
-    let g = class_accepted _ _ _ _ _ _ _ (taken else_number_ne0) in record {
+    let o = (goal.at.work_classes-requires c).In_ok-many in
+    let g = class_accepted _ _ _ _ _ _ _ (sym (none o)) in record {
       class_job = class_job g.whole;
-      zones_value = (zones else_number_ne0).zones;
+      zones_value = (zones o).zones;
       rows_len = g.rows_fit;
       class_locals_len = g.of_classes_fit;
       locals_len = g.own_fit;
     }
 
 pub returns : goal.returns
-unfolding number_of figures_of class_account_figures class_account_rows class_account_locals class_account_own
+unfolding figures_of class_account_figures class_account_rows class_account_locals class_account_own
 returns c =
     let worked = c.work_classes.ensures in
-    let z = taken ((goal.at.returns c).Else-number-ne0) in record {
-      number = sym z;
-      figures = worked.result_value ∙ sym (worked_when_taken _ _ _ z);
-      rows = worked.rows_after ∙ sym (worked_when_taken _ _ _ z);
-      numerators = worked.class_locals_after ∙ sym (worked_when_taken _ _ _ z);
-      own = worked.locals_after ∙ sym (worked_when_taken _ _ _ z);
+    let z = none ((goal.at.returns c).In_ok-many) in record {
+      number = z;
+      figures = worked.result_value ∙ sym (worked_by _ _ _ z);
+      rows = worked.rows_after ∙ sym (worked_by _ _ _ z);
+      numerators = worked.class_locals_after ∙ sym (worked_by _ _ _ z);
+      own = worked.locals_after ∙ sym (worked_by _ _ _ z);
     }

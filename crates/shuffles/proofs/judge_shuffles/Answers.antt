@@ -1,100 +1,80 @@
--- `judge_shuffles` meets its contract: n, then the rows that the code counts, then what the search finds. Assumes nothing.
-use mathlib.Core.Path.{◌≡◌, sym, ap, ◌∙◌}
-use Prim.Native.Nat.{ℕ, ◌*◌, ◌/◌, ◌<◌}
-use native.Mathlib.Nat as N
-use native.Mathlib.Omega.{arith}
-use borrow.Author.Tests.{lt-ltb, le-ltb, eq-eqb, ne_eqb}
-use lib.ListN.{length}
+-- `judge_shuffles` meets its contract: the number of n and of the length, then what the search finds. Assumes nothing.
+use Rattle.std.proofs.Common.{◌≡◌, sym, ap, ◌∙◌, [], ◌∷◌, ℕ, ◌*◌, ◌/◌, arith, length}
+use Rattle.std.proofs.lemmas.Result.{err_from_is_err_and}
+use borrow.Author.Tests.{le-ltb, eq-eqb}
+use Rattle.refusals.proofs.Refusals.{not_refused}
+use Rattle.whole.specs.Rules.{size_rules}
 use Rattle.whole.specs.Search.{some}
-use Rattle.shuffles.specs.Shuffles.{shuffle_count, any_lacking, shuffle_refusal}
-use Rattle.shuffles.proofs.ShuffleList.{all_rows, too_many}
+use Rattle.whole.proofs.Rules.{Sizes, sizes_hold, fits, first_here}
+use Rattle.shuffles.specs.Shuffles.{shuffle_count, any_lacking, row_refusal, shuffle_refusal}
+use Rattle.shuffles.proofs.ShuffleList.{at_most_499, whole_rows}
 use Rattle.shuffles.proofs.judge_shuffles.Goals as goal
-use Rattle.shuffles.proofs.judge_shuffles.Goals.{After-any_lacking, Else-n-gt64, Else-rows-gt499, Else-shuffles-rows, Start}
+use Rattle.shuffles.proofs.judge_shuffles.Goals.{In_ok-judge_rows, After-any_lacking}
 
--- n is good
-module _ (c : Else-n-gt64) where
-  abbrev a : Start
-  a = ((goal.at.Else-n-gt64 c).Start)
-
+-- n is good, and the list has nothing beside its rows
+module _ (c : In_ok-judge_rows) where
   abbrev n : ℕ
-  n = a.args.n
+  n = c.args.n
 
   abbrev long : ℕ
-  long = length a.args.shuffles.now
+  long = length c.args.shuffles.now
 
-  some_zones : 0 < n
-  some_zones = omega (arith, c.if-n-lt2.false)
+  sized : Sizes n ((long, shuffle_count n long * n) ∷ [])
+  unfolding row_refusal
+  sized = sizes_hold n ((long, shuffle_count n long * n) ∷ []) (sym c.in_ok-judge_rows.ensures)
 
--- the rows that the code counts are the shuffles
-counted : (c : Else-rows-gt499) → let b = c in shuffle_count (n ((goal.at.Else-rows-gt499 c).Else-n-gt64)) (long ((goal.at.Else-rows-gt499
-    c).Else-n-gt64)) ≡ long ((goal.at.Else-rows-gt499 c).Else-n-gt64) / n ((goal.at.Else-rows-gt499 c).Else-n-gt64)
-counted c =
-    let else_n_gt64 = (goal.at.Else-rows-gt499 c).Else-n-gt64 in
-    all_rows (n else_n_gt64) (long else_n_gt64) c.if-rows-gt499.false
+  whole : long ≡ shuffle_count n long * n
+  whole = (fits long (shuffle_count n long * n) [] sized.fitting).0
 
--- and the list has nothing beside them
-whole : (c : Else-shuffles-rows) → let b = c in long ((goal.at.Else-shuffles-rows c).Else-n-gt64) ≡ shuffle_count (n
-    ((goal.at.Else-shuffles-rows c).Else-n-gt64)) (long ((goal.at.Else-shuffles-rows c).Else-n-gt64)) * n ((goal.at.Else-shuffles-rows
-    c).Else-n-gt64)
-whole c = c.if-shuffles-rows.false ∙ ap (λ r. r * n ((goal.at.Else-shuffles-rows c).Else-n-gt64)) (sym (counted
-    ((goal.at.Else-shuffles-rows c).Else-rows-gt499)))
+  counted : shuffle_count n long ≡ long / n
+  counted = whole_rows n long (omega (arith, sized.two)) whole
 
 -- what the search finds is what the last rule asks
 searched :
     (c : After-any_lacking) →
-    let s = (a ((goal.at.After-any_lacking c).Else-n-gt64)).args in any_lacking s.n s.shuffles.now ≡ c.any_lacking.result
+    let s = c.args in any_lacking s.n s.shuffles.now ≡ c.any_lacking.result
 unfolding any_lacking
-searched c = ap (some _) (counted ((goal.at.After-any_lacking c).Else-rows-gt499)) ∙ sym c.any_lacking.ensures
+searched c = ap (some _) (counted ((goal.at.After-any_lacking c).In_ok-judge_rows)) ∙ sym c.any_lacking.ensures
 
-pub returns-then-n-lt2 : goal.returns-then-n-lt2
-unfolding shuffle_refusal
-returns-then-n-lt2 c = simp (lt-ltb _ _ c.if-n-lt2.true)
+pub returns-in_err-judge_rows : goal.returns-in_err-judge_rows
+unfolding row_refusal shuffle_refusal
+returns-in_err-judge_rows c =
+    let p = err_from_is_err_and c.from_residual.result c.from_residual.ensures.1 in
+    let a = c.args in
+    let long = length a.shuffles.now in
+    rw (p.1, p.2) (first_here ((any_lacking a.n a.shuffles.now, 13) ∷ []) (size_rules a.n ((long, shuffle_count a.n long * a.n) ∷ [])) _
+    c.in_err-judge_rows.ensures (not_refused _))
 
-pub returns-then-n-gt64 : goal.returns-then-n-gt64
-unfolding shuffle_refusal
-returns-then-n-gt64 c = simp (le-ltb _ _ c.if-n-lt2.false, lt-ltb _ _ c.if-n-gt64.true)
-
-pub returns-then-rows-gt499 : goal.returns-then-rows-gt499
-unfolding shuffle_refusal
-returns-then-rows-gt499 c =
-    let else_n_gt64 = (goal.at.returns-then-rows-gt499 c).Else-n-gt64 in
-    let e = too_many (n else_n_gt64) (long else_n_gt64) (some_zones else_n_gt64) c.if-rows-gt499.true in
-    simp (le-ltb _ _ c.if-n-lt2.false, le-ltb _ _ c.if-n-gt64.false, ne_eqb _ _ e)
-
-pub overflow_mul-rows : goal.overflow_mul-rows
-overflow_mul-rows c =
-    let else_n_gt64 = (goal.at.overflow_mul-rows c).Else-n-gt64 in
-    omega (arith, N.div-mul-le_self (long else_n_gt64) (n else_n_gt64))
-
-pub returns-then-shuffles-rows : goal.returns-then-shuffles-rows
-unfolding shuffle_refusal
-returns-then-shuffles-rows c =
-    let else_n_gt64 = (goal.at.returns-then-shuffles-rows c).Else-n-gt64 in
-    let e : long else_n_gt64 ≡ shuffle_count (n else_n_gt64) (long else_n_gt64) * n else_n_gt64 → ⊥ = λ q. c.if-shuffles-rows.true (q ∙ ap
-    (λ r. r * n else_n_gt64) (counted ((goal.at.returns-then-shuffles-rows c).Else-rows-gt499))) in
-    simp (le-ltb _ _ c.if-n-lt2.false, le-ltb _ _ c.if-n-gt64.false, ne_eqb _ _ e)
+pub nonzero_div-rows : goal.nonzero_div-rows
+nonzero_div-rows c = omega (arith, (sized c).two)
 
 pub any_lacking-requires : goal.any_lacking-requires
-any_lacking-requires c = record { n_bound = c.if-n-gt64.false; rows_bound = c.if-rows-gt499.false; shuffles_len = c.if-shuffles-rows.false }
+any_lacking-requires c =
+    let o = (goal.at.any_lacking-requires c).In_ok-judge_rows in
+    let k = counted o in record {
+      n_bound = (sized o).zones;
+      rows_bound = omega (arith, k, at_most_499 (n o) (long o));
+      shuffles_len = whole o ∙ ap (λ r. r * n o) k;
+    }
 
 pub returns-then-any_lacking : goal.returns-then-any_lacking
 unfolding shuffle_refusal
 returns-then-any_lacking c =
+    let o = (goal.at.returns-then-any_lacking c).In_ok-judge_rows in
     simp (
-      le-ltb _ _ c.if-n-lt2.false,
-      le-ltb _ _ c.if-n-gt64.false,
-      eq-eqb _ _ (whole ((goal.at.returns-then-any_lacking
-          c).Else-shuffles-rows)),
+      le-ltb _ _ (sized o).two,
+      le-ltb _ _ (sized o).zones,
+      eq-eqb _ _ (whole o),
       searched ((goal.at.returns-then-any_lacking c).After-any_lacking) ∙ c.if-any_lacking.true,
     )
 
 pub returns : goal.returns
 unfolding shuffle_refusal
 returns c =
+    let o = (goal.at.returns c).In_ok-judge_rows in
     simp (
-      le-ltb _ _ c.if-n-lt2.false,
-      le-ltb _ _ c.if-n-gt64.false,
-      eq-eqb _ _ (whole ((goal.at.returns c).Else-shuffles-rows)),
-      searched
-          ((goal.at.returns c).After-any_lacking) ∙ c.if-any_lacking.false,
+      le-ltb _ _ (sized o).two,
+      le-ltb _ _ (sized o).zones,
+      eq-eqb _ _ (whole o),
+      searched ((goal.at.returns c).After-any_lacking) ∙ c.if-any_lacking.false,
     )
