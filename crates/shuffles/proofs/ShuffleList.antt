@@ -2,16 +2,18 @@
 use mathlib.Core.Path.{◌≡◌, refl, sym, ap, ◌∙◌}
 use mathlib.Core.Bool.{Bool, true, false, not, cond}
 use mathlib.Core.List.{List}
-use Prim.Native.Nat.{ℕ, ◌+◌, ◌*◌, ◌≤◌, ◌<◌, ◌/◌}
+use Prim.Native.Nat.{ℕ, ◌+◌, ◌*◌, ◌-◌, ◌≤◌, ◌<◌, ◌/◌}
 use native.Mathlib.Decide.{ℕ_discrete}
 use native.Mathlib.Nat as N
 use native.Mathlib.Omega.{arith}
 use borrow.Author.Tests.{eq-eqb, ne_eqb, lt-ltb, le-ltb, ltb-false}
 use lib.Dec.{ltb, eqb}
-use lib.ListN.{length, get_or, set}
-use lib.Seq.{get_or-set_same, get_or-set_other}
+use lib.ListN.{length, get_or, set, take, drop, length-drop}
+use lib.Seq.{get_or-set_same, get_or-set_other, get_or-take, get_or-drop, length-take-le}
+use Rattle.whole.specs.Order.{lacks}
 use Rattle.whole.specs.Search.{some}
-use Rattle.whole.proofs.Search.{some_found, some_same}
+use Rattle.whole.specs.Table.{pair_at}
+use Rattle.whole.proofs.Search.{some_found, some_same, some_cong}
 use Rattle.shuffles.specs.Shuffles.{shuffle_count}
 use Rattle.shuffles.specs.Steps.{Row, Shuffle, Shuffles, mark_of}
 
@@ -79,3 +81,22 @@ module _ (row : ℕ → ℕ) (i : ℕ) (named : List ℕ)
 pub unnamed : (b : Bool) → eqb (mark_of b) 0 ≡ not b
 unnamed true = refl
 unnamed false = refl
+
+-- ---- row r taken out of the list lacks what the row in the list lacks
+module _ (shuffles : List ℕ) (n r : ℕ) (there : r * n + n ≤ length shuffles) where
+  abbrev part : List ℕ
+  part = take (r * n + n - r * n) (drop (r * n) shuffles)
+
+  pub row_long : length part ≡ n
+  row_long = length-take-le (r * n + n - r * n) (drop (r * n) shuffles) (omega (arith, length-drop (r * n) shuffles)) ∙ omega arith
+
+  row_at : (i : ℕ) → i < n → get_or part i 0 ≡ pair_at shuffles n r i
+  unfolding pair_at
+  row_at i h = get_or-take (r * n + n - r * n) (drop (r * n) shuffles) i 0 (omega arith) ∙ get_or-drop (r * n) shuffles i 0
+
+  pub row_lacks : lacks (λ i. get_or part i 0) (length part) ≡ lacks (pair_at shuffles n r) n
+  unfolding lacks
+  row_lacks =
+      rw row_long
+      (some_cong _ _ n
+      (λ k p. ap not (some_cong _ _ n (λ i q. ap (λ z. eqb z k) (row_at i q)))))

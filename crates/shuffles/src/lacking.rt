@@ -3,46 +3,40 @@ ghost use Rattle.std.specs.Prelude.{◌≡◌, ◌*◌, ◌≤◌, eqb, length, 
 ghost use Rattle.whole.specs.Order.{lacks};
 ghost use Rattle.whole.specs.Search.{some};
 ghost use Rattle.whole.specs.Table.{table, pair_at};
-ghost use Rattle.shuffles.specs.Steps.{Row, mark_of};
+ghost use Rattle.shuffles.specs.Steps.{mark_of};
 
-// Marks each number that row r names. There is a mark for each byte, so that no number has to be looked at before it is marked.
-pub(super) fn mark(n: usize, shuffles: &[u8], r: usize, named: &mut [u8])
-    requires row { Row shuffles.now n r }
-    requires named_value { named.old ≡ table (λ k. 0) 256 }
-    ensures { named.new ≡ table (λ k. mark_of (some (λ i. eqb (pair_at shuffles.now n r i) k) n)) 256 }
+// Marks each number that the row names. There is a mark for each byte, so that no number has to be looked at before it is marked.
+fn mark(row: &[u8], named: &mut [u8])
+    requires { named.old ≡ table (λ k. 0) 256 }
+    ensures { named.new
+        ≡ table (λ k. mark_of (some (λ i. eqb (get_or row.now i 0) k) (length row.now))) 256 }
 {
-    let row = r * n;
-    let mut i: usize = 0;
-    while i < n {
-        let zone = shuffles[row + i] as usize;
-        named[zone] = 1;
-        i += 1;
+    for zone in row {
+        named[usize::from(*zone)] = 1;
     }
 }
 
-// Whether some number is not marked.
-pub(super) fn any_unmarked(named: &[u8]) -> bool
+// Whether some number is not marked. Not left at the first one, so that the compiler can look at several at a time.
+fn any_unmarked(named: &[u8]) -> bool
     ensures { result ≡ some (λ k. eqb (get_or named.now k 0) 0) (length named.now) }
 {
     let mut found = false;
-    let mut k: usize = 0;
-    while k < named.len() {
-        if named[k] == 0 {
+    for mark in named {
+        if *mark == 0 {
             found = true;
         }
-        k += 1;
     }
     found
 }
 
-// Whether row r lacks some zone number.
-pub(super) fn lacks_zone(n: usize, shuffles: &[u8], r: usize) -> bool
-    requires { Row shuffles.now n r }
-    ensures { result ≡ lacks (pair_at shuffles.now n r) n }
+// Whether the row lacks some zone number.
+fn lacks_zone(row: &[u8]) -> bool
+    requires { length row.now ≤ 64 }
+    ensures { result ≡ lacks (λ i. get_or row.now i 0) (length row.now) }
 {
     let mut named: [u8; 256] = [0; 256];
-    mark(n, shuffles, r, &mut named);
-    any_unmarked(&named[..n])
+    mark(row, &mut named);
+    any_unmarked(&named[..row.len()])
 }
 
 // Whether some row lacks some zone number.
@@ -52,12 +46,12 @@ pub(super) fn any_lacking(n: usize, shuffles: &[u8], rows: usize) -> bool
     requires shuffles_len { length shuffles.now ≡ rows * n }
     ensures { result ≡ some (λ r. lacks (pair_at shuffles.now n r) n) rows }
 {
-    let mut r: usize = 0;
-    while r < rows {
-        if lacks_zone(n, shuffles, r) {
+    for r in 0..rows {
+        let first = r * n;
+        let end = first + n;
+        if lacks_zone(&shuffles[first..end]) {
             return true;
         }
-        r += 1;
     }
     false
 }

@@ -1,13 +1,9 @@
 use mathlib.Core.Path.{◌≡◌}
 use mathlib.Core.Bool.{false}
-use Prim.Native.Nat.{◌-◌, ◌≤◌}
 use Rattle.whole.specs.Order.{lacks}
 use Rattle.whole.specs.Search.{some}
 use Rattle.whole.specs.Table.{pair_at}
 use Rattle.shuffles.proofs.lacking.any_lacking.Given as goal
 
 abbrev pub invariant-loop-r : goal.invariant-loop-r
-invariant-loop-r l = (l.r ≤ l.rows) × (some (λ r'. lacks (pair_at l.shuffles l.n r') l.n) l.r ≡ false)
-
-abbrev pub decreases-loop-r : goal.decreases-loop-r
-decreases-loop-r l = l.rows - l.r
+invariant-loop-r l = some (λ r'. lacks (pair_at l.shuffles l.n r') l.n) l.r ≡ false
