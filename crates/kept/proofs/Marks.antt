@@ -1,69 +1,21 @@
--- The marks of the columns that hold weight: a list that is changed from the front, one more row, and a kept zone by its row and its
--- column. Assumes nothing.
+-- The marks of the columns that hold weight: the row of a zone, one more row that is marked, and a kept zone by its row and its column.
+-- Assumes nothing.
 use mathlib.Core.Path.{◌≡◌, refl, sym, ap, ◌∙◌}
 use mathlib.Core.Bool.{Bool, true, false, cond, ◌||◌}
 use mathlib.Core.List.{List}
 use Prim.Native.Nat.{ℕ, zero, suc, ◌+◌, ◌*◌, ◌≤◌, ◌<◌}
 use native.Mathlib.Nat as N
-use native.Mathlib.Decide.{ℕ_discrete}
 use native.Mathlib.Omega.{arith}
-use borrow.Author.Tests.{lt-ltb, le-ltb}
 use lib.Dec.{ltb}
-use lib.ListN.{length, get_or, set, take, drop, length-set, length-drop}
-use lib.Seq.{get_or-set_same, get_or-set_other, get_or-take, get_or-drop, length-take-le}
+use lib.ListN.{length, get_or, take, drop, length-drop}
+use lib.Seq.{get_or-take, get_or-drop, length-take-le}
 use Rattle.whole.specs.Search.{some, any_above}
 use Rattle.whole.specs.Table.{table, pair_at}
 use Rattle.whole.proofs.Lists.{few}
-use Rattle.whole.proofs.Search.{some_next, some_same, some_cong}
-use Rattle.whole.proofs.Table.{table_length, table_held, is_table}
+use Rattle.whole.proofs.Search.{some_next, some_cong}
+use Rattle.whole.proofs.Table.{table_length, table_held, table_cong}
 use Rattle.kept.specs.Kept.{keeps}
 use Rattle.kept.specs.Steps.{column_mark}
-
--- ---- a list that is changed from the front: g below j, f from j on
-pub record Changed (f g : ℕ → ℕ) (n j : ℕ) (l : List ℕ) : Type 0 where
-  pub count : length l ≡ n
-  pub done : (k : ℕ) → k < j → get_or l k 0 ≡ g k
-  pub left : (k : ℕ) → j ≤ k → k < n → get_or l k 0 ≡ f k
-
-module _ (f g : ℕ → ℕ) (n : ℕ) where
-  pub changed_none : (l : List ℕ) → l ≡ table f n → Changed f g n 0 l
-  changed_none l e = record {
-    count = ap length e ∙ table_length f n;
-    done = λ k p. let z : ⊥ = omega arith in absurd z;
-    left = λ k p q. table_held f n 0 l e k q;
-  }
-
-  pub changed_next : (j : ℕ) (l : List ℕ) (v : ℕ) → Changed f g n j l → j < n → v ≡ g j → Changed f g n (j + 1) (set l j v)
-  changed_next j l v c h e = record {
-    count = length-set l j v ∙ c.count;
-    done = λ k p. pick k p (ℕ_discrete k j);
-    left = λ k p q. get_or-set_other l j k v 0 (λ r. let z : ⊥ = omega arith in z) ∙ c.left k (omega arith) q;
-  }
-    where
-      pick : (k : ℕ) → k < j + 1 → Dec (k ≡ j) → get_or (set l j v) k 0 ≡ g k
-      pick k p (yes r) = rw r (get_or-set_same l j v 0 (omega (arith, c.count)) ∙ e)
-      pick k p (no r) = get_or-set_other l j k v 0 r ∙ c.done k (omega arith)
-
-  pub changed_all : (j : ℕ) (l : List ℕ) → Changed f g n j l → n ≤ j → l ≡ table g n
-  changed_all j l c h = is_table g n 0 l c.count (λ k p. c.done k (omega arith))
-
--- ---- one more row
-module _ (n : ℕ) (weights : List ℕ) (i j v : ℕ) where
-  pub mark_set : v ≡ 1 → 0 < pair_at weights n i j → v ≡ column_mark n weights (i + 1) j
-  mark_set e h =
-      e
-      ∙ sym
-      (ap (λ b. cond b 1 0) (some_next (λ i. ltb 0 (pair_at weights n i j)) i)
-      ∙ rw (lt-ltb 0 (pair_at weights n i j) h) (or_one (some (λ i. ltb 0 (pair_at weights n i j)) i)))
-    where
-      or_one : (b : Bool) → ◌≡◌ {A = ℕ} (cond (b || true) 1 0) 1
-      or_one true = refl
-      or_one false = refl
-
-  pub mark_stays : v ≡ column_mark n weights i j → pair_at weights n i j ≤ 0 → v ≡ column_mark n weights (i + 1) j
-  mark_stays e h =
-      e
-      ∙ ap (λ b. cond b 1 0) (some_same (λ i. ltb 0 (pair_at weights n i j)) i (le-ltb 0 (pair_at weights n i j) h))
 
 -- ---- places of a row
 pub row_end : (n i : ℕ) → i < n → i * n + n ≤ n * n
@@ -71,6 +23,39 @@ row_end n i h = omega (arith, N.mul-le-mul_right n h)
 
 pub row_few : (n i : ℕ) → n ≤ 64 → i < n → i * n + n ≤ 4096
 row_few n i z h = omega (arith, row_end n i h, few n z)
+
+-- ---- the row of zone i, taken out of the weights
+module _ (n : ℕ) (weights : List ℕ) (i : ℕ) where
+  abbrev row : List ℕ
+  row = take n (drop (i * n) weights)
+
+  pub row_long : i * n + n ≤ length weights → length row ≡ n
+  row_long room = length-take-le n (drop (i * n) weights) (omega (arith, length-drop (i * n) weights))
+
+  pub row_at : (j : ℕ) → j < n → get_or row j 0 ≡ pair_at weights n i j
+  unfolding pair_at
+  row_at j h = get_or-take n (drop (i * n) weights) j 0 h ∙ get_or-drop (i * n) weights j 0
+
+-- ---- one more row: a column that holds weight there is marked, and the others stay as they were
+pub marked_next :
+    (n : ℕ) (weights : List ℕ) (i : ℕ) (part marks : List ℕ) → part ≡ take n (drop (i * n) weights) →
+    marks ≡ table (column_mark n weights i) n →
+    table (λ j. cond (ltb 0 (get_or part j 0)) 1 (get_or marks j 0)) (length marks) ≡ table (column_mark n weights (i + 1)) n
+marked_next n weights i part marks p m =
+    ap (table (λ j. cond (ltb 0 (get_or part j 0)) 1 (get_or marks j 0))) (ap length m ∙ table_length _ n)
+    ∙ table_cong _ _ n 0
+    (λ j h.
+    let test : ℕ → Bool = λ i. ltb 0 (pair_at weights n i j) in
+    ap (λ v. cond (ltb 0 v) 1 (get_or marks j 0)) (ap (λ l. get_or l j 0) p ∙ row_at n weights i j h)
+    ∙ ap (cond (test i) 1) (table_held (column_mark n weights i) n 0 marks m j h)
+    ∙ go (test i) (some test i)
+    ∙ ap (λ b. cond b 1 0) (sym (some_next test i)))
+  where
+    go : (b c : Bool) → ◌≡◌ {A = ℕ} (cond b 1 (cond c 1 0)) (cond (c || b) 1 0)
+    go true true = refl
+    go true false = refl
+    go false true = refl
+    go false false = refl
 
 -- ---- some number passes one test or another
 some_either : (a b : ℕ → Bool) (n : ℕ) → some (λ k. a k || b k) n ≡ (some a n || some b n)
@@ -104,19 +89,15 @@ module _ (n : ℕ) (weights : List ℕ) (i : ℕ) where
   pub by_row :
       (part : List ℕ) → part ≡ take n (drop (i * n) weights) → i * n + n ≤ length weights → column_mark n weights n i ≤ 0 →
       any_above 0 part ≡ keeps n weights i
-  unfolding any_above pair_at
-  by_row part e room h = ap (λ l. some (λ k. ltb 0 (get_or l k 0)) (length l)) e ∙ ap (some held) long ∙ same ∙ sym (by_both ∙ go column _ h)
+  unfolding any_above
+  by_row part e room h =
+      ap (λ l. some (λ k. ltb 0 (get_or l k 0)) (length l)) e ∙ ap (some held) (row_long n weights i room) ∙ same ∙ sym (by_both ∙ go column _ h)
     where
       held : ℕ → Bool
-      held k = ltb 0 (get_or (take n (drop (i * n) weights)) k 0)
+      held k = ltb 0 (get_or (row n weights i) k 0)
 
-      long : length (take n (drop (i * n) weights)) ≡ n
-      long = length-take-le n (drop (i * n) weights) (omega (arith, length-drop (i * n) weights))
-
-      same : some held n ≡ some (λ j. ltb 0 (get_or weights (i * n + j) 0)) n
-      same =
-          some_cong held (λ j. ltb 0 (get_or weights (i * n + j) 0)) n
-          (λ k p. ap (ltb 0) (get_or-take n (drop (i * n) weights) k 0 p ∙ get_or-drop (i * n) weights k 0))
+      same : some held n ≡ some (λ j. ltb 0 (pair_at weights n i j)) n
+      same = some_cong held _ n (λ k p. ap (ltb 0) (row_at n weights i k p))
 
       go : (c r : Bool) → cond c 1 0 ≤ 0 → (r || c) ≡ r
       go true r p = let z : ⊥ = omega arith in absurd z

@@ -14,15 +14,14 @@ pub(super) fn put_kept(n: usize, weights: &[u8], zones: &mut [u8]) -> usize
     ensures zones_after { zones.new ≡ over (kept_zones n weights.now) zones.old }
 {
     let mut space: [u8; 64] = [0; 64];
-    marking::mark_columns(n, weights, &mut space[..n]);
+    let columns = &mut space[..n];
+    marking::mark_columns(n, weights, columns);
     let mut many: usize = 0;
-    let mut i: usize = 0;
-    while i < n {
-        if marking::touches(n, weights, &space[..n], i) {
-            zones[many] = i as u8;
+    for i in 0..n {
+        if marking::touches(n, weights, columns, i) {
+            zones[many] = i as u8; // no From leads here from a usize
             many += 1;
         }
-        i += 1;
     }
     many
 }
@@ -35,14 +34,9 @@ pub(super) fn put_marks(n: usize, weights: &[u8], marks: &mut [u8])
     ensures { marks.new ≡ table (λ i. cond (keeps n weights.now i) 1 0) n }
 {
     let mut space: [u8; 64] = [0; 64];
-    marking::mark_columns(n, weights, &mut space[..n]);
-    let mut i: usize = 0;
-    while i < n {
-        let mut mark: u8 = 0;
-        if marking::touches(n, weights, &space[..n], i) {
-            mark = 1;
-        }
-        marks[i] = mark;
-        i += 1;
+    let columns = &mut space[..n];
+    marking::mark_columns(n, weights, columns);
+    for (i, mark) in marks.iter_mut().enumerate() {
+        *mark = u8::from(marking::touches(n, weights, columns, i));
     }
 }

@@ -1,10 +1,13 @@
-use Prim.Native.Nat.{◌+◌, ◌-◌, ◌≤◌}
-use Rattle.kept.specs.Steps.{column_mark}
-use Rattle.kept.proofs.Marks.{Changed}
+use mathlib.Core.Path.{◌≡◌}
+use mathlib.Core.Bool.{cond}
+use Prim.Native.Nat.{ℕ, ◌≤◌, ◌<◌}
+use lib.Dec.{ltb}
+use lib.ListN.{get_or}
 use Rattle.kept.proofs.marking.mark_row.Given as goal
 
+-- marked anew are the zones passed
 abbrev pub invariant-loop-j : goal.invariant-loop-j
-invariant-loop-j l = (l.j ≤ l.n) × Changed (column_mark l.n l.weights l.i) (column_mark l.n l.weights (l.i + 1)) l.n l.j l.marks
-
-abbrev pub decreases-loop-j : goal.decreases-loop-j
-decreases-loop-j l = l.n - l.j
+invariant-loop-j l = record {
+  passed : (k : ℕ) → k < l.j → get_or l.marks k 0 ≡ cond (ltb 0 (get_or l.row k 0)) 1 (get_or l.initial.marks k 0);
+  left : (k : ℕ) → l.j ≤ k → get_or l.marks k 0 ≡ get_or l.initial.marks k 0;
+}

@@ -1,9 +1,9 @@
 use mathlib.Core.Path.{◌≡◌}
 use mathlib.Core.Bool.{cond, ◌||◌}
 use mathlib.Core.List.{List}
-use Prim.Native.Nat.{ℕ, ◌*◌, ◌-◌, ◌≤◌}
+use Prim.Native.Nat.{ℕ, ◌*◌}
 use lib.IntN.{ℤ}
-use lib.ListN.{length, take}
+use lib.ListN.{take}
 use Rattle.whole.specs.Table.{table_rows, pair_at}
 use Rattle.kept.specs.Returned.{missing}
 use Rattle.kept.proofs.returned.reduce_rows.Given as goal
@@ -11,9 +11,6 @@ use Rattle.kept.proofs.returned.reduce_rows.Given as goal
 abbrev pub counts : ℕ → List ℤ → List ℕ → ℕ → ℕ → ℕ
 counts n values weights i j = cond (missing values i || missing values j) 0 (pair_at weights n i j)
 
+-- the rows of the zones passed are written
 abbrev pub invariant-loop-i : goal.invariant-loop-i
-invariant-loop-i l =
-    (l.i ≤ l.n) × ((length l.counting ≡ l.n * l.n) × (take (l.i * l.n) l.counting ≡ table_rows (counts l.n l.values l.weights) l.i l.n))
-
-abbrev pub decreases-loop-i : goal.decreases-loop-i
-decreases-loop-i l = l.n - l.i
+invariant-loop-i l = take (l.i * l.n) l.counting ≡ table_rows (counts l.n l.values l.weights) l.i l.n
