@@ -1,63 +1,27 @@
-// The class account's nine rows as structs: packed from the list of their sums, and stored into the lent rows last of all.
-ghost use Rattle.std.specs.Prelude.{◌≡◌, ◌<◌, length};
-ghost use Rattle.whole.specs.Rules.{unless_refused};
+// The class account's nine rows as structs: worked as a list of their sums, and stored into the lent rows last of all.
+ghost use Rattle.std.specs.Prelude.{◌≡◌, ◌<◌, length, IfOk};
 ghost use Rattle.whole.specs.Table.{table};
 ghost use Rattle.account.specs.Classes.{row_at};
-ghost use Rattle.class_rows.specs.Steps.{nine_of, Packed};
+ghost use Rattle.class_rows.specs.ClassRows.{locals_left};
+ghost use Rattle.class_rows.specs.Steps.{Worked, refusal_of, rows_of};
 
 use account::{Answer, ClassRow};
 
-// What the work gives: the number of the refusal, 0 where nothing is refused, and the rows of the nine classes, which count only then.
-#[derive(Clone, Copy)]
-pub struct Worked {
-    pub refusal: u8,
-    pub row0: ClassRow,
-    pub row1: ClassRow,
-    pub row2: ClassRow,
-    pub row3: ClassRow,
-    pub row4: ClassRow,
-    pub row5: ClassRow,
-    pub row6: ClassRow,
-    pub row7: ClassRow,
-    pub row8: ClassRow,
-}
-
 // The row of class k, from the three sums in its places.
-pub(super) fn row_of(sums: &[i64; 27], k: usize) -> ClassRow
+fn row_of(sums: &[i64; 27], k: usize) -> ClassRow
     requires { k < 9 }
     ensures { result ≡ row_at sums.now k }
 {
     let place = k * 3;
-    let weight = sums[place];
-    let cross = sums[place + 1];
-    let squares = sums[place + 2];
     ClassRow {
-        weight: weight,
-        cross: cross,
-        squares: squares,
-    }
-}
-
-// The nine rows, beside the number of the refusal.
-pub(super) fn pack_rows(refusal: u8, sums: &[i64; 27]) -> Worked
-    ensures { (result.refusal ≡ refusal) × (nine_of result ≡ table (row_at sums.now) 9) }
-{
-    Worked {
-        refusal: refusal,
-        row0: row_of(sums, 0),
-        row1: row_of(sums, 1),
-        row2: row_of(sums, 2),
-        row3: row_of(sums, 3),
-        row4: row_of(sums, 4),
-        row5: row_of(sums, 5),
-        row6: row_of(sums, 6),
-        row7: row_of(sums, 7),
-        row8: row_of(sums, 8),
+        weight: sums[place],
+        cross: sums[place + 1],
+        squares: sums[place + 2],
     }
 }
 
 // Judges the sizes of the call, whose lent rows are `rows` in number; the class account judges the rest, and where nothing is refused
-// works the sums and the local numerators. The job's own local numerators, which it works too, are not handed out.
+// works the sums, which are answered, and the local numerators. The job's own local numerators, which it works too, are not handed out.
 pub(super) fn work_rows(
     n: usize,
     values: &[i32],
@@ -65,15 +29,15 @@ pub(super) fn work_rows(
     classes: &[u8],
     rows: usize,
     locals: &mut [i64],
-) -> Worked
-    ensures { Packed n
-        values.now weights.now classes.now rows locals.old locals.new result }
+) -> Result<[i64; 27], u8>
+    ensures worked { Worked n values.now weights.now classes.now rows (length locals.old) result }
+    ensures numerators { locals.new ≡ locals_left n values.now weights.now classes.now rows locals.old }
 {
-    let mut sums: [i64; 27] = [0; 27];
     let sizes = judges::judge_sizes(n, values.len(), weights.len(), rows, 9);
     if sizes != 0 {
-        return pack_rows(sizes, &sums);
+        return Err(sizes);
     }
+    let mut sums: [i64; 27] = [0; 27];
     let mut space: [i64; 64] = [0; 64];
     match account::class_account(
         n,
@@ -84,27 +48,32 @@ pub(super) fn work_rows(
         locals,
         &mut space[..n],
     ) {
-        Answer::Refused(number) => pack_rows(number, &sums),
-        Answer::Accounted(_) => pack_rows(0, &sums),
+        Answer::Refused(number) => Err(number),
+        Answer::Accounted(_) => Ok(sums),
+    }
+}
+
+// Stores the nine rows.
+fn store_rows(sums: &[i64; 27], rows: &mut [ClassRow])
+    requires { length rows.old ≡ 9 }
+    ensures { rows.new ≡ table (row_at sums.now) 9 }
+{
+    for (k, row) in rows.iter_mut().enumerate() {
+        *row = row_of(sums, k);
     }
 }
 
 // Stores the nine rows, where nothing is refused; answers the number of the refusal.
-pub(super) fn put_rows(rows: &mut [ClassRow], worked: Worked) -> u8
-    requires { worked.refusal ≡ 0 → length rows.old ≡ 9 }
-    ensures { (result ≡ worked.refusal) × (rows.new ≡ unless_refused worked.refusal (nine_of worked) rows.old) }
+pub(super) fn put_rows(rows: &mut [ClassRow], worked: Result<[i64; 27], u8>) -> u8
+    requires { IfOk worked (λ sums. length rows.old ≡ 9) }
+    ensures number { result ≡ refusal_of worked }
+    ensures rows { rows.new ≡ rows_of worked rows.old }
 {
-    if worked.refusal != 0 {
-        return worked.refusal;
+    match worked {
+        Ok(sums) => {
+            store_rows(&sums, rows);
+            0
+        }
+        Err(number) => number,
     }
-    rows[0] = worked.row0;
-    rows[1] = worked.row1;
-    rows[2] = worked.row2;
-    rows[3] = worked.row3;
-    rows[4] = worked.row4;
-    rows[5] = worked.row5;
-    rows[6] = worked.row6;
-    rows[7] = worked.row7;
-    rows[8] = worked.row8;
-    0
 }
