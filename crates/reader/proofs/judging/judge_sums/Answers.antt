@@ -67,9 +67,6 @@ slice_bounds-values-end c = c.requires.joins.zones
 pub slice_bounds-entries_in-end-2 : goal.slice_bounds-entries_in-end-2
 slice_bounds-entries_in-end-2 c = sym (length-take-le _ _ c.requires.joins.zones)
 
-pub entries_in-requires : goal.entries_in-requires
-entries_in-requires c = tt
-
 pub overflow_mul-pairs : goal.overflow_mul-pairs
 overflow_mul-pairs c = omega (arith, few _ c.requires.joins.zones)
 

@@ -21,9 +21,6 @@ slice_bounds-bands-end c = sym (length-take-le _ _ c.requires.k_bound)
 pub slice_bounds-entries_in-count : goal.slice_bounds-entries_in-count
 slice_bounds-entries_in-count c = omega arith
 
-pub entries_in-requires : goal.entries_in-requires
-entries_in-requires c = tt
-
 pub any_misplaced-requires : goal.any_misplaced-requires
 any_misplaced-requires c = tt
 

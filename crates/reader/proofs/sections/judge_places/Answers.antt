@@ -25,9 +25,6 @@ slice_bounds-places-end c = sym (length-take-le _ _ (omega arith))
 pub slice_bounds-entries_in-count : goal.slice_bounds-entries_in-count
 slice_bounds-entries_in-count c = omega arith
 
-pub entries_in-requires : goal.entries_in-requires
-entries_in-requires c = tt
-
 pub judge_in_turn-requires : goal.judge_in_turn-requires
 judge_in_turn-requires c = tt
 

@@ -15,9 +15,6 @@ slice_bounds-entries_in-count c = omega arith
 pub slice_bounds-entries_in-end-3 : goal.slice_bounds-entries_in-end-3
 slice_bounds-entries_in-end-3 c = sym (length-take-le _ _ c.requires.k_in_bounds_2)
 
-pub entries_in-requires : goal.entries_in-requires
-entries_in-requires c = tt
-
 pub returns : goal.returns
 returns c =
     bytes_over c.args.image.now c.args.at c.args.k _ c.args.buffer.now c.requires.k_in_bounds c.requires.k_in_bounds_2

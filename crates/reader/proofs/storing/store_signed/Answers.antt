@@ -12,9 +12,6 @@ use Rattle.reader.proofs.storing.store_signed.Goals as goal
 pub slice_bounds-entries_in-end-3 : goal.slice_bounds-entries_in-end-3
 slice_bounds-entries_in-end-3 c = sym (length-take-le _ _ c.requires.k_in_bounds)
 
-pub entries_in-requires : goal.entries_in-requires
-entries_in-requires c = tt
-
 pub returns : goal.returns
 returns c =
     read_over (λ l i. to_z w32 (word_at l (4 * i))) c.args.image.now c.args.at c.args.k _ c.args.buffer.now c.requires.k_in_bounds
