@@ -3,7 +3,7 @@ use mathlib.Core.Logic.{◌⊎◌, inl, inr, ⊎_elim}
 use mathlib.Core.Path.{◌≡◌, refl, sym, ap, ◌∙◌}
 use mathlib.Core.Bool.{Bool, true, false, true≢false, false≢true}
 use mathlib.Core.List.{[], ◌∷◌, ◌++◌}
-use Prim.Native.Nat.{ℕ, zero, suc, ◌+◌, ◌/◌, ◌%◌, ◌^◌, ◌≤◌, ◌<◌}
+use Prim.Native.Nat.{ℕ, zero, suc, ◌+◌, ◌*◌, ◌/◌, ◌%◌, ◌^◌, ◌≤◌, ◌<◌}
 use native.Mathlib.Nat.{pow-suc}
 use native.Mathlib.Omega.{arith}
 use borrow.Author.Tests.{ltb-true, ltb-false, lt-ltb, le-ltb}
@@ -16,7 +16,7 @@ use Rattle.whole.specs.Integer.{below_zero}
 use Rattle.digits.specs.Digits.{digit, digits_of, unsigned, decimal}
 
 -- ---- any two bounds beyond the number give the same digits
-one_or_more : (n : ℕ) → (n < 10) ⊎ (10 ≤ n)
+pub one_or_more : (n : ℕ) → (n < 10) ⊎ (10 ≤ n)
 one_or_more n = go (ltb n 10) refl
   where
     go : (t : Bool) → ltb n 10 ≡ t → (n < 10) ⊎ (10 ≤ n)
@@ -64,6 +64,13 @@ places_few zero n h = omega (arith, places_one n h)
 places_few (suc m) n h =
     ⊎_elim (λ l. omega (arith, places_one n l))
     (λ l. let p = pow-suc 10 (suc m) in omega (arith, places_more n l, places_few m (n / 10) (omega arith))) (one_or_more n)
+
+-- as many as the tens that its size holds, and one
+pub places_at : (n k : ℕ) → 10 ^ k ≤ n → n < 10 * 10 ^ k → length (unsigned n) ≡ k + 1
+places_at n zero l h = omega (arith, places_one n (omega arith))
+places_at n (suc k) l h =
+    let p = pow-suc 10 k in
+    omega (arith, places_more n (omega arith), places_at (n / 10) k (omega arith) (omega arith))
 
 -- the size of a signed number of 64 bits has at most 19 digits
 pub places_19 : (n : ℕ) → n ≤ 2 ^ 63 → length (unsigned n) ≤ 19

@@ -20,6 +20,11 @@ unfoldable pub decimal : ℤ → List ℕ
 decimal (pos n) = unsigned n
 decimal (negsuc n) = 45 ∷ unsigned (suc n)
 
+-- the last k digits of n in a base up to 16, the lowest first
+abbrev pub low_digits : ℕ → ℕ → ℕ → List ℕ
+low_digits base zero n = []
+low_digits base (suc k) n = digit (n % base) ∷ low_digits base k (n / base)
+
 -- the last k hexadecimal digits of n, the highest first
 abbrev pub hexadecimal_digits : ℕ → ℕ → List ℕ
 hexadecimal_digits zero n = []

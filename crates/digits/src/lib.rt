@@ -1,51 +1,53 @@
 // Numbers as they are printed, for a report's fields. Nothing is written anywhere: the digits go to a lent list.
 #![tactic(auto)]
 
-ghost use Rattle.std.specs.Prelude.{◌≡◌, ◌+◌, ◌^◌, ◌≤◌, ◌<◌, length};
-ghost use Rattle.std.proofs.lemmas.List.Edits.{sets};
+ghost use Rattle.std.specs.Prelude.{◌≡◌, ◌+◌, ◌^◌, ◌≤◌, ◌<◌, length, reverse};
 ghost use Rattle.whole.specs.Table.{over};
-ghost use Rattle.digits.specs.Digits.{digit, unsigned, decimal, hexadecimal};
+ghost use Rattle.digits.specs.Digits.{digit, low_digits, unsigned, decimal, hexadecimal};
 
 // The code of a digit.
 fn digit(d: u64) -> u8
     requires { d < 16 }
     ensures { result ≡ digit d }
 {
-    if d < 10 { 48 + d as u8 } else { 55 + d as u8 }
+    if d < 10 {
+        b'0' + d as u8
+    } else {
+        b'A' - 10 + d as u8
+    }
 }
 
 // How many decimal digits the size of a signed number has.
+#[tactic(auto, using(crate::proofs::DecimalDigits::places_one, crate::proofs::DecimalDigits::places_at))]
 fn decimal_places(n: u64) -> usize
     requires { n ≤ 2 ^ 63 }
     ensures value { result ≡ length (unsigned n) }
     ensures upper_bound { result ≤ 19 }
 {
-    let mut k: usize = 1;
-    let mut rest = n;
-    while rest >= 10 {
-        rest /= 10;
-        k += 1;
+    match n.checked_ilog10() {
+        // no From leads here from a u32
+        Some(tens) => tens as usize + 1,
+        None => 1,
     }
-    k
 }
 
-// The k decimal digits of a number from a place on, the last of them first.
-fn put_unsigned(text: &mut [u8], at: usize, k: usize, n: u64)
-    requires k_value { k ≡ length (unsigned n) }
-    requires k_in_bounds { at + k ≤ length text.old }
-    ensures { text.new ≡ sets text.old at (unsigned n) }
+// The last digits of a number in a base, as many as the text has places.
+#[tactic(auto, using(crate::proofs::LowDigits::low_next))]
+fn put_digits<const BASE: u64>(n: u64, text: &mut [u8])
+    requires lower_bound { 2 ≤ BASE }
+    requires upper_bound { BASE ≤ 16 }
+    ensures { text.new ≡ reverse (low_digits BASE (length text.old) n) }
 {
-    let mut i = k - 1;
     let mut rest = n;
-    while rest >= 10 {
-        text[at + i] = digit(rest % 10);
-        rest /= 10;
-        i -= 1;
+    for byte in text.iter_mut() {
+        *byte = digit(rest % BASE);
+        rest /= BASE;
     }
-    text[at] = digit(rest);
+    text.reverse();
 }
 
 // Puts a whole number in decimal at the start of `text`, and answers how many bytes it has.
+#[tactic(auto, using(crate::proofs::Printed::printed))]
 pub fn decimal(number: i64, text: &mut [u8; 20]) -> usize
     ensures length { result ≡ length (decimal number) }
     ensures few { result ≤ 20 }
@@ -55,30 +57,17 @@ pub fn decimal(number: i64, text: &mut [u8; 20]) -> usize
     let k = decimal_places(n);
     if signs::is_below_zero(number) {
         text[0] = b'-';
-        put_unsigned(text, 1, k, n);
+        put_digits::<10>(n, &mut text[1..=k]);
         return k + 1;
     }
-    put_unsigned(text, 0, k, n);
+    put_digits::<10>(n, &mut text[..k]);
     k
 }
 
-// The 16 hexadecimal digits of 64 bits, the last of them first.
-fn put_hexadecimal(text: &mut [u8], bits: u64)
-    requires { length text.old ≡ 16 }
-    ensures { text.new ≡ hexadecimal bits }
-{
-    let mut i: usize = 16;
-    let mut rest = bits;
-    while i > 0 {
-        i -= 1;
-        text[i] = digit(rest % 16);
-        rest /= 16;
-    }
-}
-
 // Puts 64 bits as 16 hexadecimal digits into `text`.
+#[tactic(auto, using(crate::proofs::LowDigits::hexadecimal_low), unfolding(crate::specs::Digits::hexadecimal))]
 pub fn hexadecimal(bits: u64, text: &mut [u8; 16])
     ensures { text.new ≡ hexadecimal bits }
 {
-    put_hexadecimal(text, bits);
+    put_digits::<16>(bits, text);
 }

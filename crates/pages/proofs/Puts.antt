@@ -1,12 +1,13 @@
 -- What calls have put into a page, one after the other. Assumes nothing.
 use mathlib.Core.Logic.{⊎_elim}
 use mathlib.Core.Path.{◌≡◌, refl, sym, ap, ◌∙◌}
-use mathlib.Core.List.{List, [], ◌∷◌, ◌++◌, append-nil}
+use mathlib.Core.List.{List, [], ◌∷◌, ◌++◌, append-nil, append_assoc}
 use Prim.Native.Nat.{ℕ, suc, ◌+◌, ◌-◌, ◌≤◌, ◌<◌, min}
 use native.Mathlib.Nat.{eq-zero-or-pos}
 use native.Mathlib.Omega.{arith}
 use lib.ListN.{length, get_or, take, drop, length-append, length-take, length-drop, take-append-drop, drop_of_length-le}
-use lib.Seq.{sets, length-sets, set_out}
+use lib.Seq.{sets, length-sets, set_out, sets-eq, length-take-le}
+use borrow.Rule.Slice.PartMut.{put_mid, Post-is}
 use Rattle.whole.specs.Table.{each}
 use Rattle.whole.proofs.Stores.{Stored, stored_next, front_next, front_all, each_none, each_both}
 use Rattle.pages.specs.Pages.{Puts}
@@ -53,7 +54,7 @@ module _ {old : List ℕ} {at : ℕ} where
         }
 
 -- ---- a text of which the page takes as much as fits
-module _ (old text : List ℕ) (at start fits : ℕ) (from : start ≡ min at (length old)) (most : fits ≡ min (length old - start) (length text))
+module _ (old text : List ℕ) (at start fits : ℕ) (from : start ≡ min at (length old)) (most : fits ≡ min (length text) (length old - start))
     {new : List ℕ} (put : new ≡ sets old start (take fits text)) where
   taken : Puts old new start (start + fits) (take fits text)
   taken = record { same = put; behind = omega (arith, length-take fits text) }
@@ -67,12 +68,25 @@ module _ (old text : List ℕ) (at start fits : ℕ) (from : start ≡ min at (l
     behind = omega (arith, puts_length taken, length-drop fits text);
   }
 
-  pub puts_fitting : Puts old new at (start + fits) text
+  puts_fitting : Puts old new at (start + fits) text
   puts_fitting =
       let whole = puts_as (puts_then taken left_out) (take-append-drop fits text) in record {
         same = whole.same ∙ ap (λ k. sets old k text) from ∙ sets_end text old at;
         behind = omega (arith, whole.behind);
       }
+
+-- as much as fits, copied into the part of the page that it takes
+pub puts_copied :
+    (old text part : List ℕ) (at start fits : ℕ) → start ≡ min at (length old) → fits ≡ min (length text) (length old - start) →
+    part ≡ take fits text → Puts old (put_mid start (start + fits - start) old part) at (start + fits) text
+puts_copied old text part at start fits from most copied =
+    let long : length (take fits text) ≡ fits = length-take-le fits text (omega arith) in
+    puts_fitting old text at start fits from most
+    (rw copied
+    (ap (λ l. take start old ++ (take fits text ++ l)) (Post-is start (start + fits) old (omega arith))
+    ∙ ap (λ k. take start old ++ (take fits text ++ drop (start + k) old)) (sym long)
+    ∙ sym (append_assoc (take start old) (take fits text) _)
+    ∙ sym (sets-eq (take fits text) old start (omega arith))))
 
 -- ---- a text for each item of a list
 module _ {A : Type 0} (text : A → List ℕ) where

@@ -2,26 +2,20 @@
 // does not fit is left out, and a place beyond the page's end is its end.
 #![tactic(auto)]
 
-ghost use Rattle.std.specs.Prelude.{◌≡◌, [], ◌∷◌, ◌++◌, ◌*◌, ◌≤◌, min, length};
+ghost use Rattle.std.specs.Prelude.{◌≡◌, [], ◌∷◌, ◌++◌, ◌*◌, ◌≤◌, length};
 ghost use Rattle.digits.specs.Digits.{decimal};
 ghost use Rattle.pages.specs.Lines.{field, numbers, bits as bits_of};
 ghost use Rattle.pages.specs.Pages.{Puts};
 
-// The lesser of two numbers.
-fn least(a: usize, b: usize) -> usize
-    ensures { result ≡ min a b }
-{
-    if a < b { a } else { b }
-}
-
 // Bytes as they are.
+#[tactic(auto, using(crate::proofs::Puts::puts_copied))]
 pub fn put(page: &mut [u8], at: usize, text: &[u8]) -> usize
     ensures { Puts page.old page.new at result text.now }
 {
-    let start = least(at, page.len());
-    let fits = least(page.len() - start, text.len());
+    let start = at.min(page.len());
+    let fits = text.len().min(page.len() - start);
     let end = start + fits;
-    words::bytes_in(&text[..fits], &mut page[start..end]);
+    page[start..end].copy_from_slice(&text[..fits]);
     end
 }
 
@@ -51,11 +45,9 @@ pub fn put_numbers(page: &mut [u8], at: usize, list: &[i64]) -> usize
     ensures text { Puts page.old page.new at result (numbers list.now) }
     ensures width { length (numbers list.now) ≤ 21 * length list.now }
 {
-    let mut place = least(at, page.len());
-    let mut i: usize = 0;
-    while i < list.len() {
-        place = put_number(page, place, list[i]);
-        i += 1;
+    let mut place = at.min(page.len());
+    for number in list {
+        place = put_number(page, place, *number);
     }
     place
 }

@@ -57,7 +57,7 @@ fn judge_sums(image: &[u8], n: usize, at: usize, k: usize) -> u8
         (weights_of n (table (join_in (drop at image.now)) k))) }
 {
     let mut values: [i32; 64] = [0; 64];
-    words::signed_words_in(&image[2..], &mut values[..n]);
+    words::entries_in(&image[2..], &mut values[..n]);
     let pairs = n * n;
     let mut weights: [u8; 4096] = [0; 4096];
     joining::table_of(image, at, k, n, &mut weights[..pairs]);

@@ -26,7 +26,7 @@ fn judge_values(image: &[u8], at: usize, k: usize) -> u8
 {
     let mut space: [i32; 64] = [0; 64];
     let values = &mut space[..k];
-    words::signed_words_in(&image[at..], values);
+    words::entries_in(&image[at..], values);
     if judges::any_beyond(100000, values) {
         return 3;
     }
@@ -54,7 +54,7 @@ fn judge_places(image: &[u8], at: usize, k: usize) -> u8
     let coordinates = 2 * k;
     let mut space: [i32; 128] = [0; 128];
     let places = &mut space[..coordinates];
-    words::signed_words_in(&image[at..], places);
+    words::entries_in(&image[at..], places);
     places::judge_in_turn(places)
 }
 
@@ -66,7 +66,7 @@ fn judge_bands(image: &[u8], at: usize, k: usize) -> u8
 {
     let mut space: [u32; 8] = [0; 8];
     let bands = &mut space[..k];
-    words::words_in(&image[at..], bands);
+    words::entries_in(&image[at..], bands);
     if places::any_misplaced(bands) {
         return 12;
     }

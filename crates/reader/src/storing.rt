@@ -15,7 +15,7 @@ fn store_signed(image: &[u8], at: usize, k: usize, buffer: &mut [i32])
     requires k_in_bounds { k ≤ length buffer.old }
     ensures { buffer.new ≡ over (signed_words k (drop at image.now)) buffer.old }
 {
-    words::signed_words_in(&image[at..], &mut buffer[..k]);
+    words::entries_in(&image[at..], &mut buffer[..k]);
 }
 
 // The first k 4-byte unsigned numbers.
@@ -24,7 +24,7 @@ fn store_words(image: &[u8], at: usize, k: usize, buffer: &mut [u32])
     requires k_in_bounds { k ≤ length buffer.old }
     ensures { buffer.new ≡ over (words k (drop at image.now)) buffer.old }
 {
-    words::words_in(&image[at..], &mut buffer[..k]);
+    words::entries_in(&image[at..], &mut buffer[..k]);
 }
 
 // The k bytes from a place on, lent to the last of them, so that they are copied whole.
@@ -34,7 +34,7 @@ fn store_bytes(image: &[u8], at: usize, k: usize, buffer: &mut [u8])
     ensures { buffer.new ≡ over (bytes k (drop at image.now)) buffer.old }
 {
     let end = at + k;
-    words::bytes_in(&image[at..end], &mut buffer[..k]);
+    words::entries_in(&image[at..end], &mut buffer[..k]);
 }
 
 // The table of k joins.

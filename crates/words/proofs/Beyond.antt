@@ -1,7 +1,9 @@
 -- Bytes beyond the end, and the bounds of the numbers. Assumes nothing.
-use mathlib.Core.Path.{◌≡◌}
+use mathlib.Core.Logic.{⊎_elim}
+use mathlib.Core.Path.{◌≡◌, sym, ap, ◌∙◌}
 use mathlib.Core.List.{List}
-use Prim.Native.Nat.{ℕ, ◌+◌, ◌≤◌}
+use Prim.Native.Nat.{ℕ, ◌+◌, ◌-◌, ◌*◌, ◌≤◌, min}
+use native.Mathlib.Nat.{eq-zero-or-pos}
 use native.Mathlib.Omega.{arith}
 use lib.ListN.{length, get_or-eq_default}
 use Rattle.words.specs.Words.{byte_at, two_at, word_at, long_at}
@@ -23,6 +25,15 @@ word_beyond bytes at h =
       byte_beyond bytes (at + 2) (omega arith),
       byte_beyond bytes (at + 3) (omega arith),
     )
+
+-- a place too large for the machine is beyond the end, as its greatest number is
+pub word_far :
+    (bytes : List ℕ) (k at : ℕ) → length bytes ≤ 18446744073709551615 → at ≡ min (k * 4) 18446744073709551615 →
+    word_at bytes at ≡ word_at bytes (4 * k)
+word_far bytes k at h e =
+    ⊎_elim (λ l. ap (word_at bytes) {x = at} {y = 4 * k} (omega arith))
+    (λ l. word_beyond bytes at (omega arith) ∙ sym (word_beyond bytes (4 * k) (omega arith)))
+    (eq-zero-or-pos (k * 4 - 18446744073709551615))
 
 pub long_beyond : (bytes : List ℕ) (at : ℕ) → length bytes ≤ at → long_at bytes at ≡ 0
 unfolding long_at

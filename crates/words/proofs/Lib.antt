@@ -1,3 +1,4 @@
 -- Laws of the definitions.
 pub mod Beyond
+pub mod Filled
 pub mod PartFilled

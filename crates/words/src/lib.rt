@@ -1,17 +1,17 @@
 // Numbers in bytes, their lowest byte first, for whatever takes them from an image or from a program's input.
 #![tactic(auto)]
 
-ghost use Rattle.std.specs.Prelude.{◌≡◌, ◌*◌, ◌<◌, length};
+ghost use Rattle.std.specs.Prelude.{◌≡◌, List, ℕ, ◌*◌, ◌<◌, length};
 ghost use Rattle.std.specs.Int.{w32, w64};
 ghost use Rattle.std.proofs.Common.{to_z};
 ghost use Rattle.whole.specs.Table.{table};
 ghost use Rattle.words.specs.Words.{byte_at, two_at, word_at, long_at};
 
-fn wide(x: u8) -> u32
-    ensures value { result ≡ x }
-    ensures upper_bound { result < 256 }
+// The byte at a place, or 0 beyond the end.
+fn byte(bytes: &[u8], at: usize) -> u8
+    ensures { result ≡ byte_at bytes.now at }
 {
-    x as u32
+    bytes.get(at).copied().unwrap_or(0)
 }
 
 // The number of one byte.
@@ -19,10 +19,11 @@ pub fn byte_at(bytes: &[u8], at: usize) -> u32
     ensures value { result ≡ byte_at bytes.now at }
     ensures upper_bound { result < 256 }
 {
-    if at < bytes.len() { wide(bytes[at]) } else { 0 }
+    u32::from(byte(bytes, at))
 }
 
 // The number of two bytes.
+#[tactic(auto, using(crate::proofs::Beyond::two_beyond), unfolding(crate::specs::Words::two_at))]
 pub fn two_at(bytes: &[u8], at: usize) -> u32
     ensures value { result ≡ two_at bytes.now at }
     ensures upper_bound { result < 65536 }
@@ -30,86 +31,91 @@ pub fn two_at(bytes: &[u8], at: usize) -> u32
     if at > bytes.len() {
         return 0;
     }
-    byte_at(bytes, at) + 256 * byte_at(bytes, at + 1)
+    u32::from(u16::from_le_bytes([byte(bytes, at), byte(bytes, at + 1)]))
 }
 
 // The number of four bytes.
+#[tactic(auto, using(crate::proofs::Beyond::word_beyond), unfolding(crate::specs::Words::word_at))]
 pub fn word_at(bytes: &[u8], at: usize) -> u32
     ensures { result ≡ word_at bytes.now at }
 {
     if at > bytes.len() {
         return 0;
     }
-    byte_at(bytes, at)
-        + 256 * byte_at(bytes, at + 1)
-        + 65536 * byte_at(bytes, at + 2)
-        + 16777216 * byte_at(bytes, at + 3)
+    u32::from_le_bytes([
+        byte(bytes, at),
+        byte(bytes, at + 1),
+        byte(bytes, at + 2),
+        byte(bytes, at + 3),
+    ])
 }
 
 // The number of eight bytes.
+#[tactic(auto, using(crate::proofs::Beyond::long_beyond), unfolding(crate::specs::Words::long_at))]
 pub fn long_at(bytes: &[u8], at: usize) -> u64
     ensures { result ≡ long_at bytes.now at }
 {
     if at > bytes.len() {
         return 0;
     }
-    (word_at(bytes, at) as u64) + 4294967296 * (word_at(bytes, at + 4) as u64)
+    u64::from(word_at(bytes, at)) + 4294967296 * u64::from(word_at(bytes, at + 4))
 }
 
 // The signed number that 32 bits stand for.
-pub fn signed_word(u: u32) -> i32
-    ensures { result ≡ to_z w32 u }
+pub fn signed_word(word: u32) -> i32
+    ensures { result ≡ to_z w32 word }
 {
-    if u < 2147483648 {
-        u as i32
-    } else {
-        -1 - ((4294967295 - u) as i32)
-    }
-}
-
-// The numbers of each byte, as many as there are places for them.
-pub fn bytes_in(bytes: &[u8], numbers: &mut [u8])
-    ensures { numbers.new ≡ table (λ k. byte_at bytes.now k) (length numbers.old) }
-{
-    let mut k: usize = 0;
-    while k < numbers.len() {
-        let number = if k < bytes.len() { bytes[k] } else { 0 };
-        numbers[k] = number;
-        k += 1;
-    }
-}
-
-// The numbers of each four bytes, as many as there are places for them.
-pub fn words_in(bytes: &[u8], numbers: &mut [u32])
-    ensures { numbers.new ≡ table (λ k. word_at bytes.now (4 * k)) (length numbers.old) }
-{
-    let mut k: usize = 0;
-    while k < numbers.len() {
-        let number = word_at(bytes, 4 * k);
-        numbers[k] = number;
-        k += 1;
-    }
-}
-
-// The same for signed numbers.
-pub fn signed_words_in(bytes: &[u8], numbers: &mut [i32])
-    ensures { numbers.new ≡ table (λ k. to_z w32 (word_at bytes.now (4 * k))) (length numbers.old) }
-{
-    let mut k: usize = 0;
-    while k < numbers.len() {
-        let number = signed_word(word_at(bytes, 4 * k));
-        numbers[k] = number;
-        k += 1;
-    }
+    word.cast_signed()
 }
 
 // The signed number that 64 bits stand for.
-pub fn signed_long(u: u64) -> i64
-    ensures { result ≡ to_z w64 u }
+pub fn signed_long(long: u64) -> i64
+    ensures { result ≡ to_z w64 long }
 {
-    if u < 9223372036854775808 {
-        u as i64
-    } else {
-        -1 - ((18446744073709551615 - u) as i64)
+    long.cast_signed()
+}
+
+// A number that stands in bytes, one right behind the other.
+pub trait Entry: Copy {
+    // the k-th of the numbers that stand there
+    ghost nth: { List ℕ → ℕ → Self };
+
+    fn nth(bytes: &[u8], k: usize) -> Self
+        ensures { result ≡ nth bytes.now k };
+}
+
+impl Entry for u8 {
+    ghost nth = { byte_at };
+
+    fn nth(bytes: &[u8], k: usize) -> u8 {
+        byte(bytes, k)
+    }
+}
+
+impl Entry for u32 {
+    ghost nth = { λ bytes k. word_at bytes (4 * k) };
+
+    // A place that is too large for a usize is beyond the end, as the greatest is.
+    #[tactic(auto, using(crate::proofs::Beyond::word_far))]
+    fn nth(bytes: &[u8], k: usize) -> u32 {
+        word_at(bytes, k.saturating_mul(4))
+    }
+}
+
+impl Entry for i32 {
+    ghost nth = { λ bytes k. to_z w32 (word_at bytes (4 * k)) };
+
+    fn nth(bytes: &[u8], k: usize) -> i32 {
+        signed_word(u32::nth(bytes, k))
+    }
+}
+
+// The numbers that stand in the bytes, as many as there are places for them.
+#[tactic(auto, using(crate::proofs::Filled::filled_none, crate::proofs::Filled::filled_next))]
+pub fn entries_in<T: Entry>(bytes: &[u8], numbers: &mut [T])
+    ensures { numbers.new ≡ table (T.nth bytes.now) (length numbers.old) }
+{
+    for (k, number) in numbers.iter_mut().enumerate() {
+        *number = T::nth(bytes, k);
     }
 }

@@ -69,5 +69,5 @@ pub(super) fn put_bytes(out: &mut [u8], at: usize, numbers: &[u8])
     ensures { out.new ≡ sets out.old at numbers.now }
 {
     let end = at + numbers.len();
-    words::bytes_in(numbers, &mut out[at..end]);
+    words::entries_in(numbers, &mut out[at..end]);
 }

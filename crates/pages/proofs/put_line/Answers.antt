@@ -4,13 +4,6 @@ use Rattle.pages.specs.Lines.{numbers}
 use Rattle.pages.proofs.Puts.{puts_as, puts_then}
 use Rattle.pages.proofs.put_line.Goals as goal
 
-pub put_byte-requires : goal.put_byte-requires
-put_byte-requires c = tt
-
-pub returns : goal.returns
-returns c =
-    let a = c.args in record {
-      text = puts_as (puts_then c.put_start-place.ensures.text c.put_byte.ensures) (append_assoc a.word.now (numbers a.list.now) (10 ∷
-          []));
-      width = c.put_start-place.ensures.width;
-    }
+pub returns-clause-text : goal.returns-clause-text
+returns-clause-text c =
+    puts_as (puts_then c.put_start-place.ensures.text c.put_byte.ensures) (append_assoc c.args.word.now (numbers c.args.list.now) (10 ∷ []))

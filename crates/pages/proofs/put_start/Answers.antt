@@ -2,5 +2,5 @@
 use Rattle.pages.proofs.Puts.{puts_then}
 use Rattle.pages.proofs.put_start.Goals as goal
 
-pub returns : goal.returns
-returns c = record { text = puts_then c.put-place.ensures c.put_numbers.ensures.text; width = c.put_numbers.ensures.width }
+pub returns-clause-text : goal.returns-clause-text
+returns-clause-text c = puts_then c.put-place.ensures c.put_numbers.ensures.text

@@ -37,10 +37,10 @@ module _ (c : After-table_of) where
   abbrev weights : List ℕ
   weights = weights_of n (table (join_in (drop a.args.at a.args.image.now)) a.args.k)
 
-  valued : c.signed_words_in.new.numbers ≡ values
+  valued : c.entries_in.new.numbers ≡ values
   valued =
       read_front (λ l i. to_z w32 (word_at l (4 * i))) a.args.image.now 2 n _ _ a.requires.joins.zones
-      c.signed_words_in.ensures
+      c.entries_in.ensures
 
   as_many : length values ≡ n
   as_many = table_length (λ i. to_z w32 (word_at (drop 2 a.args.image.now) (4 * i))) n
@@ -64,11 +64,8 @@ module _ (c : After-table_of) where
 pub slice_bounds-values-end : goal.slice_bounds-values-end
 slice_bounds-values-end c = c.requires.joins.zones
 
-pub slice_bounds-signed_words_in-end-2 : goal.slice_bounds-signed_words_in-end-2
-slice_bounds-signed_words_in-end-2 c = sym (length-take-le _ _ c.requires.joins.zones)
-
-pub signed_words_in-requires : goal.signed_words_in-requires
-signed_words_in-requires c = tt
+pub slice_bounds-entries_in-end-2 : goal.slice_bounds-entries_in-end-2
+slice_bounds-entries_in-end-2 c = sym (length-take-le _ _ c.requires.joins.zones)
 
 pub overflow_mul-pairs : goal.overflow_mul-pairs
 overflow_mul-pairs c = omega (arith, few _ c.requires.joins.zones)

@@ -18,11 +18,8 @@ slice_bounds-space-end c = c.requires.k_bound
 pub slice_bounds-bands-end : goal.slice_bounds-bands-end
 slice_bounds-bands-end c = sym (length-take-le _ _ c.requires.k_bound)
 
-pub slice_bounds-words_in-count : goal.slice_bounds-words_in-count
-slice_bounds-words_in-count c = omega arith
-
-pub words_in-requires : goal.words_in-requires
-words_in-requires c = tt
+pub slice_bounds-entries_in-count : goal.slice_bounds-entries_in-count
+slice_bounds-entries_in-count c = omega arith
 
 pub any_misplaced-requires : goal.any_misplaced-requires
 any_misplaced-requires c = tt
@@ -34,7 +31,7 @@ searched :
 searched c =
     let a = c.args in
     let read = read_from (λ b i. word_at b (4 * i)) a.image.now a.at a.k _ (length-take-le _ _ (omega arith)) in
-    sym (c.any_misplaced.ensures ∙ ap any_misplaced (c.words_in.ensures ∙ read))
+    sym (c.any_misplaced.ensures ∙ ap any_misplaced (c.entries_in.ensures ∙ read))
 
 pub returns-then-any_misplaced : goal.returns-then-any_misplaced
 returns-then-any_misplaced c = rw (searched ((goal.at.returns-then-any_misplaced c).After-any_misplaced) ∙ c.if-any_misplaced.true)

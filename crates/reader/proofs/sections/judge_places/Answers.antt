@@ -22,11 +22,8 @@ slice_bounds-space-end c = omega arith
 pub slice_bounds-places-end : goal.slice_bounds-places-end
 slice_bounds-places-end c = sym (length-take-le _ _ (omega arith))
 
-pub slice_bounds-signed_words_in-count : goal.slice_bounds-signed_words_in-count
-slice_bounds-signed_words_in-count c = omega arith
-
-pub signed_words_in-requires : goal.signed_words_in-requires
-signed_words_in-requires c = tt
+pub slice_bounds-entries_in-count : goal.slice_bounds-entries_in-count
+slice_bounds-entries_in-count c = omega arith
 
 pub judge_in_turn-requires : goal.judge_in_turn-requires
 judge_in_turn-requires c = tt
@@ -35,4 +32,4 @@ pub returns : goal.returns
 returns c =
     let a = c.args in
     let read = read_from (λ b i. to_z w32 (word_at b (4 * i))) a.image.now a.at (2 * a.k) _ (length-take-le _ _ (omega arith)) in
-    c.judge_in_turn.ensures ∙ ap (λ places. first_broken (places_in_turn places)) (c.signed_words_in.ensures ∙ read)
+    c.judge_in_turn.ensures ∙ ap (λ places. first_broken (places_in_turn places)) (c.entries_in.ensures ∙ read)

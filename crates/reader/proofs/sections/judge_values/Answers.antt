@@ -20,11 +20,8 @@ slice_bounds-space-end c = c.requires.k_bound
 pub slice_bounds-values-end : goal.slice_bounds-values-end
 slice_bounds-values-end c = sym (length-take-le _ _ c.requires.k_bound)
 
-pub slice_bounds-signed_words_in-count : goal.slice_bounds-signed_words_in-count
-slice_bounds-signed_words_in-count c = omega arith
-
-pub signed_words_in-requires : goal.signed_words_in-requires
-signed_words_in-requires c = tt
+pub slice_bounds-entries_in-count : goal.slice_bounds-entries_in-count
+slice_bounds-entries_in-count c = omega arith
 
 pub any_beyond-requires : goal.any_beyond-requires
 any_beyond-requires c = tt
@@ -36,7 +33,7 @@ searched :
 searched c =
     let a = c.args in
     let read = read_from (λ b i. to_z w32 (word_at b (4 * i))) a.image.now a.at a.k _ (length-take-le _ _ (omega arith)) in
-    sym (c.any_beyond.ensures ∙ ap (any_beyond 100000) (c.signed_words_in.ensures ∙ read))
+    sym (c.any_beyond.ensures ∙ ap (any_beyond 100000) (c.entries_in.ensures ∙ read))
 
 pub returns-then-any_beyond : goal.returns-then-any_beyond
 returns-then-any_beyond c = rw (searched ((goal.at.returns-then-any_beyond c).After-any_beyond) ∙ c.if-any_beyond.true)

@@ -9,13 +9,10 @@ use Rattle.words.specs.Words.{word_at}
 use Rattle.reader.proofs.Over.{read_over}
 use Rattle.reader.proofs.storing.store_signed.Goals as goal
 
-pub slice_bounds-signed_words_in-end-3 : goal.slice_bounds-signed_words_in-end-3
-slice_bounds-signed_words_in-end-3 c = sym (length-take-le _ _ c.requires.k_in_bounds)
-
-pub signed_words_in-requires : goal.signed_words_in-requires
-signed_words_in-requires c = tt
+pub slice_bounds-entries_in-end-3 : goal.slice_bounds-entries_in-end-3
+slice_bounds-entries_in-end-3 c = sym (length-take-le _ _ c.requires.k_in_bounds)
 
 pub returns : goal.returns
 returns c =
     read_over (λ l i. to_z w32 (word_at l (4 * i))) c.args.image.now c.args.at c.args.k _ c.args.buffer.now c.requires.k_in_bounds
-    c.signed_words_in.ensures
+    c.entries_in.ensures

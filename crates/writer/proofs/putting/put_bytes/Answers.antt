@@ -4,4 +4,4 @@ use Rattle.writer.proofs.putting.put_bytes.Goals as goal
 
 pub returns : goal.returns
 returns c =
-    part_filled c.args.numbers.now c.args.out.now _ c.args.at c.requires c.bytes_in.ensures
+    part_filled c.args.numbers.now c.args.out.now _ c.args.at c.requires c.entries_in.ensures
