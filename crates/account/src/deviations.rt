@@ -11,10 +11,8 @@ pub(super) fn total(n: usize, values: &[i32]) -> i64
     ensures { result ≡ total_of (at values.now) n }
 {
     let mut acc: i64 = 0;
-    let mut i: usize = 0;
-    while i < n {
-        acc += values[i] as i64;
-        i += 1;
+    for x in values {
+        acc += i64::from(*x);
     }
     acc
 }
