@@ -1,12 +1,10 @@
-use mathlib.Core.Path.{◌≡◌}
-use Prim.Native.Nat.{◌-◌, ◌≤◌}
+use Rattle.std.proofs.Common.{◌≡◌, ◌≤◌, ◌<◌, nat_abs, ◌-ℤ◌, ℕ, ◌+◌, ◌-◌, ◌*◌, length, ℤ, pos, ◌+ℤ◌, ◌*ℤ◌, ◌≤ℤ◌, ◌<ℤ◌, FitsSigned, to_z, of_z}
 use Rattle.whole.specs.Integer.{square}
 use Rattle.whole.specs.Sum.{sum}
-use Rattle.whole.specs.Table.{at}
+use Rattle.whole.specs.Table.{at, pair_at}
+use Rattle.account.specs.Measures.{total_of, spread_of, row_of, squares_of}
+use Rattle.account.specs.Steps.{Valued, Job}
 use Rattle.account.proofs.differences.square_sum.Given as goal
 
-abbrev pub invariant-loop-i : goal.invariant-loop-i
-invariant-loop-i l = (l.i ≤ l.n) × (l.acc ≡ sum (λ i'. square (at l.values i')) l.i)
-
-abbrev pub decreases-loop-i : goal.decreases-loop-i
-decreases-loop-i l = l.n - l.i
+abbrev pub invariant-loop-value : goal.invariant-loop-value
+invariant-loop-value l = ?

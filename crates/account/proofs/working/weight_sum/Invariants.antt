@@ -1,13 +1,9 @@
-use mathlib.Core.Path.{◌≡◌}
-use Prim.Native.Nat.{◌*◌, ◌-◌, ◌≤◌}
-use lib.IntN.{pos}
-use lib.ListN.{length, get_or}
-use Rattle.whole.specs.Sum.{sum}
+use Rattle.std.proofs.Common.{◌≡◌, length, ℕ, ◌+◌, ◌-◌, ◌*◌, ◌<◌, ◌≤◌, ℤ, pos, ◌+ℤ◌, ◌-ℤ◌, ◌*ℤ◌, ◌≤ℤ◌, ◌<ℤ◌, FitsSigned, to_z, of_z}
+use Rattle.whole.specs.Table.{table, at, pair_at}
+use Rattle.account.specs.Measures.{deviation_of, weight_of}
+use Rattle.account.specs.Answers.{listed, class_row, zones_figures}
+use Rattle.account.specs.Steps.{Weighted, Job, zones_locals}
 use Rattle.account.proofs.working.weight_sum.Given as goal
 
-abbrev pub invariant-loop-k : goal.invariant-loop-k
-invariant-loop-k l =
-    (l.k ≤ length l.weights) × ((pos l.acc ≡ sum (λ t. pos (get_or l.weights t 0)) l.k) × (l.acc ≤ 9 * l.k))
-
-abbrev pub decreases-loop-k : goal.decreases-loop-k
-decreases-loop-k l = length l.weights - l.k
+abbrev pub invariant-loop-weight : goal.invariant-loop-weight
+invariant-loop-weight l = ?
