@@ -55,7 +55,8 @@ pub(super) fn local_numerators(n: usize, weights: &[u8], d: &[i64], locals: &mut
     ensures { locals.new ≡ table (local_of (pair_at weights.now n) (at d.now) n) n }
 {
     for (i, local) in locals.iter_mut().enumerate() {
-        *local = d[i] * neighbour_sum(n, weights, d, i);
+        let neighbours = neighbour_sum(n, weights, d, i);
+        *local = d[i] * neighbours;
     }
 }
 

@@ -1,22 +1,38 @@
-use Rattle.std.proofs.Common.{rules, ◌≡◌, ◌≤◌, ◌<◌, length, ℕ, ◌+◌, ◌-◌, ◌*◌, ◌/◌, ◌%◌, Bool, true, false, nat_eq, nat_lt, List, [], ◌∷◌, ◌++◌, slice_index_or, slice_set, bit_and, bit_or, Fits, w8, w32, w64, Bor, MutBor, ℤ, pos, ◌+ℤ◌, ◌-ℤ◌, ◌*ℤ◌, ◌≤ℤ◌, ◌<ℤ◌, FitsSigned, to_z, of_z}
-use Rattle.whole.specs.Sum.{sum}
-use Rattle.whole.specs.Table.{table, at, pair_at}
-use Rattle.account.specs.Measures.{total_of, deviation_of, row_of, local_of}
-use Rattle.account.specs.Steps.{Sized, Valued, Weighted}
+-- `local_numerators` meets its contract. The loop's invariant: each element passed is its local numerator. Assumes nothing.
+use native.Mathlib.Omega.{arith}
+use lib.IntN.{pos, ◌*ℤ◌}
+use mir.Syntax.{w64}
+use Rattle.whole.proofs.Machine.{Is, rd, fit, r64}
+use Rattle.whole.proofs.Table.{is_table, stored}
+use Rattle.whole.specs.Table.{at, pair_at}
+use Rattle.account.specs.Measures.{local_of}
+use Rattle.account.proofs.Running.{local_is}
 use Rattle.account.proofs.deviations.local_numerators.Goals as goal
+use Rattle.account.proofs.deviations.local_numerators.Goals.{After-local-in-loop-i-1}
 
--- src/deviations.rt:57:5
+-- d(i) times the weighted neighbours
+local :
+    (c : After-local-in-loop-i-1) →
+    let a = c.args in
+    Is (r64 (at a.d.now c.loop-i.i) *ℤ r64 c.neighbour_sum-neighbours.result)
+    (local_of (pair_at a.weights.now a.n) (at a.d.now) a.n c.loop-i.i) 94371840000000000
+local c =
+    let p = c.requires in
+    local_is _ _ p.weighted _ c.loop-i.i p.sized (omega arith) c.neighbour_sum-neighbours.ensures
+
 pub loop-i-init : goal.loop-i-init
-loop-i-init c = ?
+loop-i-init c = λ k p. let z : ⊥ = omega arith in absurd z
 
--- src/deviations.rt:58:18
 pub overflow_mul-local : goal.overflow_mul-local
-overflow_mul-local c = ?
+overflow_mul-local c = fit w64 (local c) tt
 
--- src/deviations.rt:57:5
 pub loop-i-preserved : goal.loop-i-preserved
-loop-i-preserved c = ?
+loop-i-preserved c = let a = c.args in
+    stored (local_of (pair_at a.weights.now a.n) (at a.d.now) a.n) (pos 0) _ c.loop-i.locals c.loop-i.i (omega arith)
+    (rd w64 (local c) tt).same c.loop-i.invariant
 
--- src/deviations.rt:51:1
 pub returns : goal.returns
-returns c = ?
+returns c =
+    let a = c.args in
+    is_table (local_of (pair_at a.weights.now a.n) (at a.d.now) a.n) a.n (pos 0) c.loop-i.locals (omega arith)
+    (λ k p. c.loop-i.invariant k (omega arith))

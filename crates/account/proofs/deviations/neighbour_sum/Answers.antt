@@ -26,13 +26,17 @@ module _ (c : After-acc-1) where
   abbrev j : ℕ
   j = length c.loop-weight.yielded
 
-  stands : (j < length (row c.args.weights.now c.args.n c.args.i)) × (j < length c.args.d.now)
-    × ((d : ℕ) → c.in-Some.weight.now ≡ get_or (row c.args.weights.now c.args.n c.args.i) j d)
-    × ((d : ℤ) → c.in-Some.deviation.now ≡ get_or c.args.d.now j d)
-  stands = 
+  stands :
+      (j < length (row c.args.weights.now c.args.n c.args.i)) × (j < length c.args.d.now)
+      × ((d : ℕ) → c.in-Some.weight.now ≡ get_or (row c.args.weights.now c.args.n c.args.i) j d)
+      × ((d : ℤ) → c.in-Some.deviation.now ≡ get_or c.args.d.now j d)
+  stands =
       let same = c.into_iter-weight-iterator.ensures.into_iter_gives in
       let z = c.zip-weight-items.ensures in
-      zip_turn _ _ c.loop-weight.yielded c.into_iter-weight-iterator.result c.loop-weight.weight-iterator c.next.new.self _ (ap (λ s. iter_rest s.a) same ∙ ap iter_rest z.first ∙ c.iter.ensures.rest) (ap (λ s. iter_rest s.b) same ∙ z.second.0) c.loop-weight.yielded_by _ c.in-Some.is c.next.ensures.steps
+      zip_turn _ _ c.loop-weight.yielded c.into_iter-weight-iterator.result c.loop-weight.weight-iterator c.next.new.self _
+      (ap (λ s. iter_rest s.a) same ∙ ap iter_rest z.first ∙ c.iter.ensures.rest)
+      (ap (λ s. iter_rest s.b) same ∙ z.second.0)
+      c.loop-weight.yielded_by _ c.in-Some.is c.next.ensures.steps
 
   abbrev weight : ℕ → ℕ
   weight = pair_at c.args.weights.now c.args.n c.args.i
@@ -78,8 +82,14 @@ loop-weight-preserved c = (rd w64 (turn c) tt).same ∙ ap (sum (λ j. pos (weig
 
 pub returns : goal.returns
 unfolding row_of
-returns c = 
-      let same = c.into_iter-weight-iterator.ensures.into_iter_gives in
-      let z = c.zip-weight-items.ensures in
-    let all = zip_end _ _ c.loop-weight.yielded c.into_iter-weight-iterator.result c.loop-weight.weight-iterator c.next.new.self _ (ap (λ s. iter_rest s.a) same ∙ ap iter_rest z.first ∙ c.iter.ensures.rest) (ap (λ s. iter_rest s.b) same ∙ z.second.0) c.loop-weight.yielded_by c.in-None.is c.next.ensures.steps in
-    running_done _ c.args.n (length c.loop-weight.yielded) (to_z w64 c.loop-weight.acc-bits) (omega (arith, all, row_length c.args.weights.now c.args.n c.args.i c.requires.weighted.count c.requires.i_lt_n, c.requires.sized.count)) c.loop-weight.invariant
+returns c =
+    let same = c.into_iter-weight-iterator.ensures.into_iter_gives in
+    let z = c.zip-weight-items.ensures in
+    let all =
+    zip_end _ _ c.loop-weight.yielded c.into_iter-weight-iterator.result c.loop-weight.weight-iterator c.next.new.self _
+    (ap (λ s. iter_rest s.a) same ∙ ap iter_rest z.first ∙ c.iter.ensures.rest)
+    (ap (λ s. iter_rest s.b) same ∙ z.second.0)
+    c.loop-weight.yielded_by c.in-None.is c.next.ensures.steps in
+    let long = row_length c.args.weights.now c.args.n c.args.i c.requires.weighted.count c.requires.i_lt_n in
+    running_done _ c.args.n (length c.loop-weight.yielded) (to_z w64 c.loop-weight.acc-bits)
+    (omega (arith, all, long, c.requires.sized.count)) c.loop-weight.invariant

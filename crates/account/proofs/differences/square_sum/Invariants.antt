@@ -1,10 +1,8 @@
-use Rattle.std.proofs.Common.{◌≡◌, ◌≤◌, ◌<◌, nat_abs, ◌-ℤ◌, ℕ, ◌+◌, ◌-◌, ◌*◌, length, ℤ, pos, ◌+ℤ◌, ◌*ℤ◌, ◌≤ℤ◌, ◌<ℤ◌, FitsSigned, to_z, of_z}
+use mathlib.Core.Path.{◌≡◌}
 use Rattle.whole.specs.Integer.{square}
 use Rattle.whole.specs.Sum.{sum}
-use Rattle.whole.specs.Table.{at, pair_at}
-use Rattle.account.specs.Measures.{total_of, spread_of, row_of, squares_of}
-use Rattle.account.specs.Steps.{Valued, Job}
+use Rattle.whole.specs.Table.{at}
 use Rattle.account.proofs.differences.square_sum.Given as goal
 
 abbrev pub invariant-loop-value : goal.invariant-loop-value
-invariant-loop-value l = ?
+invariant-loop-value l = l.acc ≡ sum (λ i. square (at l.values i)) l.value-index

@@ -1,23 +1,45 @@
-use Rattle.std.proofs.Common.{rules, ◌≡◌, ◌≤◌, ◌<◌, nat_abs, ◌-ℤ◌, ℕ, ◌+◌, ◌-◌, ◌*◌, length, ◌/◌, ◌%◌, Bool, true, false, nat_eq, nat_lt, List, [], ◌∷◌, ◌++◌, slice_index_or, slice_set, bit_and, bit_or, Fits, w8, w32, w64, Bor, MutBor, ℤ, pos, ◌+ℤ◌, ◌*ℤ◌, ◌≤ℤ◌, ◌<ℤ◌, FitsSigned, to_z, of_z}
+-- `squares` meets its contract. The loop's invariant: the accumulator is the sum over the rows passed. Assumes nothing.
+use Prim.Native.Nat.{◌+◌}
+use native.Mathlib.Omega.{arith}
+use native.Mathlib.Nat as N
+use lib.IntN.{◌+ℤ◌, ◌-ℤ◌}
+use mir.Syntax.{w64}
+use mir.Val.{to_z}
 use Rattle.whole.specs.Integer.{square}
 use Rattle.whole.specs.Sum.{sum}
+use Rattle.whole.proofs.Accumulate.{running_none, running_more, running_done}
+use Rattle.whole.proofs.Machine.{Is, told, rd, fit, r64}
 use Rattle.whole.specs.Table.{at, pair_at}
-use Rattle.account.specs.Measures.{total_of, spread_of, row_of, squares_of}
-use Rattle.account.specs.Steps.{Valued, Job}
+use Rattle.account.specs.Measures.{row_of, pairs_of, squares_of}
+use Rattle.account.proofs.Running.{row_squares_run, squares_run}
 use Rattle.account.proofs.differences.squares.Goals as goal
+use Rattle.account.proofs.differences.squares.Goals.{After-row_squares-acc}
 
--- src/differences.rt:67:5
+-- a turn adds one row more
+turn :
+    (c : After-row_squares-acc) →
+    let a = c.args in
+    let x = at a.values.now in
+    Is (to_z w64 c.loop-i.acc-bits +ℤ r64 c.row_squares-acc.result)
+    (sum (λ i. row_of (pair_at a.weights.now a.n) (λ i j. square (x i -ℤ x j)) i a.n) (c.loop-i.i + 1)) 1474560000000000
+unfolding row_of
+turn c =
+    let run = row_squares_run _ _ _ c.requires c.loop-i.i (omega arith) in
+    running_more (squares_run _ _ _ c.requires) c.loop-i.i (to_z w64 c.loop-i.acc-bits) (omega arith) c.loop-i.invariant
+    (rd w64 (told _ 23040000000000 c.row_squares-acc.ensures (run.bound c.args.n (N.le_refl c.args.n))) tt)
+
 pub loop-i-init : goal.loop-i-init
-loop-i-init c = ?
+loop-i-init c = running_none _
 
--- src/differences.rt:68:9
+pub row_squares-acc-requires : goal.row_squares-acc-requires
+row_squares-acc-requires c = record { job = c.requires; i_lt_n = omega arith }
+
 pub overflow_add-acc : goal.overflow_add-acc
-overflow_add-acc c = ?
+overflow_add-acc c = fit w64 (turn c) tt
 
--- src/differences.rt:67:5
 pub loop-i-preserved : goal.loop-i-preserved
-loop-i-preserved c = ?
+loop-i-preserved c = (rd w64 (turn c) tt).same
 
--- src/differences.rt:62:1
 pub returns : goal.returns
-returns c = ?
+unfolding squares_of pairs_of
+returns c = running_done _ _ c.loop-i.i (to_z w64 c.loop-i.acc-bits) (omega arith) c.loop-i.invariant
