@@ -15,7 +15,7 @@ use Rattle.whole.proofs.Machine.{Is, told, rd, is_*, fit, r64}
 use Rattle.whole.specs.Table.{at, pair_at}
 use Rattle.account.specs.Measures.{row_of}
 use Rattle.account.proofs.Reading.{weight_le}
-use Rattle.account.proofs.Rows.{row, row_length, row_at}
+use Rattle.account.proofs.Rows.{row, row_in, row_length, row_at}
 use Rattle.account.proofs.Running.{neighbours_run}
 use Rattle.account.proofs.deviations.neighbour_sum.Goals as goal
 use Rattle.account.proofs.deviations.neighbour_sum.Goals.{After-acc-1}
@@ -52,7 +52,7 @@ module _ (c : After-acc-1) where
   unfolding pair_at
   read =
       c.from.ensures
-      ∙ ap pos (stands.2 0 ∙ row_at c.args.weights.now c.args.n c.args.i c.requires.weighted.count c.requires.i_lt_n j 0 before)
+      ∙ ap pos (stands.2 0 ∙ row_at c.args.weights.now c.args.n c.args.i (row_in _ _ _ c.requires.weighted.count c.requires.i_lt_n) j 0 before)
 
   term : Is (r64 c.from.result *ℤ r64 c.in-Some.deviation.now) (pos (weight j) *ℤ deviation j) 115200000
   term =
@@ -90,6 +90,6 @@ returns c =
     (ap (λ s. iter_rest s.a) same ∙ ap iter_rest z.first ∙ c.iter.ensures.rest)
     (ap (λ s. iter_rest s.b) same ∙ z.second.0)
     c.loop-weight.yielded_by c.in-None.is c.next.ensures.steps in
-    let long = row_length c.args.weights.now c.args.n c.args.i c.requires.weighted.count c.requires.i_lt_n in
+    let long = row_length c.args.weights.now c.args.n c.args.i (row_in _ _ _ c.requires.weighted.count c.requires.i_lt_n) in
     running_done _ c.args.n (length c.loop-weight.yielded) (to_z w64 c.loop-weight.acc-bits)
     (omega (arith, all, long, c.requires.sized.count)) c.loop-weight.invariant
