@@ -40,33 +40,34 @@ module _ (zones : List ℕ) (n : ℕ) where
     -- one zone more
     pub placed_next : (k : ℕ) (places : List ℕ) → Placed zones n k places → k < length zones → Placed zones n (k + 1) (set places (get_or zones k 0) k)
     placed_next k places so h = record {
-      long = length-set places zone k ∙ so.long;
+      long = length-set places (get_or zones k 0) k ∙ so.long;
       held = λ q p. pick q p (ℕ_discrete q k);
-      others = λ i p none. get_or-set_other places zone i k 0 (λ e. none k (omega arith) (sym e)) ∙ so.others i p (λ q l. none q (omega arith));
+      others = λ i p none. get_or-set_other places (get_or zones k 0) i k 0 (λ e. none k (omega arith) (sym e)) ∙ so.others i p (λ q l. none q (omega arith));
     }
       where
-        abbrev zone : ℕ
-        zone = get_or zones k 0
-
-        pick : (q : ℕ) → q < k + 1 → Dec (q ≡ k) → get_or (set places zone k) (get_or zones q 0) 0 ≡ q
+        pick : (q : ℕ) → q < k + 1 → Dec (q ≡ k) → get_or (set places (get_or zones k 0) k) (get_or zones q 0) 0 ≡ q
         pick q p (yes e) =
-            rw e (get_or-set_same places zone k 0 (omega (arith, rises.below k h, so.long)))
+            rw e (get_or-set_same places (get_or zones k 0) k 0 (omega (arith, rises.below k h, so.long)))
         pick q p (no e) =
-            get_or-set_other places zone (get_or zones q 0) k 0 (λ f. let z : ⊥ = omega (arith, rises.rising q k (omega arith) h) in z)
+            get_or-set_other places (get_or zones k 0) (get_or zones q 0) k 0 (λ f. let z : ⊥ = omega (arith, rises.rising q k (omega arith) h) in z)
             ∙ so.held q (omega arith)
+
+    -- whether zone i stands at a place of the list
+    abbrev stands : ℕ → ℕ → Bool
+    stands i q = eqb (get_or zones q 0) i
 
     -- all are
     pub placed_all : (k : ℕ) (places : List ℕ) → Placed zones n k places → k ≡ length zones → places ≡ table (place_in zones) n
-    placed_all k places so e = is_table (place_in zones) n 0 places so.long (λ i h. go i h (some (stands i) (length zones)) refl)
+    placed_all k places so e =
+        is_table (place_in zones) n 0 places so.long (λ i h. go i h (some (stands i) (length zones)) refl)
       where
-        -- whether zone i stands at a place
-        abbrev stands : ℕ → ℕ → Bool
-        stands i q = eqb (get_or zones q 0) i
+        ne_true : {b : Bool} → b ≡ false → b ≡ true → ⊥
+        ne_true e f = cc
 
         go : (i : ℕ) → i < n → (b : Bool) → some (stands i) (length zones) ≡ b → get_or places i 0 ≡ place_in zones i
         go i h false none =
-            so.others i h (λ q l f. let z : true ≡ false = sym (eq-eqb (get_or zones q 0) i f) ∙ some_none (stands i) (length zones) q none
-            (omega arith) in cc)
+            so.others i h
+            (λ q l f. ne_true (some_none (stands i) (length zones) q none (omega arith)) (eq-eqb (get_or zones q 0) i f))
             ∙ sym (none_first (stands i) (length zones) none)
         go i h true found =
             let w = some_witness (stands i) (length zones) found in

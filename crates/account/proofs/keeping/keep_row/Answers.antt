@@ -4,7 +4,7 @@ use mathlib.Core.Path.{◌≡◌, refl, sym, ap, ◌∙◌}
 use mathlib.Core.List.{List}
 use Prim.Native.Nat.{ℕ, ◌+◌, ◌*◌, ◌≤◌, ◌<◌}
 use native.Mathlib.Omega.{arith}
-use lib.ListN.{length, get_or}
+use lib.ListN.{length, get_or, set}
 use Rattle.whole.specs.Table.{pair_at}
 use Rattle.whole.proofs.Permutation.{full}
 use Rattle.account.proofs.Placing.{taken_none, taken_few, taken_room, taken_yes, taken_no, taken_all}
@@ -78,7 +78,9 @@ loop-zone-preserved c =
     taken_no a.places.now (length a.out.now) a.n (row f) c.requires.shuffle.full c.requires.n_value (p f) l.k l.out l.invariant (before f) j
     new in
     elim c.if-from-out.branch [
-      | then-from-out w ↦ ?
+      | then-from-out w ↦
+          with_place (omega (arith, w.if-from-out.true, place g))
+          (w.out-is ∙ ap (λ z. set l.out l.k (get_or a.places.now z 0)) (named f)) w.k-is
       | else-from-out w ↦ without (omega (arith, w.if-from-out.false, place g)) w.out-is w.k-is
     ]
 
