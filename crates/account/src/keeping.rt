@@ -55,6 +55,7 @@ pub(super) fn find_places(n: usize, zones: &[u8], places: &mut [u8])
     requires places_len { length places.old ≡ n }
     ensures { places.new ≡ table (place_in zones.now) n }
 {
+    // no From leads here from a usize; a place is at most 64
     places.fill(zones.len() as u8);
     for (k, zone) in zones.iter().enumerate() {
         places[usize::from(*zone)] = k as u8;
@@ -87,7 +88,11 @@ pub(super) fn put_back_rows(places: &[u8], many: usize, numbers: &[i64], out: &m
     for k in 0..9 {
         let from = k * many;
         let first = k * n;
-        put_back(places, &numbers[from..from + many], &mut out[first..first + n]);
+        put_back(
+            places,
+            &numbers[from..from + many],
+            &mut out[first..first + n],
+        );
     }
 }
 

@@ -59,7 +59,7 @@ pub bounds-out-k : goal.bounds-out-k
 bounds-out-k c = room ((goal.at.bounds-out-k c).After-from-in-loop-zone) c.if-from-out.true
 
 pub overflow_add-k : goal.overflow_add-k
-overflow_add-k c = 
+overflow_add-k c =
     let l = c.loop-zone in
     omega (arith, taken_few _ _ _ _ l.zone-index l.k l.out l.invariant, l.invariant.passed, c.requires.shuffle.row.zones)
 
