@@ -1,9 +1,9 @@
 -- `add_pairs` meets its contract. The loop's invariant: the parts hold the sums over the pairs passed. Assumes nothing.
 use mathlib.Core.Path.{◌≡◌, sym, ap, ◌∙◌}
-use Prim.Native.Nat.{ℕ, zero, suc, ◌+◌, ◌*◌, ◌≤◌, ◌<◌}
+use Prim.Native.Nat.{ℕ, zero, suc, ◌+◌, ◌*◌, ◌<◌}
 use native.Mathlib.Nat as N
 use native.Mathlib.Omega.{arith}
-use lib.IntN.{ℤ, pos, ◌-ℤ◌, ◌*ℤ◌}
+use lib.IntN.{pos, ◌-ℤ◌, ◌*ℤ◌}
 use mir.Syntax.{w64}
 use Rattle.whole.specs.Integer.{square}
 use Rattle.whole.specs.Table.{at, pair_at}

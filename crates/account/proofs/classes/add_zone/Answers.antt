@@ -1,6 +1,6 @@
 -- `add_zone` meets its contract. The loop's invariant: zone i is in the sums and the local numerators of the first k classes, the zones
 -- before it in those of all; the local numerators of zone i in the first k classes are added up. Assumes nothing.
-use mathlib.Core.Path.{◌≡◌, refl, sym, ap, ◌∙◌}
+use mathlib.Core.Path.{◌≡◌, refl, ap, ◌∙◌}
 use mathlib.Core.List.{List}
 use Prim.Native.Nat.{ℕ, zero, suc, ◌+◌, ◌*◌, ◌≤◌, ◌<◌}
 use native.Mathlib.Nat as N
@@ -18,12 +18,12 @@ use Rattle.whole.proofs.SumSize.{sum_size}
 use Rattle.whole.proofs.Table.{stored}
 use Rattle.account.specs.Measures.{deviation_of, local_of}
 use Rattle.account.specs.Classes.{zones_class_local, sum_at}
-use Rattle.account.specs.Steps.{zone_part, zone_sum, Owned}
+use Rattle.account.specs.Steps.{zone_part, zone_sum}
 use Rattle.account.specs.declared.ClassRow.{ClassRow}
 use Rattle.account.proofs.ByClass.{sums_at}
 use Rattle.account.proofs.Locals.{deviations_sized, deviation_is}
 use Rattle.account.proofs.NineClasses.{locals_together}
-use Rattle.account.proofs.ZoneByZone.{zones_in, zones_most, zoned_length, same_zones, one_class, part_size, class_local_size, zones_sized, added_small}
+use Rattle.account.proofs.ZoneByZone.{zones_in, zones_most, same_zones, one_class, part_size, class_local_size, zones_sized, added_small}
 use Rattle.account.proofs.classes.add_zone.Goals as goal
 use Rattle.account.proofs.classes.add_zone.Goals.{In-loop-k, Start}
 

@@ -1,5 +1,4 @@
 -- `deviations` meets its contract. The loop's invariant: each element passed is its deviation. Assumes nothing.
-use Prim.Native.Nat.{ℕ}
 use native.Mathlib.Nat as N
 use native.Mathlib.Omega.{arith}
 use lib.IntN.{pos, ◌-ℤ◌, ◌*ℤ◌}

@@ -1,7 +1,7 @@
 -- `row_squares` meets its contract. The loop's invariant: the accumulator is the sum over the zones passed.
 -- Assumes nothing.
-use mathlib.Core.Path.{◌≡◌, refl, sym, ap, ◌∙◌}
-use Prim.Native.Nat.{ℕ, ◌+◌, ◌*◌, ◌<◌}
+use mathlib.Core.Path.{◌≡◌, refl, ap, ◌∙◌}
+use Prim.Native.Nat.{ℕ, ◌+◌, ◌<◌}
 use native.Mathlib.Omega.{arith}
 use lib.IntN.{ℤ, pos, ◌+ℤ◌, ◌-ℤ◌, ◌*ℤ◌}
 use lib.ListN.{length, get_or, length-append}
@@ -15,7 +15,7 @@ use Rattle.whole.proofs.Accumulate.{running_none, running_more, running_done}
 use Rattle.whole.proofs.Machine.{Is, told, rd, is_*, fit, r32, r64}
 use Rattle.whole.specs.Table.{at, pair_at}
 use Rattle.account.specs.Measures.{row_of}
-use Rattle.account.proofs.Reading.{weight_le, read_le, difference_told}
+use Rattle.account.proofs.Reading.{weight_le, difference_told}
 use Rattle.account.proofs.Rows.{row, row_in, row_length, row_at}
 use Rattle.account.proofs.Running.{row_squares_run}
 use Rattle.account.proofs.differences.row_squares.Goals as goal

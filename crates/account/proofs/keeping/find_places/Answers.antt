@@ -1,8 +1,8 @@
 -- `find_places` meets its contract. The loop's invariant: the zones passed have their places. Assumes nothing.
-use mathlib.Core.Path.{◌≡◌, ap, ◌∙◌}
+use mathlib.Core.Path.{ap, ◌∙◌}
 use native.Mathlib.Omega.{arith}
-use lib.ListN.{length, set, replicate}
-use Rattle.account.proofs.Placing.{Placed, placed_none, placed_next, placed_all}
+use lib.ListN.{length, replicate}
+use Rattle.account.proofs.Placing.{placed_none, placed_next, placed_all}
 use Rattle.account.proofs.keeping.find_places.Goals as goal
 
 pub loop-k-init : goal.loop-k-init

@@ -1,5 +1,5 @@
 -- `gather_row` meets its contract. The loop's invariant: the entries of the zones passed are written. Assumes nothing.
-use mathlib.Core.Path.{◌≡◌, ap, ◌∙◌}
+use mathlib.Core.Path.{ap, ◌∙◌}
 use native.Mathlib.Omega.{arith}
 use lib.ListN.{length, get_or}
 use Rattle.whole.specs.Table.{pair_at}
