@@ -11,9 +11,9 @@ use Rattle.whole.proofs.Accumulate.{Bounded, running_none, running_more, running
 use Rattle.whole.proofs.Machine.{Is, val, rd, fit, r64}
 use Rattle.whole.proofs.SumSize.{sum_size}
 use Rattle.account.proofs.classes.nine_together.Goals as goal
-use Rattle.account.proofs.classes.nine_together.Goals.{After-acc-1}
+use Rattle.account.proofs.classes.nine_together.Goals.{In-loop-k}
 
-module _ (c : After-acc-1) where
+module _ (c : In-loop-k) where
   -- no sum on the way is larger than nine local numerators can be
   runs : Bounded w64 (λ k. at c.args.rows.now (k * 3 + c.args.place)) 9 849346560000000000
   runs = record {
@@ -40,10 +40,10 @@ pub loop-k-init : goal.loop-k-init
 loop-k-init c = running_none _
 
 pub overflow_add-acc-in-loop-k : goal.overflow_add-acc-in-loop-k
-overflow_add-acc-in-loop-k c = fit w64 (turn c) tt
+overflow_add-acc-in-loop-k c = fit w64 (turn ((goal.at.overflow_add-acc-in-loop-k c).In-loop-k)) tt
 
 pub loop-k-preserved : goal.loop-k-preserved
-loop-k-preserved c = (rd w64 (turn c) tt).same
+loop-k-preserved c = (rd w64 (turn ((goal.at.loop-k-preserved c).In-loop-k)) tt).same
 
 pub returns : goal.returns
 returns c = running_done _ _ c.loop-k.k (to_z w64 c.loop-k.acc-bits) (omega arith) c.loop-k.invariant

@@ -8,11 +8,11 @@ use Rattle.whole.specs.Table.{at, pair_at}
 use Rattle.account.specs.Measures.{local_of}
 use Rattle.account.proofs.Running.{local_is}
 use Rattle.account.proofs.deviations.local_numerators.Goals as goal
-use Rattle.account.proofs.deviations.local_numerators.Goals.{After-local-in-loop-i-1}
+use Rattle.account.proofs.deviations.local_numerators.Goals.{After-neighbour_sum-neighbours}
 
 -- d(i) times the weighted neighbours
 local :
-    (c : After-local-in-loop-i-1) →
+    (c : After-neighbour_sum-neighbours) →
     let a = c.args in
     Is (r64 (at a.d.now c.loop-i.i) *ℤ r64 c.neighbour_sum-neighbours.result)
     (local_of (pair_at a.weights.now a.n) (at a.d.now) a.n c.loop-i.i) 94371840000000000
@@ -24,12 +24,12 @@ pub loop-i-init : goal.loop-i-init
 loop-i-init c = λ k p. let z : ⊥ = omega arith in absurd z
 
 pub overflow_mul-local : goal.overflow_mul-local
-overflow_mul-local c = fit w64 (local c) tt
+overflow_mul-local c = fit w64 (local ((goal.at.overflow_mul-local c).After-neighbour_sum-neighbours)) tt
 
 pub loop-i-preserved : goal.loop-i-preserved
 loop-i-preserved c = let a = c.args in
     stored (local_of (pair_at a.weights.now a.n) (at a.d.now) a.n) (pos 0) _ c.loop-i.locals c.loop-i.i (omega arith)
-    (rd w64 (local c) tt).same c.loop-i.invariant
+    (rd w64 (local ((goal.at.loop-i-preserved c).After-neighbour_sum-neighbours)) tt).same c.loop-i.invariant
 
 pub returns : goal.returns
 returns c =

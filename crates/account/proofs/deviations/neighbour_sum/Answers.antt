@@ -18,10 +18,10 @@ use Rattle.account.proofs.Reading.{weight_le}
 use Rattle.account.proofs.Rows.{row, row_in, row_length, row_at}
 use Rattle.account.proofs.Running.{neighbours_run}
 use Rattle.account.proofs.deviations.neighbour_sum.Goals as goal
-use Rattle.account.proofs.deviations.neighbour_sum.Goals.{After-acc-1}
+use Rattle.account.proofs.deviations.neighbour_sum.Goals.{After-from}
 
 -- w(i,j) d(j), and a turn that adds it
-module _ (c : After-acc-1) where
+module _ (c : After-from) where
   -- the number of zones passed
   abbrev j : ℕ
   j = length c.loop-weight.yielded
@@ -72,13 +72,15 @@ pub loop-weight-init : goal.loop-weight-init
 loop-weight-init c = running_none _
 
 pub overflow_mul-acc : goal.overflow_mul-acc
-overflow_mul-acc c = fit w64 (term c) tt
+overflow_mul-acc c = fit w64 (term ((goal.at.overflow_mul-acc c).After-from)) tt
 
 pub overflow_add-acc : goal.overflow_add-acc
-overflow_add-acc c = fit w64 (turn c) tt
+overflow_add-acc c = fit w64 (turn ((goal.at.overflow_add-acc c).After-from)) tt
 
 pub loop-weight-preserved : goal.loop-weight-preserved
-loop-weight-preserved c = (rd w64 (turn c) tt).same ∙ ap (sum (λ j. pos (weight c j) *ℤ deviation c j)) (simp length-append refl)
+loop-weight-preserved c =
+    let f = (goal.at.loop-weight-preserved c).After-from in
+    (rd w64 (turn f) tt).same ∙ ap (sum (λ j. pos (weight f j) *ℤ deviation f j)) (simp length-append refl)
 
 pub returns : goal.returns
 unfolding row_of

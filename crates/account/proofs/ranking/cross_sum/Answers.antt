@@ -14,10 +14,10 @@ use Rattle.account.specs.Measures.{local_of}
 use Rattle.account.proofs.Adding.{locals_sum}
 use Rattle.account.proofs.Running.{local_is, cross_runs}
 use Rattle.account.proofs.ranking.cross_sum.Goals as goal
-use Rattle.account.proofs.ranking.cross_sum.Goals.{After-acc-1}
+use Rattle.account.proofs.ranking.cross_sum.Goals.{After-neighbour_sum-neighbours}
 
 -- d(i) times the weighted neighbours, and a turn, which adds that
-module _ (c : After-acc-1) where
+module _ (c : After-neighbour_sum-neighbours) where
   local :
       Is (r64 (at c.args.d.now c.loop-i.i) *ℤ r64 c.neighbour_sum-neighbours.result)
       (local_of (pair_at c.args.weights.now c.args.n) (at c.args.d.now) c.args.n c.loop-i.i) 94371840000000000
@@ -35,13 +35,13 @@ pub loop-i-init : goal.loop-i-init
 loop-i-init c = running_none _
 
 pub overflow_mul-acc : goal.overflow_mul-acc
-overflow_mul-acc c = fit w64 (local c) tt
+overflow_mul-acc c = fit w64 (local ((goal.at.overflow_mul-acc c).After-neighbour_sum-neighbours)) tt
 
 pub overflow_add-acc : goal.overflow_add-acc
-overflow_add-acc c = fit w64 (turn c) tt
+overflow_add-acc c = fit w64 (turn ((goal.at.overflow_add-acc c).After-neighbour_sum-neighbours)) tt
 
 pub loop-i-preserved : goal.loop-i-preserved
-loop-i-preserved c = (rd w64 (turn c) tt).same
+loop-i-preserved c = (rd w64 (turn ((goal.at.loop-i-preserved c).After-neighbour_sum-neighbours)) tt).same
 
 pub returns : goal.returns
 returns c = running_done _ _ c.loop-i.i (to_z w64 c.loop-i.acc-bits) (omega arith) c.loop-i.invariant ∙ locals_sum _ _ _
