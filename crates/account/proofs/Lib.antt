@@ -3,6 +3,7 @@
 pub mod Sizes
 pub mod Adding
 pub mod Reading
+pub mod Rows
 pub mod Running
 pub mod Locals
 pub mod ByClass

@@ -1,99 +1,80 @@
 -- The places of the zones in a list that rises, and the numbers of a shuffle that have a place, as loops write them.
 -- Assumes nothing.
-use mathlib.Core.Path.{◌≡◌, sym, ap, ◌∙◌}
-use mathlib.Core.Bool.{Bool, false}
+use mathlib.Core.Path.{◌≡◌, refl, sym, ap, ◌∙◌}
+use mathlib.Core.Bool.{Bool, true, false}
 use mathlib.Core.List.{List}
 use Prim.Native.Nat.{ℕ, ◌+◌, ◌≤◌, ◌<◌}
-use native.Mathlib.Decide.{ℕ_discrete, dec_lt}
+use native.Mathlib.Decide.{ℕ_discrete}
 use native.Mathlib.Omega.{arith}
-use borrow.Author.Tests.{eq-eqb, ne_eqb, lt-ltb, le-ltb}
+use borrow.Author.Tests.{eq-eqb, eqb-true, lt-ltb, le-ltb}
 use lib.Dec.{eqb, ltb}
-use lib.ListN.{length, get_or, set, length-set}
+use lib.ListN.{length, get_or, set, replicate, length-set, get_or-replicate}
+use lib.Seq.{get_or-set_same, get_or-set_other}
 use Rattle.whole.specs.Order.{lacks}
-use Rattle.whole.specs.Search.{count}
+use Rattle.whole.specs.Search.{some, count}
 use Rattle.whole.specs.Table.{table}
-use Rattle.whole.proofs.Counting.{count_zero, count_yes, count_no, count_le, first_is, none_first}
-use Rattle.whole.proofs.Search.{none_some}
+use Rattle.whole.proofs.Counting.{count_zero, count_yes, count_no, count_le, first_below, first_passes, none_first}
+use Rattle.whole.proofs.Search.{some_none, some_witness}
 use Rattle.whole.proofs.Table.{is_table, stored}
 use Rattle.kept.specs.Kept.{passing}
 use Rattle.kept.proofs.KeptShuffle.{as_many}
 use Rattle.kept.proofs.Passing.{place_below, nth_place}
 use Rattle.account.specs.Steps.{Zones, place_in, placed_number}
 
--- ---- the zones below i have their places written, and the first k zones of the list are those below i
-pub record Placed (zones : List ℕ) (n i k : ℕ) (places : List ℕ) : Type 0 where
-  pub passed : i ≤ n
+-- ---- the first k zones of the list have their places written, and all others the list's length
+pub record Placed (zones : List ℕ) (n k : ℕ) (places : List ℕ) : Type 0 where
   pub long : length places ≡ n
-  pub few : k ≤ length zones
-  pub under : (q : ℕ) → q < k → get_or zones q 0 < i
-  pub next : k < length zones → i ≤ get_or zones k 0
-  pub holds : (p : ℕ) → p < i → get_or places p 0 ≡ place_in zones p
+  pub held : (q : ℕ) → q < k → get_or places (get_or zones q 0) 0 ≡ q
+  pub others : (i : ℕ) → i < n → ((q : ℕ) → q < k → get_or zones q 0 ≡ i → ⊥) → get_or places i 0 ≡ length zones
 
 module _ (zones : List ℕ) (n : ℕ) where
   -- no zone is passed yet
-  pub placed_none : (places : List ℕ) → length places ≡ n → Placed zones n 0 0 places
-  placed_none places e = record {
-    passed = omega arith;
+  pub placed_none : (places : List ℕ) → length places ≡ n → places ≡ replicate n (length zones) → Placed zones n 0 places
+  placed_none places e f = record {
     long = e;
-    few = omega arith;
-    under = λ q h. let z : ⊥ = omega arith in absurd z;
-    next = λ h. omega arith;
-    holds = λ p h. let z : ⊥ = omega arith in absurd z;
+    held = λ q h. let z : ⊥ = omega arith in absurd z;
+    others = λ i h none. rw f (get_or-replicate n i (length zones) 0 h);
   }
 
-  -- all are
-  pub placed_all : (i k : ℕ) (places : List ℕ) → Placed zones n i k places → n ≤ i → places ≡ table (place_in zones) n
-  placed_all i k places so h = is_table (place_in zones) n 0 places so.long (λ p q. so.holds p (omega arith))
-
-  module _ (rises : Zones zones n) (i k : ℕ) (places : List ℕ) (so : Placed zones n i k places) (h : i < n) where
-    -- the zone i stands at place k
-    here : k < length zones → get_or zones k 0 ≡ i → place_in zones i ≡ k
-    here l e =
-        let before : (q : ℕ) → q < k → eqb (get_or zones q 0) i ≡ false =
-        λ q p. ne_eqb (get_or zones q 0) i (λ f. let z : ⊥ = omega (arith, so.under q p) in z) in
-        first_is (λ q. eqb (get_or zones q 0) i) (length zones) k l (none_some (λ q. eqb (get_or zones q 0) i) k before)
-        (eq-eqb (get_or zones k 0) i e)
-
-    -- it stands nowhere, where the zone at place k is above it
-    nowhere : (k < length zones → i < get_or zones k 0) → place_in zones i ≡ length zones
-    nowhere above =
-        none_first (λ q. eqb (get_or zones q 0) i) (length zones)
-        (none_some (λ q. eqb (get_or zones q 0) i) (length zones)
-        (λ q p. ne_eqb (get_or zones q 0) i (pick q p (dec_lt q k) (ℕ_discrete q k))))
-      where
-        pick : (q : ℕ) → q < length zones → Dec (q < k) → Dec (q ≡ k) → get_or zones q 0 ≡ i → ⊥
-        pick q p (yes l) d f = omega (arith, so.under q l)
-        pick q p (no l) (yes e) f = omega (arith, above (omega arith), ap (λ t. get_or zones t 0) e)
-        pick q p (no l) (no e) f = omega (arith, above (omega arith), rises.rising k q (omega arith) p)
-
-    -- one zone more, which stands in the list
-    pub placed_found :
-        (j v : ℕ) → k < length zones → get_or zones k 0 ≡ i → j ≡ k + 1 → v ≡ k → Placed zones n (i + 1) j (set places i v)
-    placed_found j v l e f g = record {
-      passed = omega arith;
-      long = length-set places i v ∙ so.long;
-      few = omega arith;
-      under = λ q p. pick q p (ℕ_discrete q k);
-      next = λ p. omega (arith, rises.rising k j (omega arith) p);
-      holds = stored (place_in zones) 0 v places i (omega (arith, so.long)) (g ∙ sym (here l e)) so.holds;
+  module _ (rises : Zones zones n) where
+    -- one zone more
+    pub placed_next : (k : ℕ) (places : List ℕ) → Placed zones n k places → k < length zones → Placed zones n (k + 1) (set places (get_or zones k 0) k)
+    placed_next k places so h = record {
+      long = length-set places (get_or zones k 0) k ∙ so.long;
+      held = λ q p. pick q p (ℕ_discrete q k);
+      others = λ i p none. get_or-set_other places (get_or zones k 0) i k 0 (λ e. none k (omega arith) (sym e)) ∙ so.others i p (λ q l. none q (omega arith));
     }
       where
-        pick : (q : ℕ) → q < j → Dec (q ≡ k) → get_or zones q 0 < i + 1
-        pick q p (yes r) = omega (arith, e, ap (λ t. get_or zones t 0) r)
-        pick q p (no r) = omega (arith, so.under q (omega arith))
+        pick : (q : ℕ) → q < k + 1 → Dec (q ≡ k) → get_or (set places (get_or zones k 0) k) (get_or zones q 0) 0 ≡ q
+        pick q p (yes e) =
+            rw e (get_or-set_same places (get_or zones k 0) k 0 (omega (arith, rises.below k h, so.long)))
+        pick q p (no e) =
+            get_or-set_other places (get_or zones k 0) (get_or zones q 0) k 0 (λ f. let z : ⊥ = omega (arith, rises.rising q k (omega arith) h) in z)
+            ∙ so.held q (omega arith)
 
-    -- and one that does not
-    pub placed_lacking :
-        (j v : ℕ) → (k < length zones → i < get_or zones k 0) → j ≡ k → v ≡ length zones →
-        Placed zones n (i + 1) j (set places i v)
-    placed_lacking j v above f g = record {
-      passed = omega arith;
-      long = length-set places i v ∙ so.long;
-      few = omega (arith, so.few);
-      under = λ q p. omega (arith, so.under q (omega arith));
-      next = λ p. rw f (omega (arith, above (omega arith)));
-      holds = stored (place_in zones) 0 v places i (omega (arith, so.long)) (g ∙ sym (nowhere above)) so.holds;
-    }
+    -- whether zone i stands at a place of the list
+    abbrev stands : ℕ → ℕ → Bool
+    stands i q = eqb (get_or zones q 0) i
+
+    -- all are
+    pub placed_all : (k : ℕ) (places : List ℕ) → Placed zones n k places → k ≡ length zones → places ≡ table (place_in zones) n
+    placed_all k places so e =
+        is_table (place_in zones) n 0 places so.long (λ i h. go i h (some (stands i) (length zones)) refl)
+      where
+        ne_true : {b : Bool} → b ≡ false → b ≡ true → ⊥
+        ne_true e f = cc
+
+        go : (i : ℕ) → i < n → (b : Bool) → some (stands i) (length zones) ≡ b → get_or places i 0 ≡ place_in zones i
+        go i h false none =
+            so.others i h
+            (λ q l f. ne_true (some_none (stands i) (length zones) q none (omega arith)) (eq-eqb (get_or zones q 0) i f))
+            ∙ sym (none_first (stands i) (length zones) none)
+        go i h true found =
+            let w = some_witness (stands i) (length zones) found in
+            let passes = first_passes (stands i) (length zones) w.0 w.1 w.2 in
+            let below = first_below (stands i) (length zones) w.0 w.1 w.2 in
+            ap (λ t. get_or places t 0) (sym (eqb-true (get_or zones (place_in zones i) 0) i passes))
+            ∙ so.held (place_in zones i) (omega arith)
 
 -- ---- the first p numbers of a row are passed, and the k of them that have a place below `many` are written by it
 module _ (places : List ℕ) (many n : ℕ) (row : ℕ → ℕ) where

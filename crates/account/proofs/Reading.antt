@@ -38,6 +38,10 @@ module _ (values : List ℤ) (n : ℕ) (v : Valued values n) where
   pub value_is : (k : ℕ) → k < n → Is (r32 (at values k)) (at values k) 100000
   value_is k h = rd w32 (val (at values k) 100000 (v.near.size k h)) tt
 
+  -- the same widened by a call
+  pub value_told : {y : ℤ} (k : ℕ) → k < n → y ≡ r32 (at values k) → Is y (at values k) 100000
+  value_told k h e = told (at values k) 100000 (e ∙ (value_is k h).same) (v.near.size k h)
+
   pub read_le : (k : ℕ) → k < n → nat_abs (r32 (at values k)) ≤ 100000
   read_le k h = rw (value_is k h).same (v.near.size k h)
 

@@ -44,18 +44,15 @@ pub(super) fn add_pairs(
     ensures { parts.new
         ≡ table_rows (zone_part n values.now weights.now classes.now i) 9 3 }
 {
-    let row = i * n;
-    let a = values[i];
-    let mut j: usize = 0;
-    while j < n {
-        let pair = row + j;
-        let k = classes[pair] as usize;
-        let weight = weights[pair] as i64;
+    let first = i * n;
+    let own = values[i];
+    for j in 0..n {
+        let pair = first + j;
+        let k = usize::from(classes[pair]);
+        let weight = i64::from(weights[pair]);
         let deviation = d[j];
-        let b = values[j];
-        let square = differences::squared_difference(a, b);
+        let square = differences::squared_difference(own, values[j]);
         add_row(parts, k, weight, weight * deviation, weight * square);
-        j += 1;
     }
 }
 
@@ -85,8 +82,7 @@ pub(super) fn add_zone(
     add_pairs(n, values, d, weights, classes, i, &mut parts);
     let deviation = d[i];
     let mut own: i64 = 0;
-    let mut k: usize = 0;
-    while k < 9 {
+    for k in 0..9 {
         let place = k * 3;
         let weight = parts[place];
         let local = deviation * parts[place + 1];
@@ -94,21 +90,8 @@ pub(super) fn add_zone(
         add_row(rows, k, weight, local, squares);
         class_locals[k * n + i] = local;
         own += local;
-        k += 1;
     }
     locals[i] = own;
-}
-
-// Sets the 27 sums to 0.
-pub(super) fn clear(rows: &mut [i64])
-    requires { length rows.old ≡ 27 }
-    ensures { rows.new ≡ table_rows (λ k place. pos 0) 9 3 }
-{
-    let mut place: usize = 0;
-    while place < 27 {
-        rows[place] = 0;
-        place += 1;
-    }
 }
 
 // The rows and the local numerators, zone by zone: d is worked once, for all of them.
@@ -134,9 +117,8 @@ pub(super) fn add_zones(
 {
     let mut d: [i64; 64] = [0; 64];
     deviations::deviations(n, values, total, &mut d[..n]);
-    clear(rows);
-    let mut i: usize = 0;
-    while i < n {
+    rows.fill(0);
+    for i in 0..n {
         add_zone(
             n,
             values,
@@ -148,7 +130,6 @@ pub(super) fn add_zones(
             class_locals,
             locals,
         );
-        i += 1;
     }
 }
 
@@ -160,10 +141,8 @@ pub(super) fn nine_together(rows: &[i64], place: usize) -> i64
     ensures { result ≡ sum (λ k. at rows.now (k * 3 + place)) 9 }
 {
     let mut acc: i64 = 0;
-    let mut k: usize = 0;
-    while k < 9 {
+    for k in 0..9 {
         acc += rows[k * 3 + place];
-        k += 1;
     }
     acc
 }
@@ -204,11 +183,11 @@ pub(super) fn zone_classes(
     let cross = deviations::sum_of(n, locals);
     let squares = nine_together(rows, 2);
     Sums {
-        total: total,
-        spread: spread,
-        weight: weight,
-        cross: cross,
-        squares: squares,
+        total,
+        spread,
+        weight,
+        cross,
+        squares,
         kept: n,
     }
 }

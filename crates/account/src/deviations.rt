@@ -11,10 +11,8 @@ pub(super) fn total(n: usize, values: &[i32]) -> i64
     ensures { result ≡ total_of (at values.now) n }
 {
     let mut acc: i64 = 0;
-    let mut i: usize = 0;
-    while i < n {
-        acc += values[i] as i64;
-        i += 1;
+    for x in values {
+        acc += i64::from(*x);
     }
     acc
 }
@@ -26,13 +24,10 @@ pub(super) fn deviations(n: usize, values: &[i32], total: i64, d: &mut [i64])
     requires d_len { length d.old ≡ n }
     ensures { d.new ≡ table (deviation_of (at values.now) n) n }
 {
+    // no From leads here from a usize
     let count = n as i64;
-    let mut i: usize = 0;
-    while i < n {
-        let x = values[i] as i64;
-        let deviation = count * x - total;
-        d[i] = deviation;
-        i += 1;
+    for (i, deviation) in d.iter_mut().enumerate() {
+        *deviation = count * i64::from(values[i]) - total;
     }
 }
 
@@ -43,14 +38,11 @@ pub(super) fn neighbour_sum(n: usize, weights: &[u8], d: &[i64], i: usize) -> i6
     requires i_lt_n { i < n }
     ensures { result ≡ row_of (pair_at weights.now n) (λ i j. at d.now j) i n }
 {
-    let row = i * n;
+    let first = i * n;
+    let row = &weights[first..first + n];
     let mut acc: i64 = 0;
-    let mut j: usize = 0;
-    while j < n {
-        let weight = weights[row + j] as i64;
-        let deviation = d[j];
-        acc += weight * deviation;
-        j += 1;
+    for (weight, deviation) in row.iter().zip(d) {
+        acc += i64::from(*weight) * *deviation;
     }
     acc
 }
@@ -62,13 +54,9 @@ pub(super) fn local_numerators(n: usize, weights: &[u8], d: &[i64], locals: &mut
     requires locals_len { length locals.old ≡ n }
     ensures { locals.new ≡ table (local_of (pair_at weights.now n) (at d.now) n) n }
 {
-    let mut i: usize = 0;
-    while i < n {
+    for (i, local) in locals.iter_mut().enumerate() {
         let neighbours = neighbour_sum(n, weights, d, i);
-        let deviation = d[i];
-        let local = deviation * neighbours;
-        locals[i] = local;
-        i += 1;
+        *local = d[i] * neighbours;
     }
 }
 
@@ -79,10 +67,8 @@ pub(super) fn sum_of(n: usize, locals: &[i64]) -> i64
     ensures { result ≡ sum (at locals.now) n }
 {
     let mut acc: i64 = 0;
-    let mut i: usize = 0;
-    while i < n {
-        acc += locals[i];
-        i += 1;
+    for local in locals {
+        acc += *local;
     }
     acc
 }

@@ -12,7 +12,7 @@ pub(super) fn squared_difference(a: i32, b: i32) -> i64
     requires b_bound { nat_abs b ≤ 100000 }
     ensures { result ≡ square (a -ℤ b) }
 {
-    let difference = a as i64 - b as i64;
+    let difference = i64::from(a) - i64::from(b);
     difference * difference
 }
 
@@ -22,11 +22,9 @@ pub(super) fn square_sum(n: usize, values: &[i32]) -> i64
     ensures { result ≡ sum (λ i. square (at values.now i)) n }
 {
     let mut acc: i64 = 0;
-    let mut i: usize = 0;
-    while i < n {
-        let x = values[i] as i64;
+    for value in values {
+        let x = i64::from(*value);
         acc += x * x;
-        i += 1;
     }
     acc
 }
@@ -38,6 +36,7 @@ pub(super) fn spread(n: usize, values: &[i32], total: i64) -> i64
     ensures { result ≡ spread_of (at values.now) n }
 {
     let squares = square_sum(n, values);
+    // no From leads here from a usize
     let count = n as i64;
     count * squares - total * total
 }
@@ -49,15 +48,12 @@ pub(super) fn row_squares(n: usize, values: &[i32], weights: &[u8], i: usize) ->
     ensures { result ≡ row_of (pair_at weights.now n)
         (λ i j. square (at values.now i -ℤ at values.now j)) i n }
 {
-    let a = values[i];
-    let row = i * n;
+    let own = values[i];
+    let first = i * n;
+    let row = &weights[first..first + n];
     let mut acc: i64 = 0;
-    let mut j: usize = 0;
-    while j < n {
-        let weight = weights[row + j] as i64;
-        let b = values[j];
-        acc += weight * squared_difference(a, b);
-        j += 1;
+    for (weight, other) in row.iter().zip(values) {
+        acc += i64::from(*weight) * squared_difference(own, *other);
     }
     acc
 }
@@ -68,10 +64,8 @@ pub(super) fn squares(n: usize, values: &[i32], weights: &[u8]) -> i64
     ensures { result ≡ squares_of (pair_at weights.now n) (at values.now) n }
 {
     let mut acc: i64 = 0;
-    let mut i: usize = 0;
-    while i < n {
+    for i in 0..n {
         acc += row_squares(n, values, weights, i);
-        i += 1;
     }
     acc
 }

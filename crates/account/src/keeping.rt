@@ -11,11 +11,9 @@ pub(super) fn gather_values(values: &[i32], zones: &[u8], out: &mut [i32])
     requires out_len { length out.old ≡ length zones.now }
     ensures { out.new ≡ gathered values.now zones.now }
 {
-    let mut k: usize = 0;
-    while k < zones.len() {
-        let zone = zones[k] as usize;
-        out[k] = values[zone];
-        k += 1;
+    for (k, value) in out.iter_mut().enumerate() {
+        let zone = usize::from(zones[k]);
+        *value = values[zone];
     }
 }
 
@@ -28,12 +26,11 @@ pub(super) fn gather_row(n: usize, pairs: &[u8], zone: usize, zones: &[u8], out:
     ensures { out.new
         ≡ table (gathered_pair n pairs.now zones.now zone) (length zones.now) }
 {
-    let row = zone * n;
-    let mut k: usize = 0;
-    while k < zones.len() {
-        let other = zones[k] as usize;
-        out[k] = pairs[row + other];
-        k += 1;
+    let first = zone * n;
+    let row = &pairs[first..first + n];
+    for (k, pair) in out.iter_mut().enumerate() {
+        let other = usize::from(zones[k]);
+        *pair = row[other];
     }
 }
 
@@ -45,13 +42,10 @@ pub(super) fn gather_pairs(n: usize, pairs: &[u8], zones: &[u8], out: &mut [u8])
     ensures { out.new ≡ gathered_pairs n pairs.now zones.now }
 {
     let many = zones.len();
-    let mut k: usize = 0;
-    while k < many {
-        let zone = zones[k] as usize;
+    for (k, zone) in zones.iter().enumerate() {
+        let zone = usize::from(*zone);
         let first = k * many;
-        let end = first + many;
-        gather_row(n, pairs, zone, zones, &mut out[first..end]);
-        k += 1;
+        gather_row(n, pairs, zone, zones, &mut out[first..first + many]);
     }
 }
 
@@ -61,19 +55,10 @@ pub(super) fn find_places(n: usize, zones: &[u8], places: &mut [u8])
     requires places_len { length places.old ≡ n }
     ensures { places.new ≡ table (place_in zones.now) n }
 {
-    let many = zones.len();
-    let mut k: usize = 0;
-    let mut i: usize = 0;
-    while i < n {
-        let mut place = many;
-        if k < many {
-            if zones[k] as usize == i {
-                place = k;
-                k += 1;
-            }
-        }
-        places[i] = place as u8;
-        i += 1;
+    // no From leads here from a usize; a place is at most 64
+    places.fill(zones.len() as u8);
+    for (k, zone) in zones.iter().enumerate() {
+        places[usize::from(*zone)] = k as u8;
     }
 }
 
@@ -83,15 +68,9 @@ pub(super) fn put_back(places: &[u8], numbers: &[i64], out: &mut [i64])
     ensures { out.new
         ≡ table (at_place places.now (length numbers.now) (at numbers.now)) (length places.now) }
 {
-    let mut i: usize = 0;
-    while i < places.len() {
-        let place = places[i] as usize;
-        let mut number: i64 = 0;
-        if place < numbers.len() {
-            number = numbers[place];
-        }
-        out[i] = number;
-        i += 1;
+    for (i, number) in out.iter_mut().enumerate() {
+        let place = usize::from(places[i]);
+        *number = numbers.get(place).copied().unwrap_or(0);
     }
 }
 
@@ -106,14 +85,14 @@ pub(super) fn put_back_rows(places: &[u8], many: usize, numbers: &[i64], out: &m
         (length places.now) }
 {
     let n = places.len();
-    let mut k: usize = 0;
-    while k < 9 {
+    for k in 0..9 {
         let from = k * many;
-        let to = from + many;
         let first = k * n;
-        let end = first + n;
-        put_back(places, &numbers[from..to], &mut out[first..end]);
-        k += 1;
+        put_back(
+            places,
+            &numbers[from..from + many],
+            &mut out[first..first + n],
+        );
     }
 }
 
@@ -126,17 +105,15 @@ pub(super) fn keep_row(n: usize, shuffles: &[u8], r: usize, places: &[u8], out: 
         ≡ table (placed_number places.now (length out.old) n (pair_at shuffles.now n r))
         (length out.old) }
 {
-    let row = r * n;
+    let first = r * n;
+    let row = &shuffles[first..first + n];
     let mut k: usize = 0;
-    let mut p: usize = 0;
-    while p < n {
-        let zone = shuffles[row + p] as usize;
-        let place = places[zone];
-        if (place as usize) < out.len() {
+    for zone in row {
+        let place = places[usize::from(*zone)];
+        if usize::from(place) < out.len() {
             out[k] = place;
             k += 1;
         }
-        p += 1;
     }
 }
 
@@ -156,11 +133,8 @@ pub(super) fn keep_rows(
     ensures { out.new
         ≡ table_rows (λ r. placed_number places.now many n (pair_at shuffles.now n r)) rows many }
 {
-    let mut r: usize = 0;
-    while r < rows {
+    for r in 0..rows {
         let first = r * many;
-        let end = first + many;
-        keep_row(n, shuffles, r, places, &mut out[first..end]);
-        r += 1;
+        keep_row(n, shuffles, r, places, &mut out[first..first + many]);
     }
 }

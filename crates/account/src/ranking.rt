@@ -13,12 +13,9 @@ pub(super) fn cross_sum(n: usize, weights: &[u8], d: &[i64]) -> i64
     ensures { result ≡ cross_held weights.now n d.now }
 {
     let mut acc: i64 = 0;
-    let mut i: usize = 0;
-    while i < n {
+    for (i, deviation) in d.iter().enumerate() {
         let neighbours = deviations::neighbour_sum(n, weights, d, i);
-        let deviation = d[i];
-        acc += deviation * neighbours;
-        i += 1;
+        acc += *deviation * neighbours;
     }
     acc
 }
@@ -47,8 +44,7 @@ pub(super) fn tally(n: usize, weights: &[u8], d: &[i64], shuffles: &[u8], rows: 
     let mut less: usize = 0;
     let mut equal: usize = 0;
     let mut greater: usize = 0;
-    let mut r: usize = 0;
-    while r < rows {
+    for r in 0..rows {
         let cross = shuffle_cross(n, weights, d, shuffles, r);
         if cross < own {
             less += 1;
@@ -57,12 +53,11 @@ pub(super) fn tally(n: usize, weights: &[u8], d: &[i64], shuffles: &[u8], rows: 
         } else {
             equal += 1;
         }
-        r += 1;
     }
     Counts {
-        less: less,
-        equal: equal,
-        greater: greater,
+        less,
+        equal,
+        greater,
     }
 }
 

@@ -10,11 +10,10 @@ pub(super) fn shuffle_deviations(n: usize, d: &[i64], shuffles: &[u8], r: usize,
     requires shuffle { Shuffle shuffles.now n r }
     ensures { moved.new ≡ table (λ i. at d.now (pair_at shuffles.now n r i)) n }
 {
-    let row = r * n;
-    let mut i: usize = 0;
-    while i < n {
-        let zone = shuffles[row + i] as usize;
+    let first = r * n;
+    let row = &shuffles[first..first + n];
+    for (i, zone) in row.iter().enumerate() {
+        let zone = usize::from(*zone);
         moved[i] = d[zone];
-        i += 1;
     }
 }

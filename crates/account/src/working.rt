@@ -13,12 +13,10 @@ pub(super) fn weight_sum(n: usize, weights: &[u8]) -> i64
     ensures { result ≡ weight_of (pair_at weights.now n) n }
 {
     let mut acc: u32 = 0;
-    let mut k: usize = 0;
-    while k < weights.len() {
-        acc += weights[k] as u32;
-        k += 1;
+    for weight in weights {
+        acc += u32::from(*weight);
     }
-    acc as i64
+    i64::from(acc)
 }
 
 // W, P and G for weights of any kind, with the local numerators in `locals`. The deviations d are those of the whole job.
@@ -40,9 +38,9 @@ pub(super) fn pair_sums(
     let weight = weight_sum(n, weights);
     let squares = differences::squares(n, values, weights);
     ClassRow {
-        weight: weight,
-        cross: cross,
-        squares: squares,
+        weight,
+        cross,
+        squares,
     }
 }
 
@@ -59,8 +57,8 @@ pub(super) fn zone_sums(n: usize, values: &[i32], weights: &[u8], locals: &mut [
     deviations::deviations(n, values, total, &mut d[..n]);
     let pairs = pair_sums(n, values, &d[..n], weights, locals);
     Sums {
-        total: total,
-        spread: spread,
+        total,
+        spread,
         weight: pairs.weight,
         cross: pairs.cross,
         squares: pairs.squares,

@@ -1,6 +1,6 @@
 -- `add_zone` meets its contract. The loop's invariant: zone i is in the sums and the local numerators of the first k classes, the zones
 -- before it in those of all; the local numerators of zone i in the first k classes are added up. Assumes nothing.
-use mathlib.Core.Path.{◌≡◌, refl, sym, ap, ◌∙◌}
+use mathlib.Core.Path.{◌≡◌, refl, ap, ◌∙◌}
 use mathlib.Core.List.{List}
 use Prim.Native.Nat.{ℕ, zero, suc, ◌+◌, ◌*◌, ◌≤◌, ◌<◌}
 use native.Mathlib.Nat as N
@@ -18,14 +18,14 @@ use Rattle.whole.proofs.SumSize.{sum_size}
 use Rattle.whole.proofs.Table.{stored}
 use Rattle.account.specs.Measures.{deviation_of, local_of}
 use Rattle.account.specs.Classes.{zones_class_local, sum_at}
-use Rattle.account.specs.Steps.{zone_part, zone_sum, Owned}
+use Rattle.account.specs.Steps.{zone_part, zone_sum}
 use Rattle.account.specs.declared.ClassRow.{ClassRow}
 use Rattle.account.proofs.ByClass.{sums_at}
 use Rattle.account.proofs.Locals.{deviations_sized, deviation_is}
 use Rattle.account.proofs.NineClasses.{locals_together}
-use Rattle.account.proofs.ZoneByZone.{zones_in, zones_most, zoned_length, same_zones, one_class, part_size, class_local_size, zones_sized, added_small}
+use Rattle.account.proofs.ZoneByZone.{zones_in, zones_most, same_zones, one_class, part_size, class_local_size, zones_sized, added_small}
 use Rattle.account.proofs.classes.add_zone.Goals as goal
-use Rattle.account.proofs.classes.add_zone.Goals.{After-loop-k, After-rows-1, At-loop-k, In-loop-k, Start}
+use Rattle.account.proofs.classes.add_zone.Goals.{In-loop-k, Start}
 
 -- what the call was lent
 module _ (s : Start) where
@@ -109,180 +109,80 @@ module _ (t : In-loop-k) where
   own_more :
       Is (to_z w64 t.loop-k.own-bits +ℤ added.cross)
       (sum (λ q. zones_class_local (n start) (values start) (weights start) (classes start) q (i start)) (k + 1)) 849346560000000000
-  own_more = running_more (runs start) k (to_z w64 t.loop-k.own-bits) (omega (arith, low)) t.loop-k.invariant.1.1 (rd w64 local_is tt)
+  own_more = running_more (runs start) k (to_z w64 t.loop-k.own-bits) (omega (arith, low)) t.loop-k.invariant.1 (rd w64 local_is tt)
 
   each : (place : ℕ) → sum_at added place ≡ zone_sum (n start) (values start) (weights start) (classes start) k place (i start)
   each zero = (part_is (k * 3) 0 (omega arith) (omega arith)).same
   each (suc zero) = (rd w64 local_is tt).same
   each (suc (suc place)) = (part_is (k * 3 + 2) 2 refl (omega arith)).same
 
--- the turn that a store ends
-abbrev turn : After-rows-1 → In-loop-k
-turn c = ((goal.at.After-rows-1 c).In-loop-k)
-
-pub slice_bounds-add_pairs-end : goal.slice_bounds-add_pairs-end
-slice_bounds-add_pairs-end c = refl
-
 pub add_pairs-requires : goal.add_pairs-requires
 unfolding table table_rows
 add_pairs-requires c = record {
   class_job = c.requires.class_job;
   d_value = c.requires.d_value;
-  i_lt_n = inside ((goal.at.add_pairs-requires c).Start);
+  i_lt_n = c.requires.i_lt_n;
   parts_value = refl;
 }
 
-pub offset_bounds-d-i : goal.offset_bounds-d-i
-offset_bounds-d-i c =
-    let start = (goal.at.offset_bounds-d-i c).Start in
-    omega (arith, inside start, zones start)
-
 pub bounds-d-i : goal.bounds-d-i
 bounds-d-i c =
-    let start = (goal.at.bounds-d-i c).Start in
-    omega (arith, inside start, (deviations_sized (values start) (n start) c.args.d.now c.requires.class_job.job.valued c.requires.d_value).count)
+    let a = c.args in
+    omega (arith, c.requires.i_lt_n, (deviations_sized a.values.now a.n a.d.now c.requires.class_job.job.valued c.requires.d_value).count)
 
 pub loop-k-init : goal.loop-k-init
 loop-k-init c =
-    let start = (goal.at.loop-k-init c).Start in
-    let none : (k : ℕ) → k < 9 → i start ≡ zones_in (i start) 0 k = λ k p. rw (le-ltb k 0 (omega arith)) refl in (
-      omega arith,
-      (
-        same_zones (n start) (values start) (weights start) (classes start) (λ k. i start) (zones_in (i start) 0) _ _ none
-            c.requires.zoned,
-        running_none _,
-      ),
+    let a = c.args in
+    let none : (k : ℕ) → k < 9 → a.i ≡ zones_in a.i 0 k = λ k p. rw (le-ltb k 0 (omega arith)) refl in (
+      same_zones a.n a.values.now a.weights.now a.classes.now (λ k. a.i) (zones_in a.i 0) _ _ none c.requires.zoned,
+      running_none _,
     )
-
-pub overflow_mul-place : goal.overflow_mul-place
-overflow_mul-place c = omega (arith, low c)
-
-pub offset_bounds-parts-place : goal.offset_bounds-parts-place
-offset_bounds-parts-place c = omega (arith, low c)
-
-pub bounds-parts-place : goal.bounds-parts-place
-bounds-parts-place c = omega (arith, low c)
-
-pub overflow_add-local : goal.overflow_add-local
-overflow_add-local c = omega (arith, low ((goal.at.overflow_add-local c).In-loop-k))
-
-pub offset_bounds-parts-place-in-loop-k : goal.offset_bounds-parts-place-in-loop-k
-offset_bounds-parts-place-in-loop-k c = omega (arith, low ((goal.at.offset_bounds-parts-place-in-loop-k c).In-loop-k))
-
-pub bounds-parts-place-in-loop-k : goal.bounds-parts-place-in-loop-k
-bounds-parts-place-in-loop-k c = omega (arith, low ((goal.at.bounds-parts-place-in-loop-k c).In-loop-k))
 
 pub overflow_mul-local : goal.overflow_mul-local
 overflow_mul-local c = fit w64 (local_is ((goal.at.overflow_mul-local c).In-loop-k)) tt
 
-pub overflow_add-squares : goal.overflow_add-squares
-overflow_add-squares c = omega (arith, low ((goal.at.overflow_add-squares c).In-loop-k))
-
-pub offset_bounds-parts-place-in-loop-k-2 : goal.offset_bounds-parts-place-in-loop-k-2
-offset_bounds-parts-place-in-loop-k-2 c = omega (arith, low ((goal.at.offset_bounds-parts-place-in-loop-k-2 c).In-loop-k))
-
-pub bounds-parts-place-in-loop-k-2 : goal.bounds-parts-place-in-loop-k-2
-bounds-parts-place-in-loop-k-2 c = omega (arith, low ((goal.at.bounds-parts-place-in-loop-k-2 c).In-loop-k))
-
 pub add_row-requires : goal.add_row-requires
 add_row-requires c =
-    let in_loop_k = (goal.at.add_row-requires c).In-loop-k in
-    let s = start in_loop_k in
-    let b = c.loop-k in
-    let most : (q : ℕ) → q < 9 → zones_in (i s) (k in_loop_k) q ≤ n s = λ q p. omega (arith, zones_most (i s) (k in_loop_k) q, inside s) in
-    let sized = zones_sized (n s) (values s) (weights s) (classes s) s.requires.class_job (zones_in (i s) (k in_loop_k)) _ _ most b.invariant.1.0 in
-    let weight = added_small (part_is in_loop_k (k in_loop_k * 3) 0 (omega arith) (omega arith)) (omega arith) in
-    let cross = added_small (rd w64 (local_is in_loop_k) tt) (omega arith) in
-    let squares = added_small (part_is in_loop_k (k in_loop_k * 3 + 2) 2 refl (omega arith)) (omega arith) in record {
-      sized = sized;
-      k_bound = omega (arith, low in_loop_k);
-      weight_bound = weight;
-      cross_bound = cross;
-      squares_bound = squares;
+    let t = (goal.at.add_row-requires c).In-loop-k in
+    let a = c.args in
+    let most : (q : ℕ) → q < 9 → zones_in a.i (k t) q ≤ a.n = λ q p. omega (arith, zones_most a.i (k t) q, c.requires.i_lt_n) in record {
+      sized =
+          zones_sized a.n a.values.now a.weights.now a.classes.now c.requires.class_job (zones_in a.i (k t)) _ _ most c.loop-k.invariant.0;
+      k_bound = low t;
+      weight_bound = added_small (part_is t (k t * 3) 0 (omega arith) (omega arith)) (omega arith);
+      cross_bound = added_small (rd w64 (local_is t) tt) (omega arith);
+      squares_bound = added_small (part_is t (k t * 3 + 2) 2 refl (omega arith)) (omega arith);
     }
 
-pub overflow_mul-local-in-loop-k : goal.overflow_mul-local-in-loop-k
-overflow_mul-local-in-loop-k c = let t = turn c in omega (arith, local_in t, zones (start t))
-
-pub overflow_add-local-in-loop-k : goal.overflow_add-local-in-loop-k
-overflow_add-local-in-loop-k c = let t = turn c in omega (arith, local_in t, zones (start t))
-
-pub offset_bounds-class_locals-k : goal.offset_bounds-class_locals-k
-offset_bounds-class_locals-k c = let t = turn c in omega (arith, local_in t, zones (start t))
-
-pub bounds-class_locals-k : goal.bounds-class_locals-k
-bounds-class_locals-k c = let t = turn c in omega (arith, local_in t, t.loop-k.invariant.1.0.count)
-
 pub overflow_add-own : goal.overflow_add-own
-overflow_add-own c = fit w64 (own_more (turn c)) tt
-
-pub overflow_add-k : goal.overflow_add-k
-overflow_add-k c = omega (arith, low (turn c))
-
-pub loop-k-smaller : goal.loop-k-smaller
-loop-k-smaller c = omega (arith, low (turn c))
+overflow_add-own c = fit w64 (own_more ((goal.at.overflow_add-own c).In-loop-k)) tt
 
 pub loop-k-preserved : goal.loop-k-preserved
 loop-k-preserved c =
-    let t = turn c in
-    let s = start t in
-    let b = t.loop-k in (
-      omega (arith, low t),
-      (
-        one_class (n s) (values s) (weights s) (classes s) (i s) (k t) (added t) b.rows _ b.class_locals (inside s) (low t)
-            b.invariant.1.0 c.add_row.ensures (each t),
-        (rd w64 (own_more t) tt).same,
-      ),
+    let t = (goal.at.loop-k-preserved c).In-loop-k in
+    let a = c.args in
+    let b = c.loop-k in (
+      one_class a.n a.values.now a.weights.now a.classes.now a.i (k t) (added t) b.rows _ b.class_locals c.requires.i_lt_n (low t)
+          b.invariant.0 c.add_row.ensures (each t),
+      (rd w64 (own_more t) tt).same,
     )
-
--- after the last turn
-module _ (c : After-loop-k) where
-  abbrev s : Start
-  s = ((goal.at.After-loop-k c).Start)
-
-  abbrev b : At-loop-k
-  b = ((goal.at.After-loop-k c).At-loop-k)
-
-  nine : b.loop-k.k ≡ 9
-  nine = omega (arith, b.loop-k.invariant.0, c.loop-k-test.false)
-
-  owned : Owned (n s) (values s) (weights s) (i s) s.args.locals.now
-  owned = s.requires.owned
-
-  -- what is stored is L(i)
-  own_is : to_z w64 b.loop-k.own-bits ≡ local_of (pair_at (weights s) (n s)) (deviation_of (at (values s)) (n s)) (n s) (i s)
-  own_is =
-      running_done _ _ b.loop-k.k (to_z w64 b.loop-k.own-bits) nine b.loop-k.invariant.1.1
-      ∙ locals_together (n s) (values s) (weights s) (classes s) s.requires.class_job.low (i s) (inside s)
-
-pub offset_bounds-locals-i : goal.offset_bounds-locals-i
-offset_bounds-locals-i c = omega (arith, inside (s c), zones (s c))
-
-pub bounds-locals-i : goal.bounds-locals-i
-bounds-locals-i c = omega (arith, inside (s c), (owned c).count)
-
-pub shape_of-rows : goal.shape_of-rows
-shape_of-rows c = zoned_length (b c).loop-k.invariant.1.0 ∙ sym (zoned_length (s c).requires.zoned)
-
-pub shape_of-class_locals : goal.shape_of-class_locals
-shape_of-class_locals c = (b c).loop-k.invariant.1.0.count ∙ sym (s c).requires.zoned.count
-
-pub shape_of-locals : goal.shape_of-locals
-shape_of-locals c = length-set (s c).args.locals.now (i (s c)) _
 
 pub returns : goal.returns
 returns c =
-    let all : (k : ℕ) → k < 9 → zones_in (i (s c)) (b c).loop-k.k k ≡ i (s c) + 1 = λ k p. rw (lt-ltb k (b c).loop-k.k (omega (
-      arith,
-      nine
-          c,
-    ))) refl in record {
-      zoned_2 = same_zones (n (s c)) (values (s c)) (weights (s c)) (classes (s c)) (zones_in (i (s c)) (b c).loop-k.k) (λ k. i (s c) + 1) _ _ all
-          (b c).loop-k.invariant.1.0;
+    let a = c.args in
+    let b = c.loop-k in
+    let nine : b.k ≡ 9 = omega arith in
+    let all : (k : ℕ) → k < 9 → zones_in a.i b.k k ≡ a.i + 1 = λ k p. rw (lt-ltb k b.k (omega (arith, nine))) refl in
+    -- what is stored is L(i)
+    let own_is =
+    running_done _ _ b.k (to_z w64 b.own-bits) nine b.invariant.1
+    ∙ locals_together a.n a.values.now a.weights.now a.classes.now c.requires.class_job.low a.i c.requires.i_lt_n in record {
+      zoned_2 =
+          same_zones a.n a.values.now a.weights.now a.classes.now (zones_in a.i b.k) (λ k. a.i + 1) _ _ all b.invariant.0;
       owned_2 = record {
-        count = length-set (s c).args.locals.now (i (s c)) _ ∙ (owned c).count;
+        count = length-set a.locals.now a.i _ ∙ c.requires.owned.count;
         numerators =
-            stored (local_of (pair_at (weights (s c)) (n (s c))) (deviation_of (at (values (s c))) (n (s c))) (n (s c))) (pos 0) _
-            (s c).args.locals.now (i (s c)) (omega (arith, inside (s c), (owned c).count)) (own_is c) (owned c).numerators;
+            stored (local_of (pair_at a.weights.now a.n) (deviation_of (at a.values.now) a.n) a.n) (pos 0) _ a.locals.now a.i
+            (omega (arith, c.requires.i_lt_n, c.requires.owned.count)) own_is c.requires.owned.numerators;
       };
     }

@@ -1,5 +1,4 @@
 use mathlib.Core.Path.{◌≡◌}
-use Prim.Native.Nat.{◌-◌, ◌≤◌}
 use Rattle.whole.specs.Sum.{sum}
 use Rattle.account.specs.Classes.{zones_class_local}
 use Rattle.account.specs.Steps.{Zoned}
@@ -8,9 +7,5 @@ use Rattle.account.proofs.classes.add_zone.Given as goal
 
 abbrev pub invariant-loop-k : goal.invariant-loop-k
 invariant-loop-k l =
-    (l.k ≤ 9)
-    × (Zoned l.n l.values l.weights l.classes (zones_in l.i l.k) l.rows l.class_locals
-    × (l.own ≡ sum (λ q. zones_class_local l.n l.values l.weights l.classes q l.i) l.k))
-
-abbrev pub decreases-loop-k : goal.decreases-loop-k
-decreases-loop-k l = 9 - l.k
+    Zoned l.n l.values l.weights l.classes (zones_in l.i l.k) l.rows l.class_locals
+    × (l.own ≡ sum (λ q. zones_class_local l.n l.values l.weights l.classes q l.i) l.k)

@@ -1,12 +1,8 @@
 use mathlib.Core.Path.{◌≡◌}
-use Prim.Native.Nat.{ℕ, ◌-◌, ◌≤◌, ◌<◌}
-use lib.ListN.{length}
+use Prim.Native.Nat.{ℕ, ◌<◌}
 use Rattle.whole.specs.Table.{at}
 use Rattle.account.specs.Measures.{deviation_of}
 use Rattle.account.proofs.deviations.deviations.Given as goal
 
 abbrev pub invariant-loop-i : goal.invariant-loop-i
-invariant-loop-i l = (l.i ≤ l.n) × ((length l.d ≡ l.n) × ((k : ℕ) → k < l.i → at l.d k ≡ deviation_of (at l.values) l.n k))
-
-abbrev pub decreases-loop-i : goal.decreases-loop-i
-decreases-loop-i l = l.n - l.i
+invariant-loop-i l = (k : ℕ) → k < l.i → at l.d k ≡ deviation_of (at l.values) l.n k

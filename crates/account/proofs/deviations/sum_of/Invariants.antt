@@ -1,11 +1,7 @@
 use mathlib.Core.Path.{◌≡◌}
-use Prim.Native.Nat.{◌-◌, ◌≤◌}
 use Rattle.whole.specs.Sum.{sum}
 use Rattle.whole.specs.Table.{at}
 use Rattle.account.proofs.deviations.sum_of.Given as goal
 
-abbrev pub invariant-loop-i : goal.invariant-loop-i
-invariant-loop-i l = (l.i ≤ l.n) × (l.acc ≡ sum (at l.locals) l.i)
-
-abbrev pub decreases-loop-i : goal.decreases-loop-i
-decreases-loop-i l = l.n - l.i
+abbrev pub invariant-loop-local : goal.invariant-loop-local
+invariant-loop-local l = l.acc ≡ sum (at l.locals) l.local-index

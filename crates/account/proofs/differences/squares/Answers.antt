@@ -18,19 +18,18 @@ use Rattle.account.proofs.differences.squares.Goals.{After-row_squares-acc}
 -- a turn adds one row more
 turn :
     (c : After-row_squares-acc) →
-    let b = c in
-    let a = b.args in
+    let a = c.args in
     let x = at a.values.now in
-    Is (to_z w64 b.loop-i.acc-bits +ℤ r64 c.row_squares-acc.result)
-    (sum (λ i. row_of (pair_at a.weights.now a.n) (λ i j. square (x i -ℤ x j)) i a.n) (b.loop-i.i + 1)) 1474560000000000
+    Is (to_z w64 c.loop-i.acc-bits +ℤ r64 c.row_squares-acc.result)
+    (sum (λ i. row_of (pair_at a.weights.now a.n) (λ i j. square (x i -ℤ x j)) i a.n) (c.loop-i.i + 1)) 1474560000000000
 unfolding row_of
 turn c =
     let run = row_squares_run _ _ _ c.requires c.loop-i.i (omega arith) in
-    running_more (squares_run _ _ _ c.requires) c.loop-i.i (to_z w64 c.loop-i.acc-bits) (omega arith) c.loop-i.invariant.1
+    running_more (squares_run _ _ _ c.requires) c.loop-i.i (to_z w64 c.loop-i.acc-bits) (omega arith) c.loop-i.invariant
     (rd w64 (told _ 23040000000000 c.row_squares-acc.ensures (run.bound c.args.n (N.le_refl c.args.n))) tt)
 
 pub loop-i-init : goal.loop-i-init
-loop-i-init c = (omega arith, running_none _)
+loop-i-init c = running_none _
 
 pub row_squares-acc-requires : goal.row_squares-acc-requires
 row_squares-acc-requires c = record { job = c.requires; i_lt_n = omega arith }
@@ -38,16 +37,9 @@ row_squares-acc-requires c = record { job = c.requires; i_lt_n = omega arith }
 pub overflow_add-acc : goal.overflow_add-acc
 overflow_add-acc c = fit w64 (turn c) tt
 
-pub overflow_add-i : goal.overflow_add-i
-overflow_add-i c = omega arith
-
-pub loop-i-smaller : goal.loop-i-smaller
-loop-i-smaller c = omega arith
-
 pub loop-i-preserved : goal.loop-i-preserved
-loop-i-preserved c = (omega arith, (rd w64 (turn c) tt).same)
+loop-i-preserved c = (rd w64 (turn c) tt).same
 
 pub returns : goal.returns
 unfolding squares_of pairs_of
-returns c =
-    running_done _ _ c.loop-i.i (to_z w64 c.loop-i.acc-bits) (omega arith) c.loop-i.invariant.1
+returns c = running_done _ _ c.loop-i.i (to_z w64 c.loop-i.acc-bits) (omega arith) c.loop-i.invariant

@@ -1,5 +1,4 @@
 use mathlib.Core.Path.{◌≡◌}
-use Prim.Native.Nat.{◌-◌, ◌≤◌}
 use lib.IntN.{◌-ℤ◌}
 use Rattle.whole.specs.Integer.{square}
 use Rattle.whole.specs.Sum.{sum}
@@ -9,7 +8,4 @@ use Rattle.account.proofs.differences.squares.Given as goal
 
 abbrev pub invariant-loop-i : goal.invariant-loop-i
 invariant-loop-i l =
-    (l.i ≤ l.n) × (l.acc ≡ sum (λ i'. row_of (pair_at l.weights l.n) (λ i' j. square (at l.values i' -ℤ at l.values j)) i' l.n) l.i)
-
-abbrev pub decreases-loop-i : goal.decreases-loop-i
-decreases-loop-i l = l.n - l.i
+    l.acc ≡ sum (λ i'. row_of (pair_at l.weights l.n) (λ i' j. square (at l.values i' -ℤ at l.values j)) i' l.n) l.i

@@ -1,5 +1,5 @@
 use mathlib.Core.Path.{◌≡◌}
-use Prim.Native.Nat.{◌*◌, ◌-◌, ◌≤◌}
+use Prim.Native.Nat.{◌*◌}
 use lib.ListN.{length, get_or, take}
 use Rattle.whole.specs.Table.{table_rows}
 use Rattle.account.specs.Steps.{gathered_pair}
@@ -7,9 +7,4 @@ use Rattle.account.proofs.keeping.gather_pairs.Given as goal
 
 abbrev pub invariant-loop-k : goal.invariant-loop-k
 invariant-loop-k l =
-    (l.k ≤ length l.zones)
-    × ((length l.out ≡ length l.zones * length l.zones)
-    × (take (l.k * length l.zones) l.out ≡ table_rows (λ k'. gathered_pair l.n l.pairs l.zones (get_or l.zones k' 0)) l.k (length l.zones)))
-
-abbrev pub decreases-loop-k : goal.decreases-loop-k
-decreases-loop-k l = length l.zones - l.k
+    take (l.k * length l.zones) l.out ≡ table_rows (λ k'. gathered_pair l.n l.pairs l.zones (get_or l.zones k' 0)) l.k (length l.zones)

@@ -1,13 +1,9 @@
 use mathlib.Core.Path.{◌≡◌}
-use Prim.Native.Nat.{ℕ, ◌-◌, ◌≤◌, ◌<◌}
-use lib.ListN.{length, get_or}
+use Prim.Native.Nat.{ℕ, ◌<◌}
+use lib.ListN.{get_or}
 use Rattle.account.specs.Steps.{gathered_pair}
 use Rattle.account.proofs.keeping.gather_row.Given as goal
 
 abbrev pub invariant-loop-k : goal.invariant-loop-k
 invariant-loop-k l =
-    (l.k ≤ length l.zones)
-    × ((length l.out ≡ length l.zones) × ((q : ℕ) → q < l.k → get_or l.out q 0 ≡ gathered_pair l.n l.pairs l.zones l.zone q))
-
-abbrev pub decreases-loop-k : goal.decreases-loop-k
-decreases-loop-k l = length l.zones - l.k
+    (q : ℕ) → q < l.k → get_or l.out q 0 ≡ gathered_pair l.n l.pairs l.zones l.zone q

@@ -1,140 +1,91 @@
 -- `keep_row` meets its contract. The loop's invariant: of the numbers passed, the k that have a place are written by it.
 -- Assumes nothing.
-use mathlib.Core.Path.{◌≡◌, refl}
-use mathlib.Core.Bool.{false}
-use mathlib.Core.List.{List}
-use Prim.Native.Nat.{ℕ, ◌+◌, ◌*◌, ◌≤◌, ◌<◌}
+use mathlib.Core.Path.{◌≡◌, refl, ap, ◌∙◌}
+use Prim.Native.Nat.{ℕ, ◌<◌}
 use native.Mathlib.Omega.{arith}
-use lib.Dec.{ltb}
-use lib.ListN.{length, get_or}
-use Rattle.whole.specs.Order.{lacks}
-use Rattle.whole.specs.Search.{count}
+use lib.ListN.{length, get_or, set}
 use Rattle.whole.specs.Table.{pair_at}
 use Rattle.whole.proofs.Permutation.{full}
-use Rattle.shuffles.proofs.ShuffleList.{row_end}
 use Rattle.account.proofs.Placing.{taken_none, taken_few, taken_room, taken_yes, taken_no, taken_all}
+use Rattle.account.proofs.Rows.{row_length, row_at}
 use Rattle.account.proofs.keeping.keep_row.Goals as goal
-use Rattle.account.proofs.keeping.keep_row.Goals.{then-place-out, else-place-out}
-use Rattle.account.proofs.keeping.keep_row.Goals.{At-loop-p, In-loop-p, Start}
+use Rattle.account.proofs.keeping.keep_row.Goals.{then-from-out, else-from-out, After-from, After-from-in-loop-zone}
 
--- the row, and what is known of it
-module _ (b : At-loop-p) where
-  abbrev start : Start
-  start = ((goal.at.At-loop-p b).Start)
-
-  abbrev n : ℕ
-  n = start.args.n
+-- the zone at hand
+module _ (c : After-from) where
+  abbrev p : ℕ
+  p = c.loop-zone.zone-index
 
   abbrev row : ℕ → ℕ
-  row = pair_at start.args.shuffles.now n start.args.r
+  row = pair_at c.args.shuffles.now c.args.n c.args.r
 
-  abbrev places : List ℕ
-  places = start.args.places.now
+  before : p < c.args.n
+  before = omega (arith, row_length c.args.shuffles.now c.args.n c.args.r c.requires.shuffle.row.there)
 
-  abbrev many : ℕ
-  many = length start.args.out.now
-
-  abbrev all : lacks row n ≡ false
-  all = start.requires.shuffle.full
-
-  abbrev fits : count (λ i. ltb (get_or places i 0) many) n ≡ many
-  fits = start.requires.n_value
-
-  -- no more are written than are numbers
-  few : b.loop-p.k ≤ n
-  few = let l = b.loop-p in omega (arith, l.invariant.passed, taken_few places many n row l.p l.k l.out l.invariant)
-
--- the number at hand
-module _ (c : In-loop-p) where
-  abbrev here : At-loop-p
-  here = ((goal.at.In-loop-p c).At-loop-p)
-
-  abbrev zone : ℕ
-  zone = get_or (start here).args.shuffles.now ((start here).args.r * n here + here.loop-p.p) 0
-
-  -- it is a zone
-  zone_below : zone < n here
+  named : c.from.result ≡ row p
   unfolding pair_at
-  zone_below = (full (row here) (n here) (all here)).into here.loop-p.p c.loop-p-test.true
+  named = c.from.ensures ∙ row_at c.args.shuffles.now c.args.n c.args.r c.requires.shuffle.row.there p 0 before
 
-  -- where it has a place, that can be written
-  room : get_or (places here) zone 0 < length here.loop-p.out → here.loop-p.k < length here.loop-p.out
-  unfolding pair_at
+  -- is a zone
+  below : row p < c.args.n
+  below = (full row c.args.n c.requires.shuffle.full).into p before
+
+-- and where its place is one, that can be written
+module _ (c : After-from-in-loop-zone) where
+  abbrev f : After-from
+  f = ((goal.at.After-from-in-loop-zone c).After-from)
+
+  place : c.from-in-loop-zone.result ≡ get_or c.args.places.now (row f (p f)) 0
+  place = c.from-in-loop-zone.ensures ∙ ap (λ z. get_or c.args.places.now z 0) (named f)
+
+  room : c.from-in-loop-zone.result < length c.loop-zone.out → c.loop-zone.k < length c.loop-zone.out
   room h =
-      let l = here.loop-p in
-      let below =
-      taken_room (places here) (many here) (n here) (row here) (all here) (fits here) l.p l.k l.out l.invariant
-      c.loop-p-test.true (omega (arith, h, l.invariant.long)) in
-      omega (arith, below, l.invariant.long)
+      let l = c.loop-zone in
+      let fits =
+      taken_room c.args.places.now (length c.args.out.now) c.args.n (row f) c.requires.shuffle.full c.requires.n_value (p f) l.k l.out
+      l.invariant (before f) (omega (arith, place)) in
+      omega (arith, fits)
 
-pub overflow_mul-row : goal.overflow_mul-row
-overflow_mul-row c = omega (arith, row_end c.requires.shuffle.row)
+pub loop-zone-init : goal.loop-zone-init
+loop-zone-init c = taken_none _ _ _ _ c.args.out.now refl
 
-pub loop-p-init : goal.loop-p-init
-loop-p-init c = taken_none _ _ _ _ c.args.out.now refl
-
-pub overflow_add-zone : goal.overflow_add-zone
-overflow_add-zone c = omega (arith, c.loop-p-test.true, row_end (start ((goal.at.overflow_add-zone c).At-loop-p)).requires.shuffle.row)
-
-pub bounds-shuffles-row : goal.bounds-shuffles-row
-bounds-shuffles-row c = omega (arith, c.loop-p-test.true, (start ((goal.at.bounds-shuffles-row c).At-loop-p)).requires.shuffle.row.there)
-
-pub overflow_cast-zone : goal.overflow_cast-zone
-overflow_cast-zone c = omega (
-  arith,
-  zone_below ((goal.at.overflow_cast-zone c).In-loop-p),
-  (start ((goal.at.overflow_cast-zone
-      c).At-loop-p)).requires.shuffle.row.zones,
-)
-
-pub bounds-places-zone : goal.bounds-places-zone
-bounds-places-zone c = omega (
-  arith,
-  zone_below ((goal.at.bounds-places-zone c).In-loop-p),
-  (start ((goal.at.bounds-places-zone
-      c).At-loop-p)).requires.places_len,
-)
-
-pub overflow_cast-place : goal.overflow_cast-place
-overflow_cast-place c = omega (arith, c.shared_slice_known-in-loop-p-1.given (zone ((goal.at.overflow_cast-place c).In-loop-p)))
+pub bounds-places-from : goal.bounds-places-from
+bounds-places-from c =
+    let f = (goal.at.bounds-places-from c).After-from in
+    omega (arith, named f, below f, c.requires.places_len)
 
 pub bounds-out-k : goal.bounds-out-k
-bounds-out-k c = room ((goal.at.bounds-out-k c).In-loop-p) c.if-place-out.true
+bounds-out-k c = room ((goal.at.bounds-out-k c).After-from-in-loop-zone) c.if-from-out.true
 
 pub overflow_add-k : goal.overflow_add-k
 overflow_add-k c =
-    let at_loop_p = (goal.at.overflow_add-k c).At-loop-p in
-    omega (arith, few at_loop_p, (start at_loop_p).requires.shuffle.row.zones)
+    let l = c.loop-zone in
+    omega (arith, taken_few _ _ _ _ l.zone-index l.k l.out l.invariant, l.invariant.passed, c.requires.shuffle.row.zones)
 
-pub overflow_add-p : goal.overflow_add-p
-overflow_add-p c = omega (arith, c.loop-p-test.true, (start ((goal.at.overflow_add-p c).At-loop-p)).requires.shuffle.row.zones)
-
-pub loop-p-smaller : goal.loop-p-smaller
-loop-p-smaller c = omega (arith, c.loop-p-test.true)
-
-pub loop-p-preserved : goal.loop-p-preserved
-unfolding pair_at
-loop-p-preserved c =
-    let at_loop_p = (goal.at.loop-p-preserved c).At-loop-p in
-    let l = c.loop-p in
-    let h = c.loop-p-test.true in
-    let j = c.if-place-out.k in
-    let new = c.if-place-out.out in
-    let with_place = taken_yes (places at_loop_p) (many at_loop_p) (n at_loop_p) (row at_loop_p) (all at_loop_p) (fits at_loop_p) l.p l.k
-    l.out l.invariant h j new in
-    let without = taken_no (places at_loop_p) (many at_loop_p) (n at_loop_p) (row at_loop_p) (all at_loop_p) (fits at_loop_p) l.p l.k
-    l.out l.invariant h j new in
-    elim c.if-place-out.branch [
-      | then-place-out w ↦ with_place (omega (arith, w.if-place-out.true, l.invariant.long)) w.out-is w.k-is
-      | else-place-out w ↦ without (omega (arith, w.if-place-out.false, l.invariant.long)) w.out-is w.k-is
+pub loop-zone-preserved : goal.loop-zone-preserved
+loop-zone-preserved c =
+    let g = (goal.at.loop-zone-preserved c).After-from-in-loop-zone in
+    let f = (goal.at.loop-zone-preserved c).After-from in
+    let l = c.loop-zone in
+    let a = c.args in
+    let j = c.if-from-out.k in
+    let new = c.if-from-out.out in
+    let with_place =
+    taken_yes a.places.now (length a.out.now) a.n (row f) c.requires.shuffle.full c.requires.n_value (p f) l.k l.out l.invariant (before f) j
+    new in
+    let without =
+    taken_no a.places.now (length a.out.now) a.n (row f) c.requires.shuffle.full c.requires.n_value (p f) l.k l.out l.invariant (before f) j
+    new in
+    elim c.if-from-out.branch [
+      | then-from-out w ↦
+          with_place (omega (arith, w.if-from-out.true, place g))
+          (w.out-is ∙ ap (λ z. set l.out l.k (get_or a.places.now z 0)) (named f)) w.k-is
+      | else-from-out w ↦ without (omega (arith, w.if-from-out.false, place g)) w.out-is w.k-is
     ]
-
-pub shape_of-out : goal.shape_of-out
-shape_of-out c = c.loop-p.invariant.long
 
 pub returns : goal.returns
 returns c =
-    let at_loop_p = (goal.at.returns c).At-loop-p in
-    let l = c.loop-p in
-    taken_all (places at_loop_p) (many at_loop_p) (n at_loop_p) (row at_loop_p) (all at_loop_p) (fits at_loop_p) l.p l.k l.out l.invariant
-    c.loop-p-test.false
+    let l = c.loop-zone in
+    let a = c.args in
+    taken_all a.places.now (length a.out.now) a.n (pair_at a.shuffles.now a.n a.r) c.requires.shuffle.full c.requires.n_value l.zone-index
+    l.k l.out l.invariant (omega (arith, row_length a.shuffles.now a.n a.r c.requires.shuffle.row.there))

@@ -1,15 +1,10 @@
 use mathlib.Core.Path.{◌≡◌}
-use Prim.Native.Nat.{◌*◌, ◌-◌, ◌≤◌}
-use lib.ListN.{length, take}
+use Prim.Native.Nat.{◌*◌}
+use lib.ListN.{take}
 use Rattle.whole.specs.Table.{table_rows, pair_at}
 use Rattle.account.specs.Steps.{placed_number}
 use Rattle.account.proofs.keeping.keep_rows.Given as goal
 
 abbrev pub invariant-loop-r : goal.invariant-loop-r
 invariant-loop-r l =
-    (l.r ≤ l.rows)
-    × ((length l.out ≡ l.rows * l.many)
-    × (take (l.r * l.many) l.out ≡ table_rows (λ r'. placed_number l.places l.many l.n (pair_at l.shuffles l.n r')) l.r l.many))
-
-abbrev pub decreases-loop-r : goal.decreases-loop-r
-decreases-loop-r l = l.rows - l.r
+    take (l.r * l.many) l.out ≡ table_rows (λ r'. placed_number l.places l.many l.n (pair_at l.shuffles l.n r')) l.r l.many

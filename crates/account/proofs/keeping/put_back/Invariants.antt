@@ -1,5 +1,5 @@
 use mathlib.Core.Path.{◌≡◌}
-use Prim.Native.Nat.{ℕ, ◌-◌, ◌≤◌, ◌<◌}
+use Prim.Native.Nat.{ℕ, ◌<◌}
 use lib.ListN.{length}
 use Rattle.whole.specs.Table.{at}
 use Rattle.account.specs.Steps.{at_place}
@@ -7,8 +7,4 @@ use Rattle.account.proofs.keeping.put_back.Given as goal
 
 abbrev pub invariant-loop-i : goal.invariant-loop-i
 invariant-loop-i l =
-    (l.i ≤ length l.places)
-    × ((length l.out ≡ length l.places) × ((k : ℕ) → k < l.i → at l.out k ≡ at_place l.places (length l.numbers) (at l.numbers) k))
-
-abbrev pub decreases-loop-i : goal.decreases-loop-i
-decreases-loop-i l = length l.places - l.i
+    (k : ℕ) → k < l.i → at l.out k ≡ at_place l.places (length l.numbers) (at l.numbers) k

@@ -1,5 +1,5 @@
 use mathlib.Core.Path.{◌≡◌}
-use Prim.Native.Nat.{◌+◌, ◌*◌, ◌-◌, ◌≤◌}
+use Prim.Native.Nat.{◌+◌, ◌*◌}
 use lib.ListN.{length, take}
 use Rattle.whole.specs.Table.{table_rows, at}
 use Rattle.account.specs.Steps.{at_place}
@@ -7,10 +7,5 @@ use Rattle.account.proofs.keeping.put_back_rows.Given as goal
 
 abbrev pub invariant-loop-k : goal.invariant-loop-k
 invariant-loop-k l =
-    (l.k ≤ 9)
-    × ((length l.out ≡ 9 * length l.places)
-    × (take (l.k * length l.places) l.out
-    ≡ table_rows (λ k'. at_place l.places l.many (λ a. at l.numbers (k' * l.many + a))) l.k (length l.places)))
-
-abbrev pub decreases-loop-k : goal.decreases-loop-k
-decreases-loop-k l = 9 - l.k
+    take (l.k * length l.places) l.out
+    ≡ table_rows (λ k'. at_place l.places l.many (λ a. at l.numbers (k' * l.many + a))) l.k (length l.places)

@@ -1,12 +1,8 @@
 use mathlib.Core.Path.{◌≡◌}
-use Prim.Native.Nat.{◌-◌, ◌≤◌}
 use Rattle.whole.specs.Sum.{sum}
 use Rattle.whole.specs.Table.{at, pair_at}
 use Rattle.account.specs.Measures.{local_of}
 use Rattle.account.proofs.ranking.cross_sum.Given as goal
 
 abbrev pub invariant-loop-i : goal.invariant-loop-i
-invariant-loop-i l = (l.i ≤ l.n) × (l.acc ≡ sum (local_of (pair_at l.weights l.n) (at l.d) l.n) l.i)
-
-abbrev pub decreases-loop-i : goal.decreases-loop-i
-decreases-loop-i l = l.n - l.i
+invariant-loop-i l = l.acc ≡ sum (local_of (pair_at l.weights l.n) (at l.d) l.n) l.i

@@ -1,81 +1,45 @@
 -- `shuffle_deviations` meets its contract. The loop's invariant: each element passed is the deviation of the zone named there.
 -- Assumes nothing.
-use Prim.Native.Nat.{◌+◌, ◌*◌, ◌<◌}
+use mathlib.Core.Path.{◌≡◌, ap, ◌∙◌}
+use Prim.Native.Nat.{ℕ, ◌<◌}
 use native.Mathlib.Omega.{arith}
 use lib.IntN.{pos}
-use lib.ListN.{get_or, length-set}
 use mir.Syntax.{w64}
 use mir.ValLaws.{to_z-of_z}
 use Rattle.whole.specs.Table.{at, pair_at}
 use Rattle.whole.proofs.Permutation.{full}
 use Rattle.whole.proofs.Table.{is_table, stored}
-use Rattle.shuffles.proofs.ShuffleList.{row_end}
+use Rattle.account.proofs.Rows.{row_length, row_at}
 use Rattle.account.proofs.shuffling.shuffle_deviations.Goals as goal
-use Rattle.account.proofs.shuffling.shuffle_deviations.Goals.{After-shared_slice_known-1}
+use Rattle.account.proofs.shuffling.shuffle_deviations.Goals.{After-from-zone}
 
--- the zone that is named is one
-zone_below :
-    (c : After-shared_slice_known-1) →
-    let b = c in
-    let a = b.args in
-    get_or a.shuffles.now (a.r * a.n + b.loop-i.i) 0 < a.n
-unfolding pair_at
-zone_below c =
-    let row = pair_at c.args.shuffles.now c.args.n c.args.r in
-    (full row c.args.n c.requires.shuffle.full).into c.loop-i.i c.loop-i-test.true
+module _ (c : After-from-zone) where
+  abbrev row : ℕ → ℕ
+  row = pair_at c.args.shuffles.now c.args.n c.args.r
 
-pub overflow_mul-row : goal.overflow_mul-row
-overflow_mul-row c = omega (arith, row_end c.requires.shuffle.row)
+  before : c.loop-i.i < c.args.n
+  before = omega (arith, row_length c.args.shuffles.now c.args.n c.args.r c.requires.shuffle.row.there)
 
-pub loop-i-init : goal.loop-i-init
-loop-i-init c = (omega arith, (c.requires.moved_len, λ k p. let z : ⊥ = omega arith in absurd z))
+  -- the zone that is named, which is one
+  named : c.from-zone.result ≡ row c.loop-i.i
+  unfolding pair_at
+  named = c.from-zone.ensures ∙ row_at c.args.shuffles.now c.args.n c.args.r c.requires.shuffle.row.there c.loop-i.i 0 before
 
-pub overflow_add-zone : goal.overflow_add-zone
-overflow_add-zone c = omega (arith, row_end c.requires.shuffle.row)
-
-pub bounds-shuffles-row : goal.bounds-shuffles-row
-bounds-shuffles-row c = omega (arith, c.requires.shuffle.row.there)
-
-pub overflow_cast-zone : goal.overflow_cast-zone
-overflow_cast-zone c = omega (arith, zone_below c, c.requires.shuffle.row.zones)
-
-pub offset_bounds-d-zone : goal.offset_bounds-d-zone
-offset_bounds-d-zone c = omega (arith, zone_below c, c.requires.shuffle.row.zones)
+  below : row c.loop-i.i < c.args.n
+  below = (full row c.args.n c.requires.shuffle.full).into c.loop-i.i before
 
 pub bounds-d-zone : goal.bounds-d-zone
-bounds-d-zone c = omega (arith, zone_below c, c.requires.d_len)
-
-pub offset_bounds-moved-i : goal.offset_bounds-moved-i
-offset_bounds-moved-i c = omega (arith, zone_below ((goal.at.offset_bounds-moved-i c).After-shared_slice_known-1), c.requires.shuffle.row.zones)
-
-pub bounds-moved-i : goal.bounds-moved-i
-bounds-moved-i c = omega (arith, zone_below ((goal.at.bounds-moved-i c).After-shared_slice_known-1))
-
-pub overflow_add-i : goal.overflow_add-i
-overflow_add-i c = omega arith
-
-pub loop-i-smaller : goal.loop-i-smaller
-loop-i-smaller c = omega arith
+bounds-d-zone c = omega (arith, named c, below c, c.requires.d_len)
 
 pub loop-i-preserved : goal.loop-i-preserved
-unfolding pair_at
 loop-i-preserved c =
+    let f = (goal.at.loop-i-preserved c).After-from-zone in
     let a = c.args in
-    let inv = c.loop-i.invariant.1 in (
-      omega arith,
-      (
-        simp length-set inv.0,
-        stored (λ k. at a.d.now (pair_at a.shuffles.now a.n a.r k)) (pos 0) _ c.loop-i.moved c.loop-i.i (omega arith)
-            (to_z-of_z w64 _ (record { sfits = c.moved-1.given }))
-            inv.1,
-      ),
-    )
-
-pub shape_of-moved : goal.shape_of-moved
-shape_of-moved c = omega arith
+    stored (λ k. at a.d.now (pair_at a.shuffles.now a.n a.r k)) (pos 0) _ c.loop-i.moved c.loop-i.i (omega (arith, before f))
+    (to_z-of_z w64 _ (record { sfits = c.moved-1.given }) ∙ ap (at a.d.now) (named f)) c.loop-i.invariant
 
 pub returns : goal.returns
 returns c =
     let a = c.args in
-    is_table (λ k. at a.d.now (pair_at a.shuffles.now a.n a.r k)) a.n (pos 0) c.loop-i.moved c.loop-i.invariant.1.0
-    (λ k p. c.loop-i.invariant.1.1 k (omega arith))
+    is_table (λ k. at a.d.now (pair_at a.shuffles.now a.n a.r k)) a.n (pos 0) c.loop-i.moved (omega arith)
+    (λ k p. c.loop-i.invariant k (omega (arith, row_length a.shuffles.now a.n a.r c.requires.shuffle.row.there)))

@@ -1,12 +1,8 @@
 use mathlib.Core.Path.{◌≡◌}
-use Prim.Native.Nat.{ℕ, ◌-◌, ◌≤◌, ◌<◌}
-use lib.ListN.{length}
+use Prim.Native.Nat.{ℕ, ◌<◌}
 use Rattle.whole.specs.Table.{at, pair_at}
 use Rattle.account.proofs.shuffling.shuffle_deviations.Given as goal
 
 abbrev pub invariant-loop-i : goal.invariant-loop-i
 invariant-loop-i l =
-    (l.i ≤ l.n) × ((length l.moved ≡ l.n) × ((k : ℕ) → k < l.i → at l.moved k ≡ at l.d (pair_at l.shuffles l.n l.r k)))
-
-abbrev pub decreases-loop-i : goal.decreases-loop-i
-decreases-loop-i l = l.n - l.i
+    (k : ℕ) → k < l.i → at l.moved k ≡ at l.d (pair_at l.shuffles l.n l.r k)
