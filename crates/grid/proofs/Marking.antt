@@ -1,125 +1,82 @@
--- The marks of the zones that a kind of move leads to, step by step. Assumes nothing.
+-- The marks of the zones that a list of steps leads to, step by step. Assumes nothing.
 use mathlib.Core.Path.{◌≡◌, refl, sym, ap, ◌∙◌}
 use mathlib.Core.Bool.{Bool, true, false, cond, ◌||◌, or-false}
 use mathlib.Core.List.{List}
-use Prim.Native.Nat.{ℕ, ◌+◌, ◌*◌, ◌-◌, ◌≤◌, ◌<◌}
-use native.Mathlib.Nat as N
+use Prim.Native.Nat.{ℕ, ◌+◌, ◌<◌}
 use native.Mathlib.Decide.{ℕ_discrete}
 use native.Mathlib.Omega.{arith}
-use lib.ListN.{length, get_or, set, length-set}
+use lib.IntN.{pos}
+use lib.ListN.{length, get_or, set, length-set, replicate, length-replicate}
 use lib.Seq.{get_or-set_same, get_or-set_other}
+use Rattle.std.proofs.Common.{Option, Some, None, ◌↔◌}
+use Rattle.std.proofs.lemmas.List.{get_or-replicate}
 use Rattle.whole.specs.Search.{some}
 use Rattle.whole.specs.Table.{table}
 use Rattle.whole.proofs.Rules.{beside}
 use Rattle.whole.proofs.Search.{some_zero, some_next}
-use Rattle.whole.proofs.Table.{table_length, table_held, is_table}
+use Rattle.whole.proofs.Table.{is_table}
 use Rattle.grid.specs.Grid.{grid_weight}
-use Rattle.grid.specs.Moves.{steps_of, leads, any_leads}
-use Rattle.grid.specs.Steps.{step_at, first_of, end_of}
+use Rattle.grid.specs.Moves.{Step, steps_of, leads, any_leads}
 use Rattle.grid.specs.declared.Move.{Move}
-use Rattle.grid.specs.declared.Move.TheVariants.{Rook, Bishop, Queen}
-use Rattle.grid.proofs.Zones.{zone_within, Lands, leads_there, leads_only}
 
--- one of the m steps from `first` on leads from i to j
-abbrev pub led : ℕ → ℕ → ℕ → ℕ → ℕ → Bool
-led columns i first m j = some (λ t. leads columns i j (step_at (first + t))) m
-
--- a zone's mark: whether one does
+-- a zone's mark: whether a step leads there
 abbrev pub mark : Bool → ℕ
 mark b = cond b 1 0
 
--- the zones that the steps from `first` up to k lead to are marked
-pub record Marked (rows columns i first : ℕ) (marks : List ℕ) (k : ℕ) : Type 0 where
-  pub after : first ≤ k
-  pub fitting : length marks ≡ rows * columns
-  pub so_far : (j : ℕ) → j < rows * columns → get_or marks j 0 ≡ mark (led columns i first (k - first) j)
+module _ (columns i n : ℕ) (steps : List Step) where
+  abbrev step_at : ℕ → Step
+  step_at k = get_or steps k (pos 0, pos 0)
 
--- ---- before the first step
-none_led : (columns i first j : ℕ) → led columns i first (first - first) j ≡ false
-none_led columns i first j =
-    let e : first - first ≡ 0 = omega arith in
-    ap (λ m. led columns i first m j) e ∙ some_zero (λ t. leads columns i j (step_at (first + t)))
+  -- one of the first k steps leads from zone i to zone j
+  abbrev led : ℕ → ℕ → Bool
+  led k j = some (λ t. leads columns i j (step_at t)) k
 
-pub marked_none :
-    (rows columns i first : ℕ) (marks : List ℕ) → marks ≡ table (λ j. 0) (rows * columns) → Marked rows columns i first marks first
-marked_none rows columns i first marks e = record {
-  after = N.le_refl first;
-  fitting = ap length e ∙ table_length (λ j. 0) (rows * columns);
-  so_far = λ j h. table_held (λ t. 0) (rows * columns) 0 marks e j h ∙ sym (ap mark (none_led columns i first j));
-}
+  -- the zones that the first k steps lead to are marked
+  pub record Marked (marks : List ℕ) (k : ℕ) : Type 0 where
+    pub fitting : length marks ≡ n
+    pub so_far : (j : ℕ) → j < n → get_or marks j 0 ≡ mark (led k j)
 
--- ---- one step more
--- a test that cannot pass
-unless : (b : Bool) → (b ≡ true → ⊥) → b ≡ false
-unless true f = absurd (f refl)
-unless false f = refl
-
-module _
-    {rows columns i first k : ℕ} {marks : List ℕ} {r c : ℕ} (so : Marked rows columns i first marks k)
-    (lands : Lands rows columns i (step_at k) r c) where
-  -- an earlier step leads to j, and one of those up to this
-  abbrev earlier : ℕ → Bool
-  earlier j = led columns i first (k - first) j
-
-  abbrev by_now : ℕ → Bool
-  by_now j = led columns i first (k + 1 - first) j
-
-  led_next : (j : ℕ) → by_now j ≡ (earlier j || leads columns i j (step_at k))
-  led_next j =
-      let e : k + 1 - first ≡ k - first + 1 = omega (arith, so.after) in
-      let f : first + (k - first) ≡ k = omega (arith, so.after) in
-      ap (λ m. led columns i first m j) e
-      ∙ some_next (λ t. leads columns i j (step_at (first + t))) (k - first)
-      ∙ ap (λ t. earlier j || leads columns i j (step_at t)) f
-
-  -- the zone that it leads to is marked
-  there : r < rows → c < columns → mark (by_now (r * columns + c)) ≡ 1
-  there h l = ap mark (led_next (r * columns + c) ∙ beside (earlier (r * columns + c)) _ (leads_there lands h l))
-
-  -- one that it does not lead to keeps its mark
-  elsewhere : (j : ℕ) → j < rows * columns → (leads columns i j (step_at k) ≡ true → ⊥) → get_or marks j 0 ≡ mark (by_now j)
-  elsewhere j h f =
-      let e = ap (λ b. earlier j || b) (unless (leads columns i j (step_at k)) f) ∙ or-false (earlier j) in
-      so.so_far j h ∙ sym (ap mark (led_next j ∙ e))
-
-  -- a step into the grid
-  pub marked_there : r < rows → c < columns → Marked rows columns i first (set marks (r * columns + c) 1) (k + 1)
-  marked_there h l = record {
-    after = omega (arith, so.after);
-    fitting = simp length-set so.fitting;
-    so_far = λ j p. pick j p (ℕ_discrete j (r * columns + c));
+  -- ---- before the first step
+  pub marked_none : (m : ℕ) (marks : List ℕ) → m ≡ n → marks ≡ replicate m 0 → Marked marks 0
+  marked_none m marks e f = record {
+    fitting = ap length f ∙ length-replicate m 0 ∙ e;
+    so_far = λ j h.
+        ap (λ l. get_or l j 0) f ∙ get_or-replicate m j 0 0 (omega arith) ∙ sym (ap mark (some_zero (λ t. leads columns i j (step_at t))));
   }
-    where
-      pick :
-          (j : ℕ) → j < rows * columns → Dec (j ≡ r * columns + c) →
-          get_or (set marks (r * columns + c) 1) j 0 ≡ mark (by_now j)
-      pick j p (yes e) =
-          let q = zone_within columns r c l rows h in
-          rw e (get_or-set_same marks (r * columns + c) 1 0 (omega (arith, so.fitting)) ∙ sym (there h l))
-      pick j p (no e) =
-          get_or-set_other marks (r * columns + c) j 1 0 e ∙ elsewhere j p (λ f. e (leads_only lands j p f).2)
 
-  -- a step out of it
-  pub marked_out : (r < rows → c < columns → ⊥) → Marked rows columns i first marks (k + 1)
-  marked_out f = record {
-    after = omega (arith, so.after);
-    fitting = so.fitting;
-    so_far = λ j p. elsewhere j p (λ e. let o = leads_only lands j p e in f o.0 o.1);
-  }
+  -- ---- one step more, which leads to a zone or out of the grid
+  module _
+      (k : ℕ) (marks : List ℕ) (to : Option ℕ) (so : Marked marks k)
+      (only : (j : ℕ) → j < n → (leads columns i j (step_at k) ≡ true) ↔ (to ≡ Some j)) where
+    led_next : (j : ℕ) → led (k + 1) j ≡ (led k j || leads columns i j (step_at k))
+    led_next j = some_next (λ t. leads columns i j (step_at t)) k
+
+    -- a zone that it does not lead to keeps its mark
+    elsewhere : (j : ℕ) → j < n → (to ≡ Some j → ⊥) → get_or marks j 0 ≡ mark (led (k + 1) j)
+    elsewhere j h f = so.so_far j h ∙ sym (ap mark (led_next j ∙ go (leads columns i j (step_at k)) refl))
+      where
+        go : (b : Bool) → leads columns i j (step_at k) ≡ b → (led k j || b) ≡ led k j
+        go true e = absurd (f ((only j h).0 e))
+        go false e = or-false (led k j)
+
+    -- and the zone that it leads to is marked
+    pub marked_there : (j : ℕ) → to ≡ Some j → j < n → Marked (set marks j 1) (k + 1)
+    marked_there j e h = record { fitting = length-set marks j 1 ∙ so.fitting; so_far = λ t p. pick t p (ℕ_discrete t j) }
+      where
+        pick : (t : ℕ) → t < n → Dec (t ≡ j) → get_or (set marks j 1) t 0 ≡ mark (led (k + 1) t)
+        pick t p (yes q) =
+            rw q
+            (get_or-set_same marks j 1 0 (omega (arith, so.fitting))
+            ∙ sym (ap mark (led_next j ∙ beside (led k j) _ ((only j h).1 e))))
+        pick t p (no q) = get_or-set_other marks j t 1 0 q ∙ elsewhere t p (λ f. let g : j ≡ t = cc in q (sym g))
+
+    pub marked_out : to ≡ None → Marked marks (k + 1)
+    marked_out e = record { fitting = so.fitting; so_far = λ j p. elsewhere j p (λ f. cc) }
 
 -- ---- after the last step of a kind
-kind_led :
-    (kind : Move) (columns i j : ℕ) →
-    led columns i (first_of kind) (end_of kind - first_of kind) j ≡ any_leads columns i j (steps_of kind)
-unfolding any_leads some
-kind_led Rook columns i j = refl
-kind_led Bishop columns i j = refl
-kind_led Queen columns i j = refl
-
 pub marked_done :
-    (kind : Move) {rows columns i first k : ℕ} {marks : List ℕ} → first ≡ first_of kind → k ≡ end_of kind →
-    Marked rows columns i first marks k → marks ≡ table (grid_weight kind columns i) (rows * columns)
-unfolding grid_weight
-marked_done kind {rows} {columns} {i} {first} {k} {marks} e f so =
-    is_table (grid_weight kind columns i) (rows * columns) 0 marks so.fitting
-    (λ j h. so.so_far j h ∙ rw (e, f, kind_led kind columns i j) refl)
+    (kind : Move) {columns i n : ℕ} {steps : List Step} {marks : List ℕ} {k : ℕ} → steps ≡ steps_of kind → k ≡ length steps →
+    Marked columns i n steps marks k → marks ≡ table (grid_weight kind columns i) n
+unfolding grid_weight any_leads
+marked_done kind {columns} {i} {n} {steps} {marks} {k} e f so =
+    is_table (grid_weight kind columns i) n 0 marks so.fitting (λ j h. so.so_far j h ∙ rw (f, e) refl)

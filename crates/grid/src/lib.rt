@@ -7,6 +7,8 @@ mod walking;
 ghost use Rattle.std.specs.Prelude.{◌≡◌, length};
 ghost use Rattle.grid.specs.Grid.{grid_refusal, grid_left};
 
+use walking::Shape;
+
 // The kinds of move.
 #[derive(Clone, Copy)]
 pub enum Move {
@@ -25,6 +27,7 @@ pub fn grid(rows: usize, columns: usize, kind: Move, weights: &mut [u8]) -> u8
     if number != 0 {
         return number;
     }
-    walking::walk_cells(rows, columns, kind, weights);
+    let shape = Shape { rows, columns };
+    shape.walk_cells(kind, weights);
     0
 }

@@ -1,120 +1,89 @@
 // The moves from each cell of a grid that was judged and accepted.
-ghost use Rattle.std.specs.Prelude.{◌≡◌, ◌*◌, ◌<◌, ◌≤◌, pos, ◌+ℤ◌, length};
-ghost use Rattle.std.specs.Int.Signed.{mag};
-ghost use Rattle.whole.specs.Table.{table, at};
+ghost use Rattle.std.specs.Prelude.{◌≡◌, ◌↔◌, ℕ, ◌+◌, ◌*◌, ◌<◌, ◌≤◌, pos, ◌+ℤ◌, length, true, Some, IfSome};
+ghost use Rattle.whole.specs.Table.{table};
 ghost use Rattle.grid.specs.Grid.{grid_weight, grid_network};
-ghost use Rattle.grid.specs.Steps.{all_steps, numbers, first_of, end_of, landing};
+ghost use Rattle.grid.specs.Moves.{leads, steps_of};
+ghost use Rattle.grid.specs.Steps.{landing};
 
 use crate::Move;
 
 // Row step and column step of each move: the rook's four, then the bishop's four.
-const STEPS: [i64; 16] = [-1, 0, 1, 0, 0, -1, 0, 1, -1, -1, 1, 1, -1, 1, 1, -1];
+const STEPS: [(isize, isize); 8] = [
+    (-1, 0),
+    (1, 0),
+    (0, -1),
+    (0, 1),
+    (-1, -1),
+    (1, 1),
+    (-1, 1),
+    (1, -1),
+];
 
-// The number at a place of the table.
-fn number_at(place: usize) -> i64
-    requires { place < 16 }
-    ensures value { result ≡ at (numbers all_steps) place }
-    ensures result_bound { mag result < 2 }
-{
-    STEPS[place]
-}
-
-// The first move of a kind in the table.
-fn first_move(kind: Move) -> usize
-    ensures { result ≡ first_of kind }
+// The moves of a kind.
+fn steps(kind: Move) -> &'static [(isize, isize)]
+    ensures { result.now ≡ steps_of kind }
 {
     match kind {
-        Move::Rook => 0,
-        Move::Bishop => 4,
-        Move::Queen => 0,
+        Move::Rook => &STEPS[..4],
+        Move::Bishop => &STEPS[4..],
+        Move::Queen => &STEPS,
     }
 }
 
-// The place after its last.
-fn end_move(kind: Move) -> usize
-    ensures { result ≡ end_of kind }
-{
-    match kind {
-        Move::Rook => 4,
-        Move::Bishop => 8,
-        Move::Queen => 8,
-    }
-}
-
-// Where a step leads in a line of so many cells; the number of cells where it leads out of it.
-fn landing(at: usize, step: i64, cells: usize) -> usize
-    requires at_bound { at < 64 }
-    requires step_bound { mag step < 2 }
+// Where a step leads in a line of so many cells, if not out of it.
+fn landing(at: usize, step: isize, cells: usize) -> Option<usize>
     ensures { result ≡ landing cells (pos at +ℤ step) }
 {
-    let to = at as i64 + step;
-    if to < 0 {
-        return cells;
-    }
-    let cell = to as usize;
-    if cell < cells {
-        return cell;
-    }
-    cells
+    at.checked_add_signed(step).filter(|&cell| cell < cells)
 }
 
-// No cell is marked.
-fn clear(marks: &mut [u8])
-    ensures { marks.new ≡ table (λ j. 0) (length marks.old) }
-{
-    let mut j: usize = 0;
-    while j < marks.len() {
-        marks[j] = 0;
-        j += 1;
-    }
+// The rows and columns of a grid of at most 64 zones.
+#[derive(Clone, Copy)]
+pub(super) struct Shape {
+    pub(super) rows: usize,
+    pub(super) columns: usize,
+    ghost small: { rows * columns ≤ 64 },
 }
 
-// Marks the cells that the moves of a kind lead to from cell i.
-fn mark_moves(rows: usize, columns: usize, kind: Move, i: usize, marks: &mut [u8])
-    requires columns_bound { rows * columns ≤ 64 }
-    requires i_bound { i < rows * columns }
-    requires marks_value { marks.old ≡ table (λ j. 0) (rows * columns) }
-    ensures { marks.new ≡ table (grid_weight kind columns i) (rows * columns) }
-{
-    let row = i / columns;
-    let column = i % columns;
-    let end = end_move(kind);
-    let mut k = first_move(kind);
-    while k < end {
-        let r = landing(row, number_at(2 * k), rows);
-        let c = landing(column, number_at(2 * k + 1), columns);
-        if r < rows {
-            if c < columns {
-                marks[r * columns + c] = 1;
+impl Shape {
+    // The zone that a step from the cell of a row and a column leads to, if one of the grid.
+    fn target(self, row: usize, column: usize, step: (isize, isize)) -> Option<usize>
+        requires row_bound { row < self.rows }
+        requires column_bound { column < self.columns }
+        ensures within { IfSome result (λ j. j < self.rows * self.columns) }
+        ensures only { (j : ℕ) → j < self.rows * self.columns → ((leads self.columns (row * self.columns + column) j step ≡ true) ↔ (result ≡ Some j)) }
+    {
+        let to_row = landing(row, step.0, self.rows)?;
+        let to_column = landing(column, step.1, self.columns)?;
+        Some(to_row * self.columns + to_column)
+    }
+
+    // The row of weights of the zone of a row and a column: 1 where a move of the kind leads to.
+    fn mark_moves(self, kind: Move, row: usize, column: usize, marks: &mut [u8])
+        requires row_bound { row < self.rows }
+        requires column_bound { column < self.columns }
+        requires marks_len { length marks.old ≡ self.rows * self.columns }
+        ensures { marks.new ≡ table (grid_weight kind self.columns (row * self.columns + column)) (self.rows * self.columns) }
+    {
+        marks.fill(0);
+        for &step in steps(kind) {
+            if let Some(zone) = self.target(row, column, step) {
+                marks[zone] = 1;
             }
         }
-        k += 1;
     }
-}
 
-// The row of weights of cell i.
-fn fill_cell(rows: usize, columns: usize, kind: Move, i: usize, marks: &mut [u8])
-    requires columns_bound { rows * columns ≤ 64 }
-    requires i_bound { i < rows * columns }
-    requires marks_len { length marks.old ≡ rows * columns }
-    ensures { marks.new ≡ table (grid_weight kind columns i) (rows * columns) }
-{
-    clear(marks);
-    mark_moves(rows, columns, kind, i, marks);
-}
-
-// The rows of all cells.
-pub(super) fn walk_cells(rows: usize, columns: usize, kind: Move, weights: &mut [u8])
-    requires columns_bound { rows * columns ≤ 64 }
-    requires weights_len { length weights.old ≡ (rows * columns) * (rows * columns) }
-    ensures { weights.new ≡ grid_network rows columns kind }
-{
-    let n = rows * columns;
-    let mut i: usize = 0;
-    while i < n {
-        let first = i * n;
-        let end = first + n;
-        fill_cell(rows, columns, kind, i, &mut weights[first..end]);
-        i += 1;
+    // The rows of all zones, each found by its place: what parts of chunks_exact_mut hold afterwards, no proof knows.
+    pub(super) fn walk_cells(self, kind: Move, weights: &mut [u8])
+        requires weights_len { length weights.old ≡ (self.rows * self.columns) * (self.rows * self.columns) }
+        ensures { weights.new ≡ grid_network self.rows self.columns kind }
+    {
+        let zones = self.rows * self.columns;
+        for row in 0..self.rows {
+            for column in 0..self.columns {
+                let first = (row * self.columns + column) * zones;
+                self.mark_moves(kind, row, column, &mut weights[first..first + zones]);
+            }
+        }
     }
 }

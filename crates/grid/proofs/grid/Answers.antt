@@ -29,10 +29,11 @@ returns-then-number-ne0 c = let found = c.judge_grid-number.ensures in
       lent = sym (kept_when_refused _ _ _ (λ e. c.if-number-ne0.true (found ∙ e)));
     }
 
+pub invariant_of-shape : goal.invariant_of-shape
+invariant_of-shape c = record { small = (good ((goal.at.invariant_of-shape c).Else-number-ne0)).zones }
+
 pub walk_cells-requires : goal.walk_cells-requires
-walk_cells-requires c =
-    let t = (goal.at.walk_cells-requires c).Else-number-ne0 in
-    let g = good t in record { columns_bound = g.zones; weights_len = (fits _ _ [] g.fitting).0 }
+walk_cells-requires c = record { weights_len = (fits _ _ [] (good ((goal.at.walk_cells-requires c).Else-number-ne0)).fitting).0 }
 
 pub returns : goal.returns
 unfolding grid_left
