@@ -1,18 +1,18 @@
 -- What a call that is refused answers and leaves, and what one that is taken. Assumes nothing.
-use mathlib.Core.Path.{◌≡◌, sym, ◌∙◌}
+use mathlib.Core.Path.{◌≡◌, sym, ap, ◌∙◌}
 use mathlib.Core.Bool.{false}
 use mathlib.Core.List.{List, [], ◌∷◌}
 use Prim.Native.Nat.{ℕ}
 use Rattle.whole.specs.Rules.{first_broken, misfits}
 use Rattle.whole.proofs.Rules.{holds, first_here, kept_when_refused, worked_when_taken}
-use Rattle.image.specs.Image.{image_rules, image_refusal, job_of}
+use Rattle.image.specs.Image.{image_rules, job_of}
 use Rattle.image.specs.Reader.{Buffers, buffer_lengths, read_rules, read_refusal, counts_in, read_counts, filled, read_left}
 use Rattle.reader.specs.Answers.{six, number_of, counts_of}
-use Rattle.reader.specs.Steps.{Storable}
+use Rattle.reader.specs.Steps.{Refuses, LaidOut, job_in, sizes}
 use Rattle.reader.specs.declared.Counts.{Counts}
 use Rattle.reader.specs.declared.Answer.{Answer}
 use Rattle.reader.specs.declared.Answer.TheVariants.{Refused, Read}
-use Rattle.reader.specs.declared.judging.Layout.{Layout}
+use Rattle.reader.specs.declared.judging.Sections.{Sections}
 
 module _ (image : List ℕ) (lent : Buffers) where
   -- the three clauses of the call
@@ -38,31 +38,20 @@ module _ (image : List ℕ) (lent : Buffers) where
       pub fitting : misfits (buffer_lengths lent) ≡ false
       fitting = (holds (misfits (buffer_lengths lent)) 1 0 (sym e ∙ z)).0
 
-      by_image : read_refusal image lent ≡ image_refusal image
-      unfolding read_refusal read_rules image_refusal
+      by_image : read_refusal image lent ≡ first_broken (image_rules image)
+      unfolding read_refusal read_rules
       by_image = rw fitting
 
-      pub refused_by_image : (s : ℕ) → s ≡ image_refusal image → (s ≡ 0 → ⊥) → Answers (Refused s) lent
-      refused_by_image s q f = refused s (q ∙ sym by_image) f
+      pub refused_by_image : (s : ℕ) → Refuses (image_rules image) s → Answers (Refused s) lent
+      refused_by_image s f = refused s (f.0 ∙ sym by_image) f.1
 
       -- ---- a call that is taken
       pub taken :
-          (r : Layout) (counts : Counts) (left : Buffers) → Storable image r lent →
-          six counts ≡ r.values ∷ r.categories ∷ r.joins ∷ r.places ∷ r.bands ∷ r.shuffles ∷ [] →
-          left ≡ filled (job_of image) lent → Answers (Read counts) left
-      unfolding number_of counts_of read_counts read_left counts_in
-      taken r counts left s k l =
-          let none : read_refusal image lent ≡ 0 = by_image ∙ s.accepted in
-          let o = s.laid in
-          let counted : six counts ≡ counts_in image =
-          k
-          ∙ rw (
-            o.values.counted,
-            o.categories.counted,
-            o.joins.counted,
-            o.places.counted,
-            o.bands.counted,
-            o.shuffles.counted,
-          ) in
-          let answered = counted ∙ sym (worked_when_taken _ (counts_in image) [] none) in
-          (sym none, (answered, l ∙ sym (worked_when_taken _ (filled (job_of image) lent) lent none)))
+          (s : Sections) (counts : Counts) (left : Buffers) → first_broken (image_rules image) ≡ 0 → LaidOut image s → six counts ≡ sizes s →
+          left ≡ filled (job_in s) lent → Answers (Read counts) left
+      unfolding number_of counts_of read_counts read_left
+      taken s counts left sound o k l =
+          let none : read_refusal image lent ≡ 0 = by_image ∙ sound in
+          let answered = k ∙ o.counts ∙ sym (worked_when_taken _ (counts_in image) [] none) in
+          let job = ap (λ j. filled j lent) o.job in
+          (sym none, (answered, l ∙ job ∙ sym (worked_when_taken _ (filled (job_of image) lent) lent none)))

@@ -1,87 +1,191 @@
--- From section to section: what is known before a section, where it was judged and where it was passed. Assumes nothing.
+-- From section to section: what is left of an image's rules, and what six sections that break none hold. Assumes nothing.
 use mathlib.Core.Path.{◌≡◌, refl, sym, ap, ◌∙◌}
-use mathlib.Core.List.{List, [], ◌++◌}
-use Prim.Native.Nat.{ℕ, ◌+◌, ◌*◌, ◌≤◌}
+use mathlib.Core.Bool.{true, false}
+use mathlib.Core.List.{List, ◌++◌}
+use Prim.Native.Nat.{ℕ, ◌+◌, ◌*◌, ◌≤◌, ◌<◌}
 use native.Mathlib.Omega.{arith}
-use lib.ListN.{length, drop, length-drop}
-use lib.Seq.{drop-drop}
-use Rattle.whole.specs.Rules.{Rule, first_broken}
-use Rattle.whole.proofs.InTurn.{Numbered, numbered_both}
-use Rattle.image.specs.Image.{count, after}
-use Rattle.image.specs.Steps.{then}
-use Rattle.image.proofs.Then.{then_none, then_alike, then_after}
-use Rattle.reader.specs.Steps.{Passed, Found}
-use Rattle.reader.specs.declared.judging.Section.{Section}
+use borrow.Author.Tests.{lt-ltb, le-ltb}
+use lib.Dec.{ltb}
+use lib.ListN.{length, take, drop, length-drop}
+use lib.Seq.{length-take-le}
+use Rattle.whole.specs.Rules.{Rule, first_broken, in_turn, outside}
+use Rattle.whole.specs.Search.{any_beyond}
+use Rattle.whole.specs.Table.{table}
+use Rattle.whole.proofs.InTurn.{Numbered, second_decides, first_decides}
+use Rattle.whole.proofs.Rules.{holds, in_range}
+use Rattle.account.specs.Refusals.{sum_rules}
+use Rattle.image.specs.Joins.{weights_of, join_rules}
+use Rattle.image.specs.Image.{
+  count,
+  items,
+  signed_words,
+  words,
+  bytes,
+  values_in,
+  from_categories,
+  categories_in,
+  from_joins,
+  join_in,
+  joins_in,
+  from_places,
+  places_in,
+  from_bands,
+  bands_in,
+  from_shuffles,
+  shuffles_in,
+  job_of,
+  image_rules,
+  image_refusal,
+  rest,
+  value_rules,
+  in_values,
+  in_joins,
+  at_the_end,
+}
+use Rattle.image.specs.Reader.{counts_in}
+use Rattle.image.proofs.Accepted.{Accepted, accepted, counted}
+use Rattle.image.proofs.Items.{bytes_front}
+use Rattle.image.proofs.Sections as sections
+use Rattle.image.proofs.Sections.{Sound}
+use Rattle.reader.specs.Steps.{Refuses, Joinable, Held, Joins, Summable, Fitting, LaidOut, join_at, job_in, sizes}
+use Rattle.reader.specs.declared.judging.Sections.{Sections}
+use Rattle.reader.specs.declared.sections.Section.{Section}
+use Rattle.reader.proofs.Items.{words_front, signed_words_front}
+use Rattle.reader.proofs.Triples.{joins_judged, joins_listed}
 
--- before a section: the number is that of the rules so far, and where it is 0 the bytes from the place on are b
-pub record Stage (image b : List ℕ) (rules : List Rule) (number at : ℕ) : Type 0 where
-  pub same : number ≡ first_broken rules
-  pub numbered : Numbered rules
-  pub begins : number ≡ 0 → drop at image ≡ b
-  pub inside : number ≡ 0 → at ≤ length image
+module _ (image : List ℕ) where
+  -- the image is judged by what is left of its rules
+  pub record Left (rules : List Rule) : Type 0 where
+    pub same : first_broken (image_rules image) ≡ first_broken rules
 
-pub start : (image : List ℕ) → Stage image image [] 0 0
-start image = record { same = refl; numbered = tt; begins = λ z. refl; inside = λ z. omega arith }
+  -- by a section as the code has it, then by more
+  module _
+      (section : ℕ → List ℕ → List Rule) (m : ℕ) (at : List ℕ) (more : List Rule) (left : Left (section m at ++ more))
+      {n : ℕ} {b : List ℕ} (same : n ≡ m) (begins : b ≡ at) where
+    pub stopped : {e : ℕ} → Refuses (section n b) e → Refuses (image_rules image) e
+    stopped {e} f =
+        let g : e ≡ first_broken (section m at) = f.0 ∙ rw (same, begins) refl in
+        (g ∙ sym (first_decides more (section m at) (λ z. f.1 (g ∙ z))) ∙ sym left.same, f.1)
 
--- a section that was judged, its items of a size, where the number before it was so
-pub record Met (image : List ℕ) (rules section : List Rule) (before number at size : ℕ) : Type 0 where
-  pub same : number ≡ first_broken (rules ++ section)
-  pub numbered : Numbered (rules ++ section)
-  pub back : number ≡ 0 → before ≡ 0
-  pub none : number ≡ 0 → first_broken section ≡ 0
-  pub whole : number ≡ 0 → at + (2 + size * count (drop at image)) ≤ length image
+    pub passed : Numbered (section m at) → first_broken (section n b) ≡ 0 → Left more
+    passed numbered e = record { same = left.same ∙ second_decides more (section m at) numbered (rw (sym same, sym begins) e) }
 
--- and one that was passed: what is known before the next, and where it was found
-pub record Walked (image b next : List ℕ) (rules : List Rule) (before number at size : ℕ) (r : Section) : Type 0 where
-  pub stage : Stage image next rules number r.next
-  pub found : number ≡ 0 → Found image b size at r.count
-  pub back : number ≡ 0 → before ≡ 0
+-- ---- the items of a section, so many bytes
+module _ {size : ℕ} {b : List ℕ} {s : Section} (h : Held size b s) where
+  room : size * count b ≤ length (items b)
+  room = omega (arith, h.whole, length-drop 2 b)
 
-module _ {image b : List ℕ} {rules : List Rule} {before at : ℕ} (stage : Stage image b rules before at) (size : ℕ) where
-  -- `asked` and `given` are the section's rules and its items' size as the code has them, which are right where the number so far is 0
-  module _ (section : List Rule) (given : ℕ) (sized : before ≡ 0 → given ≡ size) where
-    -- the bytes of the items
-    as_large : before ≡ 0 → given * count (drop at image) ≡ size * count b
-    as_large z = ap (λ m. m * count (drop at image)) (sized z) ∙ ap (λ l. size * count l) (stage.begins z)
+  held_length : length s.items.now ≡ size * s.count
+  held_length = ap length h.held ∙ length-take-le (size * count b) (items b) room ∙ ap (λ k. size * k) (sym h.counted)
 
-    pub met :
-        Numbered section → (first_broken section ≡ 0 → 2 + size * count b ≤ length b) → (asked : List Rule) →
-        (before ≡ 0 → asked ≡ section) → (number : ℕ) → number ≡ then before asked → Met image rules section before number at given
-    met numbered whole asked alike number e =
-        let f : number ≡ then before section = e ∙ then_alike before asked section (λ z. ap first_broken (alike z)) in
-        let none : number ≡ 0 → (before ≡ 0) × (first_broken section ≡ 0) = λ z. then_none before section (sym f ∙ z) in record {
-          same = f ∙ ap (λ m. then m section) stage.same ∙ then_after rules section stage.numbered;
-          numbered = numbered_both rules section stage.numbered numbered;
-          back = λ z. (none z).0;
-          none = λ z. (none z).1;
-          whole = λ z.
-              let y = (none z).0 in
-              omega (arith, stage.inside y, whole (none z).1, as_large y, length-drop at image, ap length (stage.begins y));
-        }
+  held_bytes : (k : ℕ) → k ≡ size * count b → s.items.now ≡ bytes k (items b)
+  held_bytes k e = h.held ∙ ap (λ m. take m (items b)) (sym e) ∙ sym (bytes_front k (items b) (omega (arith, room)))
 
-    pub walked :
-        {number : ℕ} {r : Section} → Met image rules section before number at given → Passed image at given number r →
-        Walked image b (after size b) (rules ++ section) before number at given r
-    walked {number} {r} m p =
-        record {
-          stage =
-              record {
-                same = m.same;
-                numbered = m.numbered;
-                begins = λ z.
-                    let y = m.back z in
-                    ap (λ t. drop t image) (p.next z)
-                    ∙ sym (drop-drop (2 + given * count (drop at image)) at image)
-                    ∙ ap (λ t. drop (2 + t) (drop at image)) (as_large y)
-                    ∙ ap (drop (2 + size * count b)) (stage.begins y);
-                inside = λ z. p.inside;
-              };
-          found = λ z.
-              let counted = p.counted z in
-              record {
-                begins = stage.begins (m.back z);
-                counted = counted ∙ ap count (stage.begins (m.back z));
-                whole = omega (arith, m.whole z, ap (λ t. given * t) counted);
-              };
-          back = m.back;
-        }
+  held_words : (k : ℕ) → 4 * k ≤ size * count b → words k s.items.now ≡ words k (items b)
+  held_words k p = ap (words k) h.held ∙ words_front k (size * count b) (items b) p
+
+  held_signed : (k : ℕ) → 4 * k ≤ size * count b → signed_words k s.items.now ≡ signed_words k (items b)
+  held_signed k p = ap (signed_words k) h.held ∙ signed_words_front k (size * count b) (items b) p
+
+-- ---- six sections of an image that is not refused
+module _
+    (image : List ℕ) (s : Sections) (values : Held 4 image s.values) (categories : Held 1 (from_categories image) s.categories)
+    (joins : Joins (from_joins image) s.joins.now) (places : Held 8 (from_places image) s.places)
+    (bands : Held 4 (from_bands image) s.bands) (shuffles : Held (count image) (from_shuffles image) s.shuffles) where
+  counts_same : sizes s ≡ counts_in image
+  unfolding counts_in
+  counts_same = rw (values.counted, categories.counted, joins.counted, places.counted, bands.counted, shuffles.counted) refl
+
+  job_same : job_in s ≡ job_of image
+  unfolding job_of
+  job_same =
+      let n = values.counted in
+      let v : signed_words s.values.count s.values.items.now ≡ values_in image =
+      rw n (held_signed values (count image) (omega arith)) in
+      let k : s.categories.items.now ≡ categories_in (from_categories image) = held_bytes categories (count (from_categories image)) (omega arith) in
+      let w :
+      weights_of s.values.count (table (join_at s.joins.now) (length s.joins.now)) ≡ weights_of (count image) (joins_in (from_joins image)) =
+      rw (n, joins_listed (from_joins image) s.joins.now joins) refl in
+      let p : signed_words (2 * s.places.count) s.places.items.now ≡ places_in (from_places image) =
+      rw places.counted (held_signed places (2 * count (from_places image)) (omega arith)) in
+      let b : words s.bands.count s.bands.items.now ≡ bands_in (from_bands image) =
+      rw bands.counted (held_words bands (count (from_bands image)) (omega arith)) in
+      let f : s.shuffles.items.now ≡ shuffles_in (count image) (from_shuffles image) =
+      held_bytes shuffles (count (from_shuffles image) * count image) (omega arith) in
+      rw (v, k, w, p, b, f) refl
+
+  pub laid : first_broken (image_rules image) ≡ 0 → LaidOut image s
+  unfolding image_refusal
+  laid z =
+      let a = accepted image z in
+      let few = counted image a in record {
+        counts = counts_same;
+        job = job_same;
+        fitting =
+            record {
+              categories = held_length categories ∙ omega arith;
+              few_categories = omega (arith, categories.counted, few.categories, few.zones);
+              joins =
+                  record {
+                    zones = omega (arith, values.counted, few.zones);
+                    sound = ap first_broken (joins_judged (from_joins image) s.joins.now joins s.values.count) ∙ rw values.counted a.joins.listed;
+                  };
+              places = omega (arith, places.counted, few.places, few.zones);
+              bands = omega (arith, bands.counted, few.bands);
+              shuffles = held_length shuffles ∙ ap (λ n. n * s.shuffles.count) (sym values.counted);
+              few_shuffles = omega (arith, shuffles.counted, few.shuffles);
+            };
+      }
+
+-- ---- the values and the joins that were taken, and the end
+module _ (image : List ℕ) (v : Section) (joins : List (List ℕ)) (values : Held 4 image v) where
+  module _ (sound : first_broken (in_values image) ≡ 0) where
+    valued : Sound 4 (outside 2 64 (count image)) (value_rules (values_in image)) image
+    unfolding in_values
+    valued = sections.sound 4 _ 0 _ image sound
+
+    pub zones : (2 ≤ v.count) × (v.count ≤ 64)
+    zones = let range = in_range 2 64 (count image) valued.counted in (omega (arith, values.counted), omega (arith, values.counted))
+
+    module _ (seen : Joins (from_joins image) joins) where
+      -- they are the job's
+      of_values : signed_words v.count v.items.now ≡ values_in image
+      of_values = rw values.counted (held_signed values (count image) (omega arith))
+
+      of_joins : weights_of v.count (table (join_at joins) (length joins)) ≡ weights_of (count image) (joins_in (from_joins image))
+      of_joins = rw (values.counted, joins_listed (from_joins image) joins seen) refl
+
+      -- they can be summed
+      pub summable : first_broken (in_joins v.count (from_joins image)) ≡ 0 → Summable v.count v.items.now joins
+      unfolding in_joins
+      summable e =
+          let listed :
+          Sound 3 (ltb 4032 (count (from_joins image)))
+          (in_turn (join_rules v.count (join_in (items (from_joins image)))) (count (from_joins image)))
+          (from_joins image) =
+          sections.sound 3 _ 14 _ (from_joins image) e in
+          record {
+            two = zones.0;
+            near = ap (any_beyond 100000) of_values ∙ (holds (any_beyond 100000 (values_in image)) 2 0 valued.listed).0;
+            joins =
+                record {
+                  zones = zones.1;
+                  sound = ap first_broken (joins_judged (from_joins image) joins seen v.count) ∙ listed.listed;
+                };
+          }
+
+      module _ (left : Left image (at_the_end image)) (more : List ℕ) (begins : more ≡ rest image) where
+        pub trailing : 0 < length more → Refuses (image_rules image) 17
+        trailing h =
+            let long : ltb 0 (length (rest image)) ≡ true = lt-ltb 0 (length (rest image)) (omega (arith, ap length begins)) in
+            (sym (left.same ∙ rw long refl), λ z. omega arith)
+
+        -- the sums decide
+        pub by_sums :
+            length more ≡ 0 →
+            first_broken (sum_rules v.count (signed_words v.count v.items.now) (weights_of v.count (table (join_at joins) (length joins))))
+            ≡ first_broken (image_rules image)
+        unfolding job_of
+        by_sums e =
+            let ended : ltb 0 (length (rest image)) ≡ false = le-ltb 0 (length (rest image)) (omega (arith, ap length begins)) in
+            rw (of_values, of_joins, values.counted) (sym (left.same ∙ rw ended refl))

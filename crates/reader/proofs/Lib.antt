@@ -1,12 +1,9 @@
--- Laws that the reader's proofs share, each file named by its subject.
-pub mod Parts
-pub mod Frame
+-- The theorems of the reader, and the laws that they and the functions rest on.
+pub mod Answered
+pub mod Chain
+pub mod Fronts
+pub mod Items
 pub mod JoinOrder
 pub mod JoinsPut
-pub mod Over
-pub mod Found
-pub mod Chain
-pub mod Verdict
-pub mod Stored
-pub mod Answered
 pub mod Theorems
+pub mod Triples

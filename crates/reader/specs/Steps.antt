@@ -1,32 +1,27 @@
 -- What the private functions of the reader promise each other. Assumes nothing.
-use Rattle.std.specs.Prelude.{◌≡◌, false, not, cond, ◌&&◌, List, [], ◌∷◌, ℕ, ◌+◌, ◌*◌, ◌≤◌, eqb, ltb, length, drop}
-use Rattle.whole.specs.Rules.{Rule, first_broken, in_turn, outside, misfits, unless_refused}
+use Rattle.std.specs.Prelude.{◌≡◌, false, not, ◌&&◌, List, [], ◌∷◌, ℕ, ◌+◌, ◌*◌, ◌≤◌, ◌<◌, eqb, ltb, length, take, get_or, Result, MatchResult}
+use Rattle.whole.specs.Rules.{Rule, first_broken, in_turn, outside}
 use Rattle.whole.specs.Search.{any_beyond}
 use Rattle.whole.specs.Table.{table}
-use Rattle.account.specs.Refusals.{sum_rules}
-use Rattle.image.specs.Joins.{weights_of, join_rules}
-use Rattle.image.specs.Image.{
-  count,
-  signed_words,
-  join_in,
-  from_categories,
-  from_joins,
-  from_places,
-  from_bands,
-  from_shuffles,
-  image_refusal,
-}
-use Rattle.image.specs.Reader.{Buffers, buffer_lengths}
-use Rattle.reader.specs.declared.judging.Section.{Section}
-use Rattle.reader.specs.declared.judging.Layout.{Layout}
+use Rattle.image.specs.Joins.{Join, join_rules, weights_of}
+use Rattle.image.specs.Image.{Job, count, items, signed_words, words, join_in, job_of}
+use Rattle.image.specs.Reader.{counts_in}
+use Rattle.reader.specs.declared.sections.Section.{Section}
+use Rattle.reader.specs.declared.judging.Sections.{Sections}
 
--- ---- a section
+-- a refusal: it is the number of the first broken rule
+abbrev pub Refuses : List Rule → ℕ → Type 0
+Refuses rules e = (e ≡ first_broken rules) × (e ≡ 0 → ⊥)
 
--- what is judged of one before its k items, which have a size: 14 if its count is cut, the count's own number, 14 if the section is cut
-abbrev pub frame : List ℕ → ℕ → ℕ → ℕ → ℕ
-frame b counted size k = cond (ltb (length b) 2) 14 (unless_refused counted (cond (ltb (length b) (2 + size * k)) 14 0) counted)
+-- a judge's answer: the refusal, or that no rule is broken
+abbrev pub Decides : {A : Type 0} → Result A ℕ → List Rule → Type 0
+Decides result rules = MatchResult result (λ _. first_broken rules ≡ 0) (Refuses rules)
 
 -- ---- joins
+
+-- the k-th of some joins, three bytes each
+abbrev pub join_at : List (List ℕ) → ℕ → Join
+join_at joins k = let join = get_or joins k [] in record { from = get_or join 0 0; to = get_or join 1 0; weight = get_or join 2 0 }
 
 -- a join's rules, its order judged by its place: `next` is the first place after those of the joins before it
 abbrev pub rules_by_place : ℕ → ℕ → ℕ → ℕ → ℕ → List Rule
@@ -37,57 +32,57 @@ rules_by_place n next from to weight =
     ∷ (outside 1 9 weight, 4)
     ∷ []
 
--- k joins that are there and break no rule
-pub record Joinable (image : List ℕ) (at k n : ℕ) : Type 0 where
-  pub there : at + 3 * k ≤ length image
+-- joins of n zones that break no rule
+pub record Joinable (n : ℕ) (joins : List (List ℕ)) : Type 0 where
   pub zones : n ≤ 64
-  pub sound : first_broken (in_turn (join_rules n (join_in (drop at image))) k) ≡ 0
+  pub sound : first_broken (in_turn (join_rules n (join_at joins)) (length joins)) ≡ 0
 
--- ---- the sums of a job
+-- ---- sections
 
--- the values of the first section and k joins, all of which break no rule
-pub record Summable (image : List ℕ) (n at k : ℕ) : Type 0 where
+-- the section at the front of some bytes, its items of a size
+pub record Held (size : ℕ) (b : List ℕ) (section : Section) : Type 0 where
+  pub counted : section.count ≡ count b
+  pub held : section.items.now ≡ take (size * count b) (items b)
+  pub whole : 2 + size * count b ≤ length b
+
+-- and the joins there
+pub record Joins (b : List ℕ) (joins : List (List ℕ)) : Type 0 where
+  pub counted : length joins ≡ count b
+  pub held : (k : ℕ) → k < count b → join_at joins k ≡ join_in (items b) k
+
+-- values and joins that can be summed, since they break no rule
+pub record Summable (n : ℕ) (values : List ℕ) (triples : List (List ℕ)) : Type 0 where
   pub two : 2 ≤ n
-  pub begun : 2 ≤ length image
-  pub near : any_beyond 100000 (signed_words n (drop 2 image)) ≡ false
-  pub joins : Joinable image at k n
+  pub near : any_beyond 100000 (signed_words n values) ≡ false
+  pub joins : Joinable n triples
 
--- 17, then 6 and 7, where the last section ends at a place
-abbrev pub end_rules : List ℕ → ℕ → ℕ → ℕ → ℕ → List Rule
-end_rules image end n at k =
-    (ltb 0 (length (drop end image)), 17) ∷ sum_rules n (signed_words n (drop 2 image)) (weights_of n (table (join_in (drop at image)) k))
+-- the counts of six sections, and the job that they hold
+abbrev pub sizes : Sections → List ℕ
+sizes s =
+    s.values.count ∷ s.categories.count ∷ length s.joins.now ∷ s.places.count ∷ s.bands.count ∷ s.shuffles.count ∷ []
 
--- ---- from section to section
+abbrev pub job_in : Sections → Job
+job_in s = record {
+  values = signed_words s.values.count s.values.items.now;
+  categories = s.categories.items.now;
+  weights = weights_of s.values.count (table (join_at s.joins.now) (length s.joins.now));
+  places = signed_words (2 * s.places.count) s.places.items.now;
+  bands = words s.bands.count s.bands.items.now;
+  shuffles = s.shuffles.items.now;
+}
 
--- where a section was passed: its number, and if that is 0, its count and the place after it
-pub record Passed (image : List ℕ) (at size number : ℕ) (r : Section) : Type 0 where
-  pub counted : number ≡ 0 → r.count ≡ count (drop at image)
-  pub next : number ≡ 0 → r.next ≡ at + (2 + size * count (drop at image))
-  pub inside : r.next ≤ length image
+-- they fit into the buffers
+pub record Fitting (s : Sections) : Type 0 where
+  pub categories : length s.categories.items.now ≡ s.categories.count
+  pub few_categories : s.categories.count ≤ 64
+  pub joins : Joinable s.values.count s.joins.now
+  pub places : s.places.count ≤ 64
+  pub bands : s.bands.count ≤ 8
+  pub shuffles : length s.shuffles.items.now ≡ s.values.count * s.shuffles.count
+  pub few_shuffles : s.shuffles.count ≤ 499
 
--- where a section was found: it begins there, has this count, and is whole
-pub record Found (image b : List ℕ) (size at k : ℕ) : Type 0 where
-  pub begins : drop at image ≡ b
-  pub counted : k ≡ count b
-  pub whole : at + (2 + size * k) ≤ length image
-
--- the six sections
-pub record LaidOut (image : List ℕ) (r : Layout) : Type 0 where
-  pub values : Found image image 4 0 r.values
-  pub categories : Found image (from_categories image) 1 r.at_categories r.categories
-  pub joins : Found image (from_joins image) 3 r.at_joins r.joins
-  pub places : Found image (from_places image) 8 r.at_places r.places
-  pub bands : Found image (from_bands image) 4 r.at_bands r.bands
-  pub shuffles : Found image (from_shuffles image) r.values r.at_shuffles r.shuffles
-
-pub record Judged (image : List ℕ) (r : Layout) : Type 0 where
-  pub number : r.number ≡ image_refusal image
-  pub laid : image_refusal image ≡ 0 → LaidOut image r
-
--- ---- what is stored
-
--- an accepted image, and buffers of their exact lengths
-pub record Storable (image : List ℕ) (r : Layout) (lent : Buffers) : Type 0 where
-  pub accepted : image_refusal image ≡ 0
-  pub laid : LaidOut image r
-  pub fits : misfits (buffer_lengths lent) ≡ false
+-- what is known of the sections of an image that is not refused
+pub record LaidOut (image : List ℕ) (s : Sections) : Type 0 where
+  pub counts : sizes s ≡ counts_in image
+  pub job : job_in s ≡ job_of image
+  pub fitting : Fitting s

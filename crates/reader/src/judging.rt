@@ -1,133 +1,81 @@
 // The judge of an image: section after section, then 17, 6 and 7. It stores nothing.
-ghost use Rattle.std.specs.Prelude.{◌≡◌, [], ◌∷◌, ◌+◌, ◌*◌, ◌≤◌, length, drop};
-ghost use Rattle.whole.specs.Rules.{first_broken};
+ghost use Rattle.std.specs.Prelude.{◌≡◌, IfOk, length};
 ghost use Rattle.whole.specs.Table.{table};
 ghost use Rattle.account.specs.Refusals.{sum_rules};
 ghost use Rattle.image.specs.Joins.{weights_of};
-ghost use Rattle.image.specs.Image.{count, join_in, signed_words};
-ghost use Rattle.image.specs.Steps.{then};
+ghost use Rattle.image.specs.Image.{signed_words, image_rules};
+ghost use Rattle.image.specs.Reader.{counts_in};
 ghost use Rattle.reader.specs.Answers.{six};
-ghost use Rattle.reader.specs.Steps.{Passed, Summable, end_rules, Judged};
+ghost use Rattle.reader.specs.Steps.{Decides, Summable, LaidOut, join_at, sizes};
 
-use crate::{Counts, joining, sections};
+use crate::sections::{
+    Section, in_bands, in_categories, in_joins, in_places, in_shuffles, in_values, passed,
+};
+use crate::{Counts, joining};
 
-// Where a section was passed.
+// The six sections of an image that is not refused.
 #[derive(Clone, Copy)]
-struct Section {
-    count: usize,
-    next: usize,
+pub(super) struct Sections<'a> {
+    pub(super) values: Section<'a>,
+    pub(super) categories: Section<'a>,
+    pub(super) joins: &'a [[u8; 3]],
+    pub(super) places: Section<'a>,
+    pub(super) bands: Section<'a>,
+    pub(super) shuffles: Section<'a>,
 }
 
-// The number of an image, and where it is 0 the counts of its sections and the places where they begin, the first beginning at 0.
-#[derive(Clone, Copy)]
-pub struct Layout {
-    pub number: u8,
-    pub values: usize,
-    pub categories: usize,
-    pub joins: usize,
-    pub places: usize,
-    pub bands: usize,
-    pub shuffles: usize,
-    pub at_categories: usize,
-    pub at_joins: usize,
-    pub at_places: usize,
-    pub at_bands: usize,
-    pub at_shuffles: usize,
-}
-
-// The count of the section that begins at a place, and the place after it, where the number so far is 0.
-fn pass(image: &[u8], at: usize, size: usize, number: u8) -> Section
-    requires { number ≡ 0 → at + (2 + size * count (drop at image.now)) ≤ length image.now }
-    ensures { Passed image.now at size number result }
-{
-    if number != 0 {
-        return Section { count: 0, next: 0 };
-    }
-    let k = words::two_at(image, at) as usize;
-    Section {
-        count: k,
-        next: at + (2 + size * k),
+impl Sections<'_> {
+    // How many items each has.
+    pub(super) fn counts(&self) -> Counts
+        ensures { six result ≡ sizes self.now }
+    {
+        Counts {
+            values: self.values.count,
+            categories: self.categories.count,
+            joins: self.joins.len(),
+            places: self.places.count,
+            bands: self.bands.count,
+            shuffles: self.shuffles.count,
+        }
     }
 }
 
-// 6 and 7 of the values and of k joins, from copies of their own.
-fn judge_sums(image: &[u8], n: usize, at: usize, k: usize) -> u8
-    requires { Summable image.now n at k }
-    ensures { result ≡ first_broken (sum_rules n (signed_words n (drop 2 image.now))
-        (weights_of n (table (join_in (drop at image.now)) k))) }
+// 6 and 7 of n values and the joins, from copies of their own.
+fn judge_sums(n: usize, items: &[u8], joins: &[[u8; 3]]) -> Result<(), u8>
+    requires { Summable n items.now joins.now }
+    ensures { Decides result (sum_rules n (signed_words n items.now) (weights_of n (table (join_at joins.now) (length joins.now)))) }
 {
-    let mut values: [i32; 64] = [0; 64];
-    words::entries_in(&image[2..], &mut values[..n]);
-    let pairs = n * n;
-    let mut weights: [u8; 4096] = [0; 4096];
-    joining::table_of(image, at, k, n, &mut weights[..pairs]);
-    account::judge(n, &values[..n], &weights[..pairs])
+    let mut space = [0; 64];
+    let values = &mut space[..n];
+    words::signed_words_in(items, values);
+    let mut table = [0; 4096];
+    let weights = &mut table[..n * n];
+    joining::put_joins(n, joins, weights);
+    passed(account::judge(n, values, weights))
 }
 
-// The number so far, or what is judged after the last section, which ends at a place.
-fn judge_end(before: u8, image: &[u8], end: usize, n: usize, at: usize, k: usize) -> u8
-    requires { before ≡ 0 → Summable image.now n at k }
-    ensures { result ≡ then before (end_rules image.now end n at k) }
+// Judges an image from its first byte to its last.
+pub(super) fn judge(image: &[u8]) -> Result<Sections<'_>, u8>
+    ensures decides { Decides result (image_rules image.now) }
+    ensures laid { IfOk result (LaidOut image.now) }
 {
-    if before != 0 {
-        return before;
-    }
-    if end < image.len() {
-        return 17;
-    }
-    judge_sums(image, n, at, k)
-}
-
-// Judges an image by place, from its first byte to its last.
-pub(super) fn judge(image: &[u8]) -> Layout
-    ensures { Judged image.now result }
-{
-    let v = sections::in_values(0, image, 0);
-    let values = pass(image, 0, 4, v);
+    let (values, rest) = in_values(image)?;
     let n = values.count;
-    let at_categories = values.next;
-    let c = sections::in_categories(v, image, at_categories, n);
-    let categories = pass(image, at_categories, 1, c);
-    let at_joins = categories.next;
-    let j = sections::in_joins(c, image, at_joins, n);
-    let joins = pass(image, at_joins, 3, j);
-    let at_places = joins.next;
-    let p = sections::in_places(j, image, at_places, n);
-    let places = pass(image, at_places, 8, p);
-    let at_bands = places.next;
-    let b = sections::in_bands(p, image, at_bands, places.count);
-    let bands = pass(image, at_bands, 4, b);
-    let at_shuffles = bands.next;
-    let s = sections::in_shuffles(b, image, at_shuffles, n);
-    let shuffles = pass(image, at_shuffles, n, s);
-    let number = judge_end(s, image, shuffles.next, n, at_joins + 2, joins.count);
-    Layout {
-        number: number,
-        values: n,
-        categories: categories.count,
-        joins: joins.count,
-        places: places.count,
-        bands: bands.count,
-        shuffles: shuffles.count,
-        at_categories: at_categories,
-        at_joins: at_joins,
-        at_places: at_places,
-        at_bands: at_bands,
-        at_shuffles: at_shuffles,
+    let (categories, rest) = in_categories(n, rest)?;
+    let (joins, rest) = in_joins(n, rest)?;
+    let (places, rest) = in_places(n, rest)?;
+    let (bands, rest) = in_bands(places.count, rest)?;
+    let (shuffles, rest) = in_shuffles(n, rest)?;
+    if !rest.is_empty() {
+        return Err(17);
     }
-}
-
-// The six counts.
-pub(super) fn counts(layout: Layout) -> Counts
-    ensures { six result
-        ≡ layout.values ∷ layout.categories ∷ layout.joins ∷ layout.places ∷ layout.bands ∷ layout.shuffles ∷ [] }
-{
-    Counts {
-        values: layout.values,
-        categories: layout.categories,
-        joins: layout.joins,
-        places: layout.places,
-        bands: layout.bands,
-        shuffles: layout.shuffles,
-    }
+    judge_sums(n, values.items, joins)?;
+    Ok(Sections {
+        values,
+        categories,
+        joins,
+        places,
+        bands,
+        shuffles,
+    })
 }

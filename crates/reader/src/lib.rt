@@ -1,4 +1,4 @@
-// The reader: the job of an image into the lent buffers. An image is judged by place, from its first byte to its last, before anything is
+// The reader: the job of an image into the lent buffers. An image is judged from its first byte to its last before anything is
 // stored.
 #![tactic(auto)]
 
@@ -63,13 +63,11 @@ pub fn read(
     if lengths != 0 {
         return Answer::Refused(lengths);
     }
-    let layout = judging::judge(image);
-    let number = layout.number;
-    if number != 0 {
-        return Answer::Refused(number);
+    match judging::judge(image) {
+        Err(number) => Answer::Refused(number),
+        Ok(job) => {
+            storing::store(&job, values, categories, weights, places, bands, shuffles);
+            Answer::Read(job.counts())
+        }
     }
-    storing::store(
-        image, layout, values, categories, weights, places, bands, shuffles,
-    );
-    Answer::Read(judging::counts(layout))
 }

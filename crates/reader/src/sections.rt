@@ -1,197 +1,182 @@
-// The judges of the six sections. Each is told the number so far and answers it, or where it is 0 the first number of the section that
-// begins at a place: that of its frame, which all sections have in common, then that of its items.
-ghost use Rattle.std.specs.Prelude.{◌≡◌, ◌+◌, ◌*◌, ◌≤◌, ◌<◌, ltb, length, drop};
-ghost use Rattle.whole.specs.Rules.{first_broken, unless_refused};
+// The sections of an image: each is taken from the front of what is left of it, judged by its count, then by its items.
+ghost use Rattle.std.specs.Prelude.{◌≡◌, true, false, [], ◌∷◌, ℕ, ◌+◌, ◌*◌, ◌≤◌, ◌<◌, ltb, length, drop, take, MatchResult, IfOk};
+ghost use Rattle.whole.specs.Rules.{first_broken};
 ghost use Rattle.places.specs.Places.{places_in_turn};
-ghost use Rattle.image.specs.Image.{signed_words, words, bytes, value_rules, category_rules, band_rules, shuffle_rules};
+ghost use Rattle.image.specs.Image.{count, items, after, signed_words, words, value_rules, category_rules, band_rules, shuffle_rules};
 ghost use Rattle.image.specs.Image.{in_values, in_categories, in_joins, in_places, in_bands, in_shuffles};
-ghost use Rattle.image.specs.Steps.{then};
-ghost use Rattle.reader.specs.Steps.{frame};
+ghost use Rattle.reader.specs.Steps.{Decides, Held, Joins};
 
 use crate::joining;
 
-// Whether fewer than so many bytes are left.
-fn cut(image: &[u8], at: usize, size: usize) -> bool
-    requires { at ≤ length image.now }
-    ensures { result ≡ ltb (length (drop at image.now)) size }
-{
-    image.len() - at < size
+// A section: the count of its items, and their bytes.
+#[derive(Clone, Copy)]
+pub(super) struct Section<'a> {
+    pub(super) count: usize,
+    pub(super) items: &'a [u8],
 }
 
-// The first number of k values.
-fn judge_values(image: &[u8], at: usize, k: usize) -> u8
-    requires at_in_bounds { at ≤ length image.now }
-    requires k_bound { k ≤ 64 }
-    ensures { result ≡ first_broken (value_rules (signed_words k (drop at image.now))) }
+// The refusal of a number, where it is one.
+pub(super) fn passed(number: u8) -> Result<(), u8>
+    ensures { MatchResult result (λ _. number ≡ 0) (λ e. (e ≡ number) × (e ≡ 0 → ⊥)) }
 {
-    let mut space: [i32; 64] = [0; 64];
-    let values = &mut space[..k];
-    words::entries_in(&image[at..], values);
+    if number == 0 { Ok(()) } else { Err(number) }
+}
+
+// The count at the front of some bytes, and what follows it: 14 if it is cut.
+#[tactic(auto, unfolding(words::specs::Words::two_at))]
+fn count_of(bytes: &[u8]) -> Result<(usize, &[u8]), u8>
+    ensures { MatchResult result
+        (λ p. (ltb (length bytes.now) 2 ≡ false) × (p.0 ≡ count bytes.now) × (p.0 < 65536) × (p.1.now ≡ items bytes.now))
+        (λ e. (ltb (length bytes.now) 2 ≡ true) × (e ≡ 14)) }
+{
+    let (count, rest) = bytes.split_first_chunk::<2>().ok_or(14)?;
+    Ok((usize::from(u16::from_le_bytes(*count)), rest))
+}
+
+// So many items of a size, and what follows them: 14 if they are cut.
+fn cut_off(count: usize, size: usize, bytes: &[u8]) -> Result<(Section<'_>, &[u8]), u8>
+    requires count_bound { count < 65536 }
+    requires size_bound { size ≤ 64 }
+    ensures { MatchResult result
+        (λ p. (size * count ≤ length bytes.now) × (p.0.count ≡ count) × (p.0.items.now ≡ take (size * count) bytes.now)
+        × (p.1.now ≡ drop (size * count) bytes.now))
+        (λ e. (length bytes.now < size * count) × (e ≡ 14)) }
+{
+    let (items, rest) = bytes.split_at_checked(size * count).ok_or(14)?;
+    Ok((Section { count, items }, rest))
+}
+
+// 3: a value too far from 0.
+fn judge_values(count: usize, items: &[u8]) -> Result<(), u8>
+    requires { count ≤ 64 }
+    ensures { Decides result (value_rules (signed_words count items.now)) }
+{
+    let mut space = [0; 64];
+    let values = &mut space[..count];
+    words::signed_words_in(items, values);
     if judges::any_beyond(100000, values) {
-        return 3;
+        Err(3)
+    } else {
+        Ok(())
     }
-    0
 }
 
-// The first number of k categories.
-fn judge_categories(image: &[u8], at: usize, k: usize) -> u8
-    requires { at + k ≤ length image.now }
-    ensures { result ≡ first_broken (category_rules (bytes k (drop at image.now))) }
+// 8: a category above 7.
+fn judge_categories(categories: &[u8]) -> Result<(), u8>
+    ensures { Decides result (category_rules categories.now) }
 {
-    let end = at + k;
-    if judges::any_above(7, &image[at..end]) {
-        return 8;
+    if judges::any_above(7, categories) {
+        Err(8)
+    } else {
+        Ok(())
     }
-    0
 }
 
-// The first number of k places.
-fn judge_places(image: &[u8], at: usize, k: usize) -> u8
-    requires at_in_bounds { at ≤ length image.now }
-    requires k_bound { k ≤ 64 }
-    ensures { result ≡ first_broken (places_in_turn (signed_words (2 * k) (drop at image.now))) }
+// 10 and 11: a place too far off, or that of an earlier zone.
+fn judge_places(count: usize, items: &[u8]) -> Result<(), u8>
+    requires { count ≤ 64 }
+    ensures { Decides result (places_in_turn (signed_words (2 * count) items.now)) }
 {
-    let coordinates = 2 * k;
-    let mut space: [i32; 128] = [0; 128];
-    let places = &mut space[..coordinates];
-    words::entries_in(&image[at..], places);
-    places::judge_in_turn(places)
+    let mut space = [0; 128];
+    let places = &mut space[..2 * count];
+    words::signed_words_in(items, places);
+    passed(places::judge_in_turn(places))
 }
 
-// The first number of k bands.
-fn judge_bands(image: &[u8], at: usize, k: usize) -> u8
-    requires at_in_bounds { at ≤ length image.now }
-    requires k_bound { k ≤ 8 }
-    ensures { result ≡ first_broken (band_rules (words k (drop at image.now))) }
+// 12: a band that is 0, or not above the one before it.
+fn judge_bands(count: usize, items: &[u8]) -> Result<(), u8>
+    requires { count ≤ 8 }
+    ensures { Decides result (band_rules (words count items.now)) }
 {
-    let mut space: [u32; 8] = [0; 8];
-    let bands = &mut space[..k];
-    words::entries_in(&image[at..], bands);
+    let mut space = [0; 8];
+    let bands = &mut space[..count];
+    words::words_in(items, bands);
     if places::any_misplaced(bands) {
-        return 12;
+        Err(12)
+    } else {
+        Ok(())
     }
-    0
-}
-
-// The first number of k shuffles of n zones.
-fn judge_shuffles(image: &[u8], at: usize, k: usize, n: usize) -> u8
-    requires le_n { 2 ≤ n }
-    requires n_bound { n ≤ 64 }
-    requires k_bound { k ≤ 499 }
-    requires k_in_bounds { at + n * k ≤ length image.now }
-    ensures { result ≡ first_broken (shuffle_rules n (bytes (k * n) (drop at image.now))) }
-{
-    let end = at + k * n;
-    shuffles::judge_shuffles(n, &image[at..end])
-}
-
-// What is judged of a section before its k items, which have a size: the number so far, or 14 if the count is cut, the count's own number,
-// 14 if the section is cut.
-fn judge_frame(before: u8, image: &[u8], at: usize, counted: u8, size: usize, k: usize) -> u8
-    requires at_in_bounds { before ≡ 0 → at ≤ length image.now }
-    requires size_bound { before ≡ 0 → size ≤ 64 }
-    requires k_bound { k < 65536 }
-    ensures { result ≡ unless_refused before (frame (drop at image.now) counted size k) before }
-{
-    if before != 0 {
-        return before;
-    }
-    if cut(image, at, 2) {
-        return 14;
-    }
-    if counted != 0 {
-        return counted;
-    }
-    if cut(image, at, 2 + size * k) {
-        return 14;
-    }
-    0
 }
 
 // The values, whose section is the first.
-pub(super) fn in_values(before: u8, image: &[u8], at: usize) -> u8
-    requires { before ≡ 0 → at ≤ length image.now }
-    ensures { result ≡ then before (in_values (drop at image.now)) }
+#[tactic(auto, unfolding(image::specs::Image::in_values))]
+pub(super) fn in_values(image: &[u8]) -> Result<(Section<'_>, &[u8]), u8>
+    ensures decides { Decides result (in_values image.now) }
+    ensures taken { IfOk result (λ p. Held 4 image.now p.0 × (p.1.now ≡ after 4 image.now)) }
 {
-    let k = words::two_at(image, at) as usize;
-    let counted = image::judge_zone_count(k);
-    let number = judge_frame(before, image, at, counted, 4, k);
-    if number != 0 {
-        return number;
-    }
-    judge_values(image, at + 2, k)
+    let (count, items) = count_of(image)?;
+    passed(image::judge_zone_count(count))?;
+    let (values, rest) = cut_off(count, 4, items)?;
+    judge_values(count, values.items)?;
+    Ok((values, rest))
 }
 
 // The categories of n zones.
-pub(super) fn in_categories(before: u8, image: &[u8], at: usize, n: usize) -> u8
-    requires { before ≡ 0 → at ≤ length image.now }
-    ensures { result ≡ then before (in_categories n (drop at image.now)) }
+#[tactic(auto, unfolding(image::specs::Image::in_categories))]
+pub(super) fn in_categories(n: usize, left: &[u8]) -> Result<(Section<'_>, &[u8]), u8>
+    ensures decides { Decides result (in_categories n left.now) }
+    ensures taken { IfOk result (λ p. Held 1 left.now p.0 × (p.1.now ≡ after 1 left.now)) }
 {
-    let k = words::two_at(image, at) as usize;
-    let counted = image::judge_none_or_all(n, k);
-    let number = judge_frame(before, image, at, counted, 1, k);
-    if number != 0 {
-        return number;
-    }
-    judge_categories(image, at + 2, k)
+    let (count, items) = count_of(left)?;
+    passed(image::judge_none_or_all(n, count))?;
+    let (categories, rest) = cut_off(count, 1, items)?;
+    judge_categories(categories.items)?;
+    Ok((categories, rest))
 }
 
-// The joins of n zones.
-pub(super) fn in_joins(before: u8, image: &[u8], at: usize, n: usize) -> u8
-    requires at_in_bounds { before ≡ 0 → at ≤ length image.now }
-    requires n_bound { before ≡ 0 → n ≤ 64 }
-    ensures { result ≡ then before (in_joins n (drop at image.now)) }
+// The joins of n zones, three bytes each.
+#[tactic(auto, unfolding(image::specs::Image::in_joins))]
+pub(super) fn in_joins(n: usize, left: &[u8]) -> Result<(&[[u8; 3]], &[u8]), u8>
+    requires { n ≤ 64 }
+    ensures decides { Decides result (in_joins n left.now) }
+    ensures taken { IfOk result (λ p. Joins left.now p.0.now × (p.1.now ≡ after 3 left.now)) }
 {
-    let k = words::two_at(image, at) as usize;
-    let counted = image::judge_join_count(k);
-    let number = judge_frame(before, image, at, counted, 3, k);
-    if number != 0 {
-        return number;
-    }
-    joining::judge_joins(image, at + 2, k, n)
+    let (count, items) = count_of(left)?;
+    passed(image::judge_join_count(count))?;
+    let (joins, rest) = cut_off(count, 3, items)?;
+    let (joins, _) = joins.items.as_chunks::<3>();
+    joining::judge_joins(n, joins)?;
+    Ok((joins, rest))
 }
 
 // The places of n zones.
-pub(super) fn in_places(before: u8, image: &[u8], at: usize, n: usize) -> u8
-    requires at_in_bounds { before ≡ 0 → at ≤ length image.now }
-    requires n_bound { before ≡ 0 → n ≤ 64 }
-    ensures { result ≡ then before (in_places n (drop at image.now)) }
+#[tactic(auto, unfolding(image::specs::Image::in_places))]
+pub(super) fn in_places(n: usize, left: &[u8]) -> Result<(Section<'_>, &[u8]), u8>
+    requires { n ≤ 64 }
+    ensures decides { Decides result (in_places n left.now) }
+    ensures taken { IfOk result (λ p. Held 8 left.now p.0 × (p.1.now ≡ after 8 left.now)) }
 {
-    let k = words::two_at(image, at) as usize;
-    let counted = image::judge_none_or_all(n, k);
-    let number = judge_frame(before, image, at, counted, 8, k);
-    if number != 0 {
-        return number;
-    }
-    judge_places(image, at + 2, k)
+    let (count, items) = count_of(left)?;
+    passed(image::judge_none_or_all(n, count))?;
+    let (places, rest) = cut_off(count, 8, items)?;
+    judge_places(count, places.items)?;
+    Ok((places, rest))
 }
 
 // The bands of a job with so many places.
-pub(super) fn in_bands(before: u8, image: &[u8], at: usize, places: usize) -> u8
-    requires { before ≡ 0 → at ≤ length image.now }
-    ensures { result ≡ then before (in_bands places (drop at image.now)) }
+#[tactic(auto, unfolding(image::specs::Image::in_bands))]
+pub(super) fn in_bands(places: usize, left: &[u8]) -> Result<(Section<'_>, &[u8]), u8>
+    ensures decides { Decides result (in_bands places left.now) }
+    ensures taken { IfOk result (λ p. Held 4 left.now p.0 × (p.1.now ≡ after 4 left.now)) }
 {
-    let k = words::two_at(image, at) as usize;
-    let counted = image::judge_band_count(places, k);
-    let number = judge_frame(before, image, at, counted, 4, k);
-    if number != 0 {
-        return number;
-    }
-    judge_bands(image, at + 2, k)
+    let (count, items) = count_of(left)?;
+    passed(image::judge_band_count(places, count))?;
+    let (bands, rest) = cut_off(count, 4, items)?;
+    judge_bands(count, bands.items)?;
+    Ok((bands, rest))
 }
 
 // The shuffles of n zones.
-pub(super) fn in_shuffles(before: u8, image: &[u8], at: usize, n: usize) -> u8
-    requires at_in_bounds { before ≡ 0 → at ≤ length image.now }
-    requires le_n { before ≡ 0 → 2 ≤ n }
-    requires n_bound { before ≡ 0 → n ≤ 64 }
-    ensures { result ≡ then before (in_shuffles n (drop at image.now)) }
+#[tactic(auto, unfolding(image::specs::Image::in_shuffles))]
+pub(super) fn in_shuffles(n: usize, left: &[u8]) -> Result<(Section<'_>, &[u8]), u8>
+    requires le_n { 2 ≤ n }
+    requires n_bound { n ≤ 64 }
+    ensures decides { Decides result (in_shuffles n left.now) }
+    ensures taken { IfOk result (λ p. Held n left.now p.0 × (p.1.now ≡ after n left.now)) }
 {
-    let k = words::two_at(image, at) as usize;
-    let counted = image::judge_shuffle_count(k);
-    let number = judge_frame(before, image, at, counted, n, k);
-    if number != 0 {
-        return number;
-    }
-    judge_shuffles(image, at + 2, k, n)
+    let (count, items) = count_of(left)?;
+    passed(image::judge_shuffle_count(count))?;
+    let (shuffles, rest) = cut_off(count, n, items)?;
+    passed(shuffles::judge_shuffles(n, shuffles.items))?;
+    Ok((shuffles, rest))
 }

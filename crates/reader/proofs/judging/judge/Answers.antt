@@ -1,226 +1,273 @@
--- `judge` meets its contract: each section is judged by the number so far and then passed, and its count and place are known where the
--- number is 0. Assumes nothing.
-use mathlib.Core.Path.{refl}
-use mathlib.Core.List.{List, []}
-use Prim.Native.Nat.{ℕ}
+-- `judge` meets its contract: section after section, each judged after those that passed. Assumes nothing.
+use mathlib.Core.Path.{◌≡◌, refl, sym, ap, ◌∙◌}
+use mathlib.Core.List.{List, [], ◌++◌}
+use Prim.Native.Nat.{ℕ, ◌≤◌}
 use native.Mathlib.Omega.{arith}
-use Rattle.image.specs.Image.{count, from_categories, from_joins, from_places, from_bands, from_shuffles, rest, in_values, in_categories, in_joins, in_places, in_bands, in_shuffles}
-use Rattle.reader.proofs.Chain.{Met, Walked, start, walked}
-use Rattle.reader.proofs.Verdict.{Zones, later, rules_1, rules_2, rules_3, rules_4, rules_5, rules_6, values_met, zones, categories_met, joins_met, places_met, bands_met, shuffles_met, summable, judged}
+use lib.ListN.{length}
+use Rattle.std.proofs.lemmas.Grind.{common_steps}
+use Rattle.std.proofs.lemmas.Result.{err_from_is_err_and}
+use Rattle.whole.specs.Rules.{first_broken}
+use Rattle.whole.specs.Table.{table}
+use Rattle.account.specs.Refusals.{sum_rules}
+use Rattle.image.specs.Joins.{weights_of}
+use Rattle.image.specs.Image.{
+  signed_words,
+  count,
+  after,
+  from_categories,
+  from_joins,
+  from_places,
+  from_bands,
+  from_shuffles,
+  rest,
+  in_values,
+  in_categories,
+  in_joins,
+  in_places,
+  in_bands,
+  in_shuffles,
+  at_the_end,
+  image_rules,
+}
+use Rattle.image.proofs.Accepted.{
+  values_numbered,
+  categories_numbered,
+  joins_numbered,
+  in_places_numbered,
+  bands_numbered,
+  shuffles_numbered,
+  after_values,
+  after_categories,
+  after_joins,
+  after_places,
+  after_bands,
+}
+use Rattle.reader.specs.Steps.{Held, Joins, Summable, join_at}
+use Rattle.reader.specs.declared.sections.Section.{Section}
+use Rattle.reader.proofs.Chain.{Left, stopped, passed, zones, summable, trailing, by_sums, laid}
 use Rattle.reader.proofs.judging.judge.Goals as goal
-use Rattle.reader.proofs.judging.judge.Goals.{After-in_bands-b, After-in_categories-c, After-in_joins-j, After-in_places-p, After-in_shuffles-s, After-in_values-v, After-pass-bands, After-pass-categories, After-pass-joins, After-pass-places, After-pass-shuffles, After-pass-values}
+use Rattle.reader.proofs.judging.judge.Goals.{In_ok-values, In_ok-categories, In_ok-joins, In_ok-places, In_ok-bands, In_ok-shuffles}
 
--- ---- the values
-module _ (c : After-in_values-v) where
+-- ---- what is left after each section, and where the next begins
+
+module _ (c : In_ok-values) where
   abbrev image : List ℕ
   image = c.args.image.now
 
-  met_1 : Met image [] (in_values image) 0 c.in_values-v.result 0 4
-  met_1 = values_met image c.in_values-v.result c.in_values-v.ensures
-
-module _ (c : After-pass-values) where
-  abbrev image_1 : List ℕ
-  image_1 = image ((goal.at.After-pass-values c).After-in_values-v)
-
-  walked_1 : Walked image_1 image_1 (from_categories image_1) (rules_1 image_1) 0 c.in_values-v.result 0 4 c.pass-values.result
-  walked_1 = walked (start image_1) 4 (in_values image_1) 4 (λ z. refl) (met_1 ((goal.at.After-pass-values c).After-in_values-v))
-      c.pass-values.ensures
-
-  zones_1 : Zones image_1 c.in_values-v.result c.pass-values.result.count
-  zones_1 = zones image_1 (met_1 ((goal.at.After-pass-values c).After-in_values-v)) walked_1
-
--- ---- the categories
-module _ (c : After-in_categories-c) where
-  abbrev image_2 : List ℕ
-  image_2 = image_1 ((goal.at.After-in_categories-c c).After-pass-values)
-
-  met_2 :
-      Met image_2 (rules_1 image_2) (in_categories (count image_2) (from_categories image_2)) c.in_values-v.result
-      c.in_categories-c.result c.pass-values.result.next 1
-  met_2 = categories_met image_2 (zones_1 ((goal.at.After-in_categories-c c).After-pass-values)) (walked_1 ((goal.at.After-in_categories-c
-      c).After-pass-values)).stage c.in_categories-c.result c.in_categories-c.ensures
-
-module _ (c : After-pass-categories) where
-  abbrev image_3 : List ℕ
-  image_3 = image_2 ((goal.at.After-pass-categories c).After-in_categories-c)
-
-  walked_2 :
-      Walked image_3 (from_categories image_3) (from_joins image_3) (rules_2 image_3) c.in_values-v.result
-      c.in_categories-c.result c.pass-values.result.next 1 c.pass-categories.result
-  walked_2 =
-      walked (walked_1 ((goal.at.After-pass-categories c).After-pass-values)).stage 1 (in_categories (count image_3) (from_categories
-      image_3)) 1 (λ z. refl)
-      (met_2 ((goal.at.After-pass-categories c).After-in_categories-c))
-      c.pass-categories.ensures
-
-  zones_2 : Zones image_3 c.in_categories-c.result c.pass-values.result.count
-  zones_2 = later (zones_1 ((goal.at.After-pass-categories c).After-pass-values)) c.in_categories-c.result walked_2.back
-
--- ---- the joins
-module _ (c : After-in_joins-j) where
-  abbrev image_4 : List ℕ
-  image_4 = image_3 ((goal.at.After-in_joins-j c).After-pass-categories)
-
-  met_3 :
-      Met image_4 (rules_2 image_4) (in_joins (count image_4) (from_joins image_4)) c.in_categories-c.result
-      c.in_joins-j.result c.pass-categories.result.next 3
-  met_3 = joins_met image_4 (zones_2 ((goal.at.After-in_joins-j c).After-pass-categories)) (walked_2 ((goal.at.After-in_joins-j
-      c).After-pass-categories)).stage c.in_joins-j.result c.in_joins-j.ensures
-
-module _ (c : After-pass-joins) where
-  abbrev image_5 : List ℕ
-  image_5 = image_4 ((goal.at.After-pass-joins c).After-in_joins-j)
-
-  walked_3 :
-      Walked image_5 (from_joins image_5) (from_places image_5) (rules_3 image_5) c.in_categories-c.result
-      c.in_joins-j.result c.pass-categories.result.next 3 c.pass-joins.result
-  walked_3 =
-      walked (walked_2 ((goal.at.After-pass-joins c).After-pass-categories)).stage 3 (in_joins (count image_5) (from_joins image_5)) 3 (λ
-      z. refl) (met_3 ((goal.at.After-pass-joins c).After-in_joins-j))
-      c.pass-joins.ensures
-
-  zones_3 : Zones image_5 c.in_joins-j.result c.pass-values.result.count
-  zones_3 = later (zones_2 ((goal.at.After-pass-joins c).After-pass-categories)) c.in_joins-j.result walked_3.back
-
--- ---- the places
-module _ (c : After-in_places-p) where
-  abbrev image_6 : List ℕ
-  image_6 = image_5 ((goal.at.After-in_places-p c).After-pass-joins)
-
-  met_4 :
-      Met image_6 (rules_3 image_6) (in_places (count image_6) (from_places image_6)) c.in_joins-j.result
-      c.in_places-p.result c.pass-joins.result.next 8
-  met_4 = places_met image_6 (zones_3 ((goal.at.After-in_places-p c).After-pass-joins)) (walked_3 ((goal.at.After-in_places-p
-      c).After-pass-joins)).stage c.in_places-p.result c.in_places-p.ensures
-
-module _ (c : After-pass-places) where
-  abbrev image_7 : List ℕ
-  image_7 = image_6 ((goal.at.After-pass-places c).After-in_places-p)
-
-  walked_4 :
-      Walked image_7 (from_places image_7) (from_bands image_7) (rules_4 image_7) c.in_joins-j.result
-      c.in_places-p.result c.pass-joins.result.next 8 c.pass-places.result
-  walked_4 =
-      walked (walked_3 ((goal.at.After-pass-places c).After-pass-joins)).stage 8 (in_places (count image_7) (from_places image_7)) 8 (λ z.
-      refl) (met_4 ((goal.at.After-pass-places c).After-in_places-p))
-      c.pass-places.ensures
-
-  zones_4 : Zones image_7 c.in_places-p.result c.pass-values.result.count
-  zones_4 = later (zones_3 ((goal.at.After-pass-places c).After-pass-joins)) c.in_places-p.result walked_4.back
-
--- ---- the bands
-module _ (c : After-in_bands-b) where
-  abbrev image_8 : List ℕ
-  image_8 = image_7 ((goal.at.After-in_bands-b c).After-pass-places)
-
-  met_5 :
-      Met image_8 (rules_4 image_8) (in_bands (count (from_places image_8)) (from_bands image_8)) c.in_places-p.result
-      c.in_bands-b.result c.pass-places.result.next 4
-  met_5 =
-      let w = walked_4 ((goal.at.After-in_bands-b c).After-pass-places) in
-      bands_met image_8 (λ z. (w.found z).counted) w.stage c.in_bands-b.result c.in_bands-b.ensures
-
-module _ (c : After-pass-bands) where
-  abbrev image_9 : List ℕ
-  image_9 = image_8 ((goal.at.After-pass-bands c).After-in_bands-b)
-
-  walked_5 :
-      Walked image_9 (from_bands image_9) (from_shuffles image_9) (rules_5 image_9) c.in_places-p.result
-      c.in_bands-b.result c.pass-places.result.next 4 c.pass-bands.result
-  walked_5 =
-      walked (walked_4 ((goal.at.After-pass-bands c).After-pass-places)).stage 4 (in_bands (count (from_places image_9)) (from_bands
-      image_9)) 4 (λ z. refl)
-      (met_5 ((goal.at.After-pass-bands c).After-in_bands-b)) c.pass-bands.ensures
-
-  zones_5 :
-      Zones image_9 c.in_bands-b.result c.pass-values.result.count
-  zones_5 = later (zones_4 ((goal.at.After-pass-bands c).After-pass-places)) c.in_bands-b.result walked_5.back
-
--- ---- the shuffles
-module _ (c : After-in_shuffles-s) where
-  abbrev image_10 : List ℕ
-  image_10 = image_9 ((goal.at.After-in_shuffles-s c).After-pass-bands)
-
   abbrev n : ℕ
-  n = c.pass-values.result.count
+  n = c.in_ok-values.values.count
 
-  met_6 :
-      Met image_10 (rules_5 image_10) (in_shuffles (count image_10) (from_shuffles image_10)) c.in_bands-b.result
-      c.in_shuffles-s.result c.pass-bands.result.next n
-  met_6 = shuffles_met image_10 (zones_5 ((goal.at.After-in_shuffles-s c).After-pass-bands)) (walked_5 ((goal.at.After-in_shuffles-s
-      c).After-pass-bands)).stage c.in_shuffles-s.result c.in_shuffles-s.ensures
+  n_is : n ≡ count image
+  n_is = c.in_ok-values.ensures.taken.0.counted
 
-module _ (c : After-pass-shuffles) where
-  abbrev image_11 : List ℕ
-  image_11 = image_10 ((goal.at.After-pass-shuffles c).After-in_shuffles-s)
+  begin_categories : c.in_ok-values.rest.now ≡ from_categories image
+  begin_categories = c.in_ok-values.ensures.taken.1
 
-  walked_6 :
-      Walked image_11 (from_shuffles image_11) (rest image_11) (rules_6 image_11) c.in_bands-b.result
-      c.in_shuffles-s.result c.pass-bands.result.next (n ((goal.at.After-pass-shuffles c).After-in_shuffles-s)) c.pass-shuffles.result
-  walked_6 =
-      walked (walked_5 ((goal.at.After-pass-shuffles c).After-pass-bands)).stage (count image_11) (in_shuffles (count image_11)
-      (from_shuffles image_11)) (n ((goal.at.After-pass-shuffles c).After-in_shuffles-s))
-      (zones_5 ((goal.at.After-pass-shuffles c).After-pass-bands)).counted (met_6 ((goal.at.After-pass-shuffles c).After-in_shuffles-s))
-      c.pass-shuffles.ensures
+  no_values : Left image (in_values image ++ after_values image)
+  unfolding image_rules
+  no_values = record { same = refl }
 
-pub in_values-v-requires : goal.in_values-v-requires
-in_values-v-requires c = λ z. omega arith
+  left_1 : Left image (after_values image)
+  left_1 =
+      passed image (λ _ b. in_values b) 0 image (after_values image) no_values {n = 0} refl refl (values_numbered image)
+      c.in_ok-values.ensures.decides
 
-pub pass-values-requires : goal.pass-values-requires
-pass-values-requires c = (met_1 c).whole
+module _ (c : In_ok-categories) where
+  abbrev to_1 : In_ok-values
+  to_1 = (goal.at.In_ok-categories c).In_ok-values
 
-pub in_categories-c-requires : goal.in_categories-c-requires
-in_categories-c-requires c = (walked_1 c).stage.inside
+  begin_joins : c.in_ok-categories.rest.now ≡ from_joins (image to_1)
+  begin_joins = c.in_ok-categories.ensures.taken.1 ∙ ap (after 1) (begin_categories to_1)
 
-pub pass-categories-requires : goal.pass-categories-requires
-pass-categories-requires c = (met_2 c).whole
+  left_2 : Left (image to_1) (after_categories (image to_1))
+  left_2 =
+      let b = from_categories (image to_1) in
+      passed (image to_1) in_categories (count (image to_1)) b (after_categories (image to_1)) (left_1 to_1) (n_is to_1) (begin_categories to_1)
+      (categories_numbered (count (image to_1)) b) c.in_ok-categories.ensures.decides
 
-pub in_joins-j-requires : goal.in_joins-j-requires
-in_joins-j-requires c = record { at_in_bounds = (walked_2 c).stage.inside; n_bound = (zones_2 c).few }
+module _ (c : In_ok-joins) where
+  abbrev to_2 : In_ok-categories
+  to_2 = (goal.at.In_ok-joins c).In_ok-categories
 
-pub pass-joins-requires : goal.pass-joins-requires
-pass-joins-requires c = (met_3 c).whole
+  begin_places : c.in_ok-joins.rest.now ≡ from_places (image (to_1 to_2))
+  begin_places = c.in_ok-joins.ensures.taken.1 ∙ ap (after 3) (begin_joins to_2)
 
-pub in_places-p-requires : goal.in_places-p-requires
-in_places-p-requires c = record { at_in_bounds = (walked_3 c).stage.inside; n_bound = (zones_3 c).few }
+  left_3 : Left (image (to_1 to_2)) (after_joins (image (to_1 to_2)))
+  left_3 =
+      let i = image (to_1 to_2) in
+      passed i in_joins (count i) (from_joins i) (after_joins i) (left_2 to_2) (n_is (to_1 to_2)) (begin_joins to_2)
+      (joins_numbered (count i) (from_joins i)) c.in_ok-joins.ensures.decides
 
-pub pass-places-requires : goal.pass-places-requires
-pass-places-requires c = (met_4 c).whole
+module _ (c : In_ok-places) where
+  abbrev to_3 : In_ok-joins
+  to_3 = (goal.at.In_ok-places c).In_ok-joins
 
-pub in_bands-b-requires : goal.in_bands-b-requires
-in_bands-b-requires c = (walked_4 c).stage.inside
+  abbrev image_3 : List ℕ
+  image_3 = image (to_1 (to_2 to_3))
 
-pub pass-bands-requires : goal.pass-bands-requires
-pass-bands-requires c = (met_5 c).whole
+  begin_bands : c.in_ok-places.rest.now ≡ from_bands image_3
+  begin_bands = c.in_ok-places.ensures.taken.1 ∙ ap (after 8) (begin_places to_3)
 
-pub in_shuffles-s-requires : goal.in_shuffles-s-requires
-in_shuffles-s-requires c = record { at_in_bounds = (walked_5 c).stage.inside; le_n = (zones_5 c).two; n_bound = (zones_5 c).few }
+  places_is : c.in_ok-places.places.count ≡ count (from_places image_3)
+  places_is = c.in_ok-places.ensures.taken.0.counted ∙ ap count (begin_places to_3)
 
-pub pass-shuffles-requires : goal.pass-shuffles-requires
-pass-shuffles-requires c = (met_6 c).whole
+  left_4 : Left image_3 (after_places image_3)
+  left_4 =
+      passed image_3 in_places (count image_3) (from_places image_3) (after_places image_3) (left_3 to_3) (n_is (to_1 (to_2 to_3)))
+      (begin_places to_3) (in_places_numbered (count image_3) (from_places image_3)) c.in_ok-places.ensures.decides
 
--- the place of the joins lies in the image whether or not there is a number
-pub overflow_add-at_joins : goal.overflow_add-at_joins
-overflow_add-at_joins c =
-    omega (arith, c.pass-categories.ensures.inside, c.well_formed.0)
+module _ (c : In_ok-bands) where
+  abbrev to_4 : In_ok-places
+  to_4 = (goal.at.In_ok-bands c).In_ok-places
 
-pub judge_end-number-requires : goal.judge_end-number-requires
-judge_end-number-requires c =
-    let after_pass_bands = (goal.at.judge_end-number-requires c).After-pass-bands in
-    let after_pass_joins = (goal.at.judge_end-number-requires c).After-pass-joins in
-    λ z.
-    let to_joins = (walked_4 ((goal.at.judge_end-number-requires c).After-pass-places)).back ((walked_5 after_pass_bands).back ((walked_6
-    c).back z)) in
-    let to_values = (walked_2 ((goal.at.judge_end-number-requires c).After-pass-categories)).back ((walked_3 after_pass_joins).back to_joins) in
-    summable (image_11 c) _ _ _ ((met_1 ((goal.at.judge_end-number-requires c).After-in_values-v)).none to_values) ((met_3
-    ((goal.at.judge_end-number-requires c).After-in_joins-j)).none to_joins)
-    ((zones_5 after_pass_bands).counted ((walked_6 c).back z)) ((walked_3 after_pass_joins).found to_joins)
+  begin_shuffles : c.in_ok-bands.rest.now ≡ from_shuffles (image_3 to_4)
+  begin_shuffles = c.in_ok-bands.ensures.taken.1 ∙ ap (after 4) (begin_bands to_4)
 
-pub returns : goal.returns
-returns c =
-    let after_pass_shuffles = (goal.at.returns c).After-pass-shuffles in
-    judged (image_11 after_pass_shuffles) c.judge_end-number.result (walked_1 ((goal.at.returns c).After-pass-values)) (walked_2
-    ((goal.at.returns c).After-pass-categories)) (walked_3 ((goal.at.returns c).After-pass-joins)) (walked_4 ((goal.at.returns
-    c).After-pass-places)) (walked_5 ((goal.at.returns c).After-pass-bands))
-    (walked_6 after_pass_shuffles)
-    c.judge_end-number.ensures
+  left_5 : Left (image_3 to_4) (after_bands (image_3 to_4))
+  left_5 =
+      let i = image_3 to_4 in
+      passed i in_bands (count (from_places i)) (from_bands i) (after_bands i) (left_4 to_4) (places_is to_4) (begin_bands to_4)
+      (bands_numbered (count (from_places i)) (from_bands i)) c.in_ok-bands.ensures.decides
+
+module _ (c : In_ok-shuffles) where
+  abbrev to_5 : In_ok-bands
+  to_5 = (goal.at.In_ok-shuffles c).In_ok-bands
+
+  abbrev first : In_ok-values
+  first = to_1 (to_2 (to_3 (to_4 to_5)))
+
+  abbrev at_joins : In_ok-joins
+  at_joins = to_3 (to_4 to_5)
+
+  begin_end : c.in_ok-shuffles.rest.now ≡ rest (image first)
+  begin_end = c.in_ok-shuffles.ensures.taken.1 ∙ rw (n_is first, begin_shuffles to_5) refl
+
+  left_6 : Left (image first) (at_the_end (image first))
+  left_6 =
+      let i = image first in
+      passed i in_shuffles (count i) (from_shuffles i) (at_the_end i) (left_5 to_5) (n_is first) (begin_shuffles to_5)
+      (shuffles_numbered (count i) (from_shuffles i)) c.in_ok-shuffles.ensures.decides
+
+  values_held : Held 4 (image first) first.in_ok-values.values
+  values_held = first.in_ok-values.ensures.taken.0
+
+  seen : Joins (from_joins (image first)) at_joins.in_ok-joins.joins.now
+  seen = rw (← begin_joins (to_2 at_joins)) at_joins.in_ok-joins.ensures.taken.0
+
+-- ---- a section that is refused
+pub returns-in_err-values-clause-decides : goal.returns-in_err-values-clause-decides
+unfolding image_rules
+returns-in_err-values-clause-decides c =
+    let p = err_from_is_err_and c.from_residual.result c.from_residual.ensures.1 in
+    let i = c.args.image.now in
+    rw (p.1, p.2)
+    (stopped i (λ _ b. in_values b) 0 i (after_values i) (record { same = refl }) {n = 0} refl refl c.in_err-values.ensures.decides)
+
+pub returns-in_err-categories-clause-decides : goal.returns-in_err-categories-clause-decides
+returns-in_err-categories-clause-decides c =
+    let p = err_from_is_err_and c.from_residual-in_err-categories.result c.from_residual-in_err-categories.ensures.1 in
+    let l = (goal.at.returns-in_err-categories-clause-decides c).In_ok-values in
+    rw (p.1, p.2)
+    (stopped (image l) in_categories (count (image l)) _ (after_categories (image l)) (left_1 l) (n_is l) (begin_categories l)
+    c.in_err-categories.ensures.decides)
+
+pub returns-in_err-joins-clause-decides : goal.returns-in_err-joins-clause-decides
+returns-in_err-joins-clause-decides c =
+    let p = err_from_is_err_and c.from_residual-in_err-joins.result c.from_residual-in_err-joins.ensures.1 in
+    let l = (goal.at.returns-in_err-joins-clause-decides c).In_ok-categories in
+    let i = image (to_1 l) in
+    rw (p.1, p.2)
+    (stopped i in_joins (count i) _ (after_joins i) (left_2 l) (n_is (to_1 l)) (begin_joins l) c.in_err-joins.ensures.decides)
+
+pub returns-in_err-places-clause-decides : goal.returns-in_err-places-clause-decides
+returns-in_err-places-clause-decides c =
+    let p = err_from_is_err_and c.from_residual-in_err-places.result c.from_residual-in_err-places.ensures.1 in
+    let l = (goal.at.returns-in_err-places-clause-decides c).In_ok-joins in
+    let i = image (to_1 (to_2 l)) in
+    rw (p.1, p.2)
+    (stopped i in_places (count i) _ (after_places i) (left_3 l) (n_is (to_1 (to_2 l))) (begin_places l) c.in_err-places.ensures.decides)
+
+pub returns-in_err-bands-clause-decides : goal.returns-in_err-bands-clause-decides
+returns-in_err-bands-clause-decides c =
+    let p = err_from_is_err_and c.from_residual-in_err-bands.result c.from_residual-in_err-bands.ensures.1 in
+    let l = (goal.at.returns-in_err-bands-clause-decides c).In_ok-places in
+    let i = image_3 l in
+    rw (p.1, p.2)
+    (stopped i in_bands (count (from_places i)) _ (after_bands i) (left_4 l) (places_is l) (begin_bands l) c.in_err-bands.ensures.decides)
+
+pub returns-in_err-shuffles-clause-decides : goal.returns-in_err-shuffles-clause-decides
+returns-in_err-shuffles-clause-decides c =
+    let p = err_from_is_err_and c.from_residual-in_err-shuffles.result c.from_residual-in_err-shuffles.ensures.1 in
+    let l = (goal.at.returns-in_err-shuffles-clause-decides c).In_ok-bands in
+    let i = image_3 (to_4 l) in
+    rw (p.1, p.2)
+    (stopped i in_shuffles (count i) _ (at_the_end i) (left_5 l) (n_is (to_1 (to_2 (to_3 (to_4 l))))) (begin_shuffles l)
+    c.in_err-shuffles.ensures.decides)
+
+-- ---- the zones are as many as a section that passed has
+pub in_joins-requires : goal.in_joins-requires
+in_joins-requires c =
+    let l = to_1 ((goal.at.in_joins-requires c).In_ok-categories) in
+    (zones (image l) _ [] l.in_ok-values.ensures.taken.0 l.in_ok-values.ensures.decides).1
+
+pub in_places-requires : goal.in_places-requires
+in_places-requires c =
+    let l = to_1 (to_2 ((goal.at.in_places-requires c).In_ok-joins)) in
+    (zones (image l) _ [] l.in_ok-values.ensures.taken.0 l.in_ok-values.ensures.decides).1
+
+pub in_shuffles-requires : goal.in_shuffles-requires
+in_shuffles-requires c =
+    let l = to_1 (to_2 (to_3 (to_4 ((goal.at.in_shuffles-requires c).In_ok-bands)))) in
+    let z = zones (image l) _ [] l.in_ok-values.ensures.taken.0 l.in_ok-values.ensures.decides in record { le_n = z.0; n_bound = z.1 }
+
+-- ---- the end
+module _ (c : In_ok-shuffles) where
+  abbrev i : List ℕ
+  i = image (first c)
+
+  abbrev v : Section
+  v = (first c).in_ok-values.values
+
+  abbrev joins : List (List ℕ)
+  joins = (at_joins c).in_ok-joins.joins.now
+
+  summed : Summable v.count v.items.now joins
+  summed =
+      summable i v joins (values_held c) (first c).in_ok-values.ensures.decides (seen c)
+      (rw (← begin_joins (to_2 (at_joins c))) (at_joins c).in_ok-joins.ensures.decides)
+
+  ended :
+      length c.in_ok-shuffles.rest.now ≡ 0 →
+      first_broken (sum_rules v.count (signed_words v.count v.items.now) (weights_of v.count (table (join_at joins) (length joins))))
+      ≡ first_broken (image_rules i)
+  ended = by_sums i v joins (values_held c) (first c).in_ok-values.ensures.decides (seen c) (left_6 c) _ (begin_end c)
+
+pub returns-then-not-is_empty-clause-decides : goal.returns-then-not-is_empty-clause-decides
+returns-then-not-is_empty-clause-decides c =
+    let l = (goal.at.returns-then-not-is_empty-clause-decides c).In_ok-shuffles in
+    trailing (i l) (v l) (joins l) (values_held l) (first l).in_ok-values.ensures.decides (seen l) (left_6 l) _ (begin_end l)
+    (grind (arith, common_steps))
+
+pub judge_sums-requires : goal.judge_sums-requires
+judge_sums-requires c = summed ((goal.at.judge_sums-requires c).In_ok-shuffles)
+
+pub returns-in_err-judge_sums-clause-decides : goal.returns-in_err-judge_sums-clause-decides
+returns-in_err-judge_sums-clause-decides c =
+    let p = err_from_is_err_and c.from_residual-in_err-judge_sums.result c.from_residual-in_err-judge_sums.ensures.1 in
+    let e = ended ((goal.at.returns-in_err-judge_sums-clause-decides c).In_ok-shuffles) (grind (arith, common_steps)) in
+    rw (p.1, p.2) (c.in_err-judge_sums.ensures.0 ∙ e, c.in_err-judge_sums.ensures.1)
+
+pub returns-clause-decides : goal.returns-clause-decides
+returns-clause-decides c =
+    let e = ended ((goal.at.returns-clause-decides c).In_ok-shuffles) (grind (arith, common_steps)) in
+    sym e ∙ c.in_ok-judge_sums.ensures
+
+pub returns-clause-laid : goal.returns-clause-laid
+returns-clause-laid c =
+    let l = (goal.at.returns-clause-laid c).In_ok-shuffles in
+    let b = to_5 l in
+    let p = to_4 b in
+    let k = to_2 (at_joins l) in
+    laid (i l) _ (values_held l) (rw (← begin_categories (first l)) k.in_ok-categories.ensures.taken.0) (seen l)
+    (rw (← begin_places (at_joins l)) p.in_ok-places.ensures.taken.0) (rw (← begin_bands p) b.in_ok-bands.ensures.taken.0)
+    (rw (← begin_shuffles b, ← n_is (first l)) l.in_ok-shuffles.ensures.taken.0) (returns-clause-decides c)

@@ -1,85 +1,14 @@
--- `in_categories` meets its contract: the frame is judged, then the items. Assumes nothing.
-use mathlib.Core.Path.{◌≡◌, ap, ◌∙◌}
-use mathlib.Core.List.{List, [], ◌∷◌}
-use Prim.Native.Nat.{ℕ, ◌+◌, ◌*◌, ◌≤◌}
-use native.Mathlib.Omega.{arith}
-use borrow.Author.Rules.{rules}
-use lib.ListN.{length, drop}
-use Rattle.whole.specs.Rules.{first_broken}
-use Rattle.image.specs.Image.{count, bytes, none_or_all_rule, category_rules, in_categories}
-use Rattle.image.proofs.Bytes.{count_from}
-use Rattle.reader.proofs.Frame.{Framed, stopped, framed, by_items, whole_there}
-use Rattle.reader.proofs.Parts.{items_from}
+-- `in_categories` meets its contract: its items are judged as they were cut off. Assumes nothing.
+use Rattle.std.proofs.Common.{arith}
+use Rattle.std.proofs.lemmas.Grind.{common_steps}
+use Rattle.image.specs.Image.{in_categories}
+use Rattle.reader.proofs.Items.{categories_held}
 use Rattle.reader.proofs.sections.in_categories.Goals as goal
-use Rattle.reader.proofs.sections.in_categories.Goals.{After-judge_frame-number, Else-number-ne0, Start}
 
--- the bytes from the section on
-abbrev b : Start → List ℕ
-b a = drop a.args.at a.args.image.now
-
--- its count, as it was judged
-module _ (c : After-judge_frame-number) where
-  abbrev start : Start
-  start = ((goal.at.After-judge_frame-number c).Start)
-
-  abbrev k : ℕ
-  k = c.two_at-k.result
-
-  counted : k ≡ count (b start)
-  counted = c.two_at-k.ensures.value ∙ count_from start.args.image.now start.args.at
-
-  judged : c.judge_none_or_all-counted.result ≡ first_broken (none_or_all_rule start.args.n (count (b start)) ∷ [])
-  judged = c.judge_none_or_all-counted.ensures ∙ ap (λ m. first_broken (none_or_all_rule start.args.n m ∷ [])) counted
-
--- where the frame has no number, all of the section is there
-module _ (c : Else-number-ne0) where
-  abbrev j : After-judge_frame-number
-  j = ((goal.at.Else-number-ne0 c).After-judge_frame-number)
-
-  abbrev a : Start
-  a = start j
-
-  passed :
-      Framed a.args.before (1) (none_or_all_rule a.args.n (count (b a))).0 14 [] (b a) j.judge_frame-number.result
-      j.judge_none_or_all-counted.result (k j)
-      j.judge_frame-number.ensures (counted j) (judged j)
-  passed =
-      framed a.args.before (1) (none_or_all_rule a.args.n (count (b a))).0 14 [] (b a) j.judge_frame-number.result
-      j.judge_none_or_all-counted.result (k j)
-      j.judge_frame-number.ensures (counted j) (judged j) c.if-number-ne0.false
-
-  whole : a.args.at + (2 + 1 * k j) ≤ length a.args.image.now
-  whole = whole_there a.args.image.now a.args.at (1) (k j) (a.requires passed.none) passed.whole
-
-pub two_at-k-requires : goal.two_at-k-requires
-two_at-k-requires c = tt
-
-pub overflow_cast-k : goal.overflow_cast-k
-overflow_cast-k c = omega arith
-
-pub judge_none_or_all-counted-requires : goal.judge_none_or_all-counted-requires
-judge_none_or_all-counted-requires c = tt
-
-pub returns-then-number-ne0 : goal.returns-then-number-ne0
+pub returns-in_err-judge_categories-clause-decides : goal.returns-in_err-judge_categories-clause-decides
 unfolding in_categories
-returns-then-number-ne0 c =
-    let after_judge_frame_number = (goal.at.returns-then-number-ne0 c).After-judge_frame-number in
-    let a = start after_judge_frame_number in
-    stopped a.args.before (1) _ 14 _ (b a) _ _ _ c.judge_frame-number.ensures (counted after_judge_frame_number) (judged
-    after_judge_frame_number) c.if-number-ne0.true
+returns-in_err-judge_categories-clause-decides c = grind (arith, common_steps, categories_held)
 
-pub overflow_add-at : goal.overflow_add-at
-overflow_add-at c = omega (arith, whole c)
-
-pub judge_categories-requires : goal.judge_categories-requires
-judge_categories-requires c = omega (arith, whole c)
-
-pub returns : goal.returns
+pub returns-clause-decides : goal.returns-clause-decides
 unfolding in_categories
-returns c =
-    let after_judge_frame_number = (goal.at.returns c).After-judge_frame-number in
-    let a = start after_judge_frame_number in
-    by_items a.args.before (1) _ 14 _ (b a) _ _ _ c.judge_frame-number.ensures (counted after_judge_frame_number) (judged
-    after_judge_frame_number) c.if-number-ne0.false _
-    (c.judge_categories.ensures
-    ∙ items_from (λ m l. first_broken (category_rules (bytes m l))) a.args.image.now a.args.at _ (counted after_judge_frame_number))
+returns-clause-decides c = grind (arith, common_steps, categories_held)

@@ -1,91 +1,14 @@
--- `in_values` meets its contract: the frame is judged, then the items. Assumes nothing.
-use mathlib.Core.Path.{◌≡◌, ap, ◌∙◌}
-use mathlib.Core.List.{List, [], ◌∷◌}
-use Prim.Native.Nat.{ℕ, ◌+◌, ◌*◌, ◌≤◌}
-use native.Mathlib.Omega.{arith}
-use borrow.Author.Rules.{rules}
-use lib.ListN.{length, drop}
-use Rattle.whole.specs.Rules.{first_broken}
-use Rattle.whole.proofs.Rules.{in_range}
-use Rattle.image.specs.Image.{count, signed_words, zone_count_rule, value_rules, in_values}
-use Rattle.image.proofs.Bytes.{count_from}
-use Rattle.image.proofs.Sections.{unbroken}
-use Rattle.reader.proofs.Frame.{Framed, stopped, framed, by_items, whole_there}
-use Rattle.reader.proofs.Parts.{items_from}
+-- `in_values` meets its contract: its items are judged as they were cut off. Assumes nothing.
+use Rattle.std.proofs.Common.{arith}
+use Rattle.std.proofs.lemmas.Grind.{common_steps}
+use Rattle.image.specs.Image.{in_values}
+use Rattle.reader.proofs.Items.{values_held}
 use Rattle.reader.proofs.sections.in_values.Goals as goal
-use Rattle.reader.proofs.sections.in_values.Goals.{After-judge_frame-number, Else-number-ne0, Start}
 
--- the bytes from the section on
-abbrev b : Start → List ℕ
-b a = drop a.args.at a.args.image.now
-
--- its count, as it was judged
-module _ (c : After-judge_frame-number) where
-  abbrev start : Start
-  start = ((goal.at.After-judge_frame-number c).Start)
-
-  abbrev k : ℕ
-  k = c.two_at-k.result
-
-  counted : k ≡ count (b start)
-  counted = c.two_at-k.ensures.value ∙ count_from start.args.image.now start.args.at
-
-  judged : c.judge_zone_count-counted.result ≡ first_broken (zone_count_rule (count (b start)) ∷ [])
-  judged = c.judge_zone_count-counted.ensures ∙ ap (λ m. first_broken (zone_count_rule m ∷ [])) counted
-
--- where the frame has no number, all of the section is there
-module _ (c : Else-number-ne0) where
-  abbrev j : After-judge_frame-number
-  j = ((goal.at.Else-number-ne0 c).After-judge_frame-number)
-
-  abbrev a : Start
-  a = start j
-
-  passed :
-      Framed a.args.before (4) (zone_count_rule (count (b a))).0 0 [] (b a) j.judge_frame-number.result
-      j.judge_zone_count-counted.result (k j)
-      j.judge_frame-number.ensures (counted j) (judged j)
-  passed =
-      framed a.args.before (4) (zone_count_rule (count (b a))).0 0 [] (b a) j.judge_frame-number.result
-      j.judge_zone_count-counted.result (k j)
-      j.judge_frame-number.ensures (counted j) (judged j) c.if-number-ne0.false
-
-  whole : a.args.at + (2 + 4 * k j) ≤ length a.args.image.now
-  whole = whole_there a.args.image.now a.args.at (4) (k j) (a.requires passed.none) passed.whole
-
-pub two_at-k-requires : goal.two_at-k-requires
-two_at-k-requires c = tt
-
-pub overflow_cast-k : goal.overflow_cast-k
-overflow_cast-k c = omega arith
-
-pub judge_zone_count-counted-requires : goal.judge_zone_count-counted-requires
-judge_zone_count-counted-requires c = tt
-
-pub returns-then-number-ne0 : goal.returns-then-number-ne0
+pub returns-in_err-judge_values-clause-decides : goal.returns-in_err-judge_values-clause-decides
 unfolding in_values
-returns-then-number-ne0 c =
-    let after_judge_frame_number = (goal.at.returns-then-number-ne0 c).After-judge_frame-number in
-    let a = start after_judge_frame_number in
-    stopped a.args.before (4) _ 0 _ (b a) _ _ _ c.judge_frame-number.ensures (counted after_judge_frame_number) (judged
-    after_judge_frame_number) c.if-number-ne0.true
+returns-in_err-judge_values-clause-decides c = grind (arith, common_steps, values_held)
 
-pub overflow_add-at : goal.overflow_add-at
-overflow_add-at c = omega (arith, whole c)
-
-pub judge_values-requires : goal.judge_values-requires
-judge_values-requires c = let few = in_range 2 64 (k (j c)) (unbroken _ 0 _ (j c).judge_zone_count-counted.ensures (passed c).allowed) in
-    record {
-      at_in_bounds = omega (arith, whole c);
-      k_bound = few.1;
-    }
-
-pub returns : goal.returns
+pub returns-clause-decides : goal.returns-clause-decides
 unfolding in_values
-returns c =
-    let after_judge_frame_number = (goal.at.returns c).After-judge_frame-number in
-    let a = start after_judge_frame_number in
-    by_items a.args.before (4) _ 0 _ (b a) _ _ _ c.judge_frame-number.ensures (counted after_judge_frame_number) (judged
-    after_judge_frame_number) c.if-number-ne0.false _
-    (c.judge_values.ensures
-    ∙ items_from (λ m l. first_broken (value_rules (signed_words m l))) a.args.image.now a.args.at _ (counted after_judge_frame_number))
+returns-clause-decides c = grind (arith, common_steps, values_held)
