@@ -2,11 +2,11 @@
 use mathlib.Core.Path.{◌≡◌, refl, sym, ap, ◌∙◌}
 use mathlib.Core.Bool.{true, false}
 use mathlib.Core.List.{List, ◌++◌}
-use Prim.Native.Nat.{ℕ, ◌+◌, ◌*◌, ◌≤◌, ◌<◌}
+use Prim.Native.Nat.{ℕ, ◌*◌, ◌≤◌, ◌<◌}
 use native.Mathlib.Omega.{arith}
 use borrow.Author.Tests.{lt-ltb, le-ltb}
 use lib.Dec.{ltb}
-use lib.ListN.{length, take, drop, length-drop}
+use lib.ListN.{length, take, length-drop}
 use lib.Seq.{length-take-le}
 use Rattle.whole.specs.Rules.{Rule, first_broken, in_turn, outside}
 use Rattle.whole.specs.Search.{any_beyond}
@@ -43,11 +43,11 @@ use Rattle.image.specs.Image.{
   at_the_end,
 }
 use Rattle.image.specs.Reader.{counts_in}
-use Rattle.image.proofs.Accepted.{Accepted, accepted, counted}
+use Rattle.image.proofs.Accepted.{accepted, counted}
 use Rattle.image.proofs.Items.{bytes_front}
 use Rattle.image.proofs.Sections as sections
 use Rattle.image.proofs.Sections.{Sound}
-use Rattle.reader.specs.Steps.{Refuses, Joinable, Held, Joins, Summable, Fitting, LaidOut, join_at, job_in, sizes}
+use Rattle.reader.specs.Steps.{Refuses, Held, Joins, Summable, LaidOut, join_at, job_in, sizes}
 use Rattle.reader.specs.declared.judging.Sections.{Sections}
 use Rattle.reader.specs.declared.sections.Section.{Section}
 use Rattle.reader.proofs.Items.{words_front, signed_words_front}

@@ -1,35 +1,21 @@
 -- The items of a section are judged alike as they were cut off and as all that follows its count has them. Assumes nothing.
 use mathlib.Core.Path.{◌≡◌, refl, sym, ap, ◌∙◌}
 use mathlib.Core.List.{List}
-use Prim.Native.Nat.{ℕ, ◌+◌, ◌*◌, ◌≤◌, ◌<◌}
-use native.Mathlib.Nat as N
+use Prim.Native.Nat.{ℕ, ◌+◌, ◌*◌, ◌≤◌}
 use native.Mathlib.Omega.{arith}
 use lib.IntN.{pos}
 use lib.ListN.{length, take}
-use lib.Seq.{get_or-take, length-take-le}
+use lib.Seq.{get_or-take}
 use mir.Syntax.{w32}
 use mir.Val.{to_z}
 use Rattle.whole.specs.Rules.{first_broken}
 use Rattle.whole.specs.Search.{any_beyond, any_above}
-use Rattle.whole.specs.Table.{table}
 use Rattle.whole.proofs.Table.{table_cong, table_length}
 use Rattle.words.specs.Words.{word_at}
 use Rattle.shuffles.specs.Shuffles.{shuffle_refusal}
 use Rattle.places.specs.Places.{places_in_turn}
 use Rattle.places.specs.Bands.{any_misplaced}
-use Rattle.image.specs.Image.{
-  count,
-  items,
-  signed_words,
-  words,
-  bytes,
-  values_in,
-  categories_in,
-  places_in,
-  bands_in,
-  shuffles_in,
-  shuffle_rules,
-}
+use Rattle.image.specs.Image.{count, items, signed_words, words, values_in, categories_in, places_in, bands_in, shuffles_in, shuffle_rules}
 use Rattle.image.proofs.Items.{bytes_front}
 use Rattle.image.proofs.Weights.{shuffles_decide}
 

@@ -1,16 +1,15 @@
 -- The joins of a section are its items, three bytes each. Assumes nothing.
-use mathlib.Core.Path.{◌≡◌, refl, sym, ap, ◌∙◌}
-use mathlib.Core.List.{List, [], ◌++◌}
+use mathlib.Core.Path.{◌≡◌, refl, ap, ◌∙◌}
+use mathlib.Core.List.{List, []}
 use Prim.Native.Nat.{ℕ, zero, suc, ◌+◌, ◌*◌, ◌/◌, ◌≤◌, ◌<◌}
-use native.Mathlib.Nat as N
 use native.Mathlib.Omega.{arith}
 use lib.ListN.{length, take, drop, get_or}
 use lib.Seq.{get_or-take, get_or-drop, drop-drop, length-take-le}
 use Rattle.std.specs.Simd.{first_chunks}
-use Rattle.whole.specs.Rules.{Rule, first_broken, in_turn}
+use Rattle.whole.specs.Rules.{Rule, in_turn}
 use Rattle.whole.specs.Table.{table}
 use Rattle.whole.proofs.Table.{table_cong}
-use Rattle.image.specs.Joins.{Join, not_rising, join_rules}
+use Rattle.image.specs.Joins.{Join, join_rules}
 use Rattle.image.specs.Image.{count, items, join_in}
 use Rattle.reader.specs.Steps.{join_at, Joins}
 

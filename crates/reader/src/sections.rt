@@ -99,7 +99,7 @@ fn judge_bands(count: usize, items: &[u8]) -> Result<(), u8>
 }
 
 // The values, whose section is the first.
-#[tactic(auto, unfolding(image::specs::Image::in_values))]
+#[tactic(auto, using(std::proofs::lemmas::Grind::common_steps, crate::proofs::Items::values_held), unfolding(image::specs::Image::in_values))]
 pub(super) fn in_values(image: &[u8]) -> Result<(Section<'_>, &[u8]), u8>
     ensures decides { Decides result (in_values image.now) }
     ensures taken { IfOk result (λ p. Held 4 image.now p.0 × (p.1.now ≡ after 4 image.now)) }
@@ -112,7 +112,7 @@ pub(super) fn in_values(image: &[u8]) -> Result<(Section<'_>, &[u8]), u8>
 }
 
 // The categories of n zones.
-#[tactic(auto, unfolding(image::specs::Image::in_categories))]
+#[tactic(auto, using(std::proofs::lemmas::Grind::common_steps, crate::proofs::Items::categories_held), unfolding(image::specs::Image::in_categories))]
 pub(super) fn in_categories(n: usize, left: &[u8]) -> Result<(Section<'_>, &[u8]), u8>
     ensures decides { Decides result (in_categories n left.now) }
     ensures taken { IfOk result (λ p. Held 1 left.now p.0 × (p.1.now ≡ after 1 left.now)) }
@@ -140,7 +140,7 @@ pub(super) fn in_joins(n: usize, left: &[u8]) -> Result<(&[[u8; 3]], &[u8]), u8>
 }
 
 // The places of n zones.
-#[tactic(auto, unfolding(image::specs::Image::in_places))]
+#[tactic(auto, using(std::proofs::lemmas::Grind::common_steps, crate::proofs::Items::places_held), unfolding(image::specs::Image::in_places))]
 pub(super) fn in_places(n: usize, left: &[u8]) -> Result<(Section<'_>, &[u8]), u8>
     requires { n ≤ 64 }
     ensures decides { Decides result (in_places n left.now) }
@@ -154,7 +154,7 @@ pub(super) fn in_places(n: usize, left: &[u8]) -> Result<(Section<'_>, &[u8]), u
 }
 
 // The bands of a job with so many places.
-#[tactic(auto, unfolding(image::specs::Image::in_bands))]
+#[tactic(auto, using(std::proofs::lemmas::Grind::common_steps, crate::proofs::Items::bands_held), unfolding(image::specs::Image::in_bands))]
 pub(super) fn in_bands(places: usize, left: &[u8]) -> Result<(Section<'_>, &[u8]), u8>
     ensures decides { Decides result (in_bands places left.now) }
     ensures taken { IfOk result (λ p. Held 4 left.now p.0 × (p.1.now ≡ after 4 left.now)) }
@@ -167,7 +167,7 @@ pub(super) fn in_bands(places: usize, left: &[u8]) -> Result<(Section<'_>, &[u8]
 }
 
 // The shuffles of n zones.
-#[tactic(auto, unfolding(image::specs::Image::in_shuffles))]
+#[tactic(auto, using(std::proofs::lemmas::Grind::common_steps, crate::proofs::Items::shuffles_held), unfolding(image::specs::Image::in_shuffles))]
 pub(super) fn in_shuffles(n: usize, left: &[u8]) -> Result<(Section<'_>, &[u8]), u8>
     requires le_n { 2 ≤ n }
     requires n_bound { n ≤ 64 }

@@ -1,7 +1,4 @@
 -- `read` meets its contract: the lengths are judged, then the image, and where nothing is refused the job is stored. Assumes nothing.
-use mathlib.Core.Path.{◌≡◌}
-use mathlib.Core.List.{List}
-use Prim.Native.Nat.{ℕ}
 use Rattle.image.specs.Reader.{Buffers, buffers}
 use Rattle.reader.proofs.Answered.{refused_by_length, refused_by_image, taken}
 use Rattle.reader.proofs.read.Goals as goal

@@ -1,6 +1,6 @@
 -- `judge_joins` meets its contract: each join is judged by its place after those that passed. Assumes nothing.
-use mathlib.Core.Path.{◌≡◌, refl, sym, ap}
-use Prim.Native.Nat.{ℕ, ◌+◌, ◌*◌}
+use mathlib.Core.Path.{◌≡◌, refl, sym}
+use Prim.Native.Nat.{ℕ}
 use Rattle.std.proofs.lemmas.Result.{err_from_is_err_and}
 use Rattle.whole.specs.Rules.{first_broken}
 use Rattle.whole.proofs.InTurn.{turn_none, turn_next, turn_found}

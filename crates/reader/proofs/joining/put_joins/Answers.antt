@@ -1,10 +1,9 @@
 -- `put_joins` meets its contract: each join comes after those before it, so that its weight is stored where none was. Assumes nothing.
-use mathlib.Core.Path.{◌≡◌, refl, sym, ap, ◌∙◌}
-use Prim.Native.Nat.{ℕ, ◌+◌, ◌*◌}
+use mathlib.Core.Path.{◌≡◌, refl, ap, ◌∙◌}
+use Prim.Native.Nat.{◌+◌, ◌*◌}
 use native.Mathlib.Omega.{arith}
 use lib.ListN.{length}
 use Rattle.whole.specs.Table.{table}
-use Rattle.whole.proofs.Lists.{few}
 use Rattle.image.proofs.JoinWeight.{place, weights_length}
 use Rattle.image.proofs.Weights.{joins_inside}
 use Rattle.reader.specs.Steps.{join_at}

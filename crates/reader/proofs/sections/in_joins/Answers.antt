@@ -1,9 +1,7 @@
 -- `in_joins` meets its contract: its items are judged as they were cut off, three bytes each. Assumes nothing.
-use Prim.Native.Nat.{◌*◌, ◌≤◌}
-use lib.ListN.{length}
 use Rattle.std.proofs.Common.{arith}
 use Rattle.std.proofs.lemmas.Grind.{common_steps}
-use Rattle.image.specs.Image.{in_joins, count, items}
+use Rattle.image.specs.Image.{in_joins}
 use Rattle.reader.specs.Steps.{Joins}
 use Rattle.reader.proofs.Triples.{joins_seen, joins_judged}
 use Rattle.reader.proofs.sections.in_joins.Goals as goal

@@ -1,12 +1,11 @@
 -- `store` meets its contract: each buffer has room for its section, and each store leaves the job's list over it. Assumes nothing.
-use mathlib.Core.Path.{◌≡◌, refl, sym, ap, ◌∙◌}
-use Prim.Native.Nat.{◌*◌, ◌≤◌}
+use mathlib.Core.Path.{refl}
+use Prim.Native.Nat.{◌*◌}
 use native.Mathlib.Omega.{arith}
 use lib.ListN.{length}
 use mir.Syntax.{w32}
 use mir.Val.{to_z}
 use Rattle.whole.specs.Table.{table}
-use Rattle.whole.proofs.Lists.{few}
 use Rattle.words.specs.Words.{word_at}
 use Rattle.image.specs.Reader.{buffers, filled}
 use Rattle.image.proofs.Buffers.{exact}
