@@ -1,6 +1,5 @@
 -- Laws of the writer, each file named by its subject.
-pub mod SectionPut
-pub mod Bits
+pub mod Behind
 pub mod Joins
 pub mod Parts
 pub mod Lengths

@@ -31,11 +31,11 @@ pub record Tabled (weights : List ℕ) (n : ℕ) : Type 0 where
   pub zones : n ≤ 64
   pub there : length weights ≡ n * n
 
--- the joins of a weight at a place, and their bytes
-abbrev pub one_of : ℕ → ℕ
-one_of zero = 0
-one_of (suc w) = 1
+-- the bytes of a number of one byte
+abbrev pub one_byte : ℕ → List ℕ
+one_byte x = x ∷ []
 
+-- the bytes of the joins of a weight at a place
 abbrev pub bytes_of : ℕ → ℕ → ℕ → List ℕ
 bytes_of from to zero = []
 bytes_of from to (suc w) = from ∷ to ∷ suc w ∷ []
