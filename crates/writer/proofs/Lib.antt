@@ -3,6 +3,6 @@ pub mod Behind
 pub mod Joins
 pub mod Parts
 pub mod Lengths
-pub mod Counts
+pub mod Judged
 pub mod Answered
 pub mod Theorems

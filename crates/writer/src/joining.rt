@@ -3,24 +3,27 @@ ghost use Rattle.std.specs.Prelude.{◌≡◌, ℕ, ◌+◌, ◌*◌, ◌/◌, �
 ghost use Rattle.std.proofs.lemmas.List.Edits.{sets};
 ghost use Rattle.whole.specs.Rules.{first_broken, in_turn};
 ghost use Rattle.whole.specs.Table.{each};
+ghost use Rattle.refusals.specs.Refusals.{number_of};
 ghost use Rattle.image.specs.Joins.{joins_of, weight_rules};
 ghost use Rattle.image.specs.Image.{join_bytes};
 ghost use Rattle.writer.specs.Steps.{Tabled, bytes_of};
 
+use refusals::Refusal;
+
 // The first number of a table of weights, row by row: 5 before 4 at each weight.
-pub(super) fn judge_weights(weights: &[u8], n: usize) -> u8
+pub(super) fn judge_weights(weights: &[u8], n: usize) -> Result<(), Refusal>
     requires { Tabled weights.now n }
-    ensures { result ≡ first_broken (in_turn (weight_rules n weights.now) (n * n)) }
+    ensures { number_of result ≡ first_broken (in_turn (weight_rules n weights.now) (n * n)) }
 {
     for (p, weight) in weights.iter().enumerate() {
         if *weight > 0 && p / n == p % n {
-            return 5;
+            return Err(Refusal::Diagonal);
         }
         if *weight > 9 {
-            return 4;
+            return Err(Refusal::Weight);
         }
     }
-    0
+    Ok(())
 }
 
 // How many joins a table has, of however many zones: one for each weight above 0.
