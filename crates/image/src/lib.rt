@@ -4,7 +4,10 @@
 
 ghost use Rattle.std.specs.Prelude.{◌≡◌, [], ◌∷◌};
 ghost use Rattle.whole.specs.Rules.{first_broken, misfits};
+ghost use Rattle.refusals.specs.Refusals.{number_of};
 ghost use Rattle.image.specs.Image.{zone_count_rule, none_or_all_rule, join_count_rule, band_count_rule, shuffle_count_rule};
+
+use refusals::Refusal;
 
 // The counts that the writer is lent.
 #[derive(Clone, Copy)]
@@ -17,65 +20,53 @@ pub struct Given {
 }
 
 // 1: a count of values outside 2 to 64.
-pub fn judge_zone_count(n: usize) -> u8
-    ensures { result ≡ first_broken (zone_count_rule n ∷ []) }
+pub fn judge_zone_count(n: usize) -> Result<(), Refusal>
+    ensures { number_of result ≡ first_broken (zone_count_rule n ∷ []) }
 {
-    if n < 2 {
-        return 1;
+    if n < 2 || n > 64 {
+        return Err(Refusal::Zones);
     }
-    if n > 64 {
-        return 1;
-    }
-    0
+    Ok(())
 }
 
 // 15: categories or places for some of n zones only.
-pub fn judge_none_or_all(n: usize, k: usize) -> u8
-    ensures { result ≡ first_broken (none_or_all_rule n k ∷ []) }
+pub fn judge_none_or_all(n: usize, k: usize) -> Result<(), Refusal>
+    ensures { number_of result ≡ first_broken (none_or_all_rule n k ∷ []) }
 {
-    if k == 0 {
-        return 0;
+    if k != 0 && k != n {
+        return Err(Refusal::Count);
     }
-    if k == n {
-        return 0;
-    }
-    15
+    Ok(())
 }
 
 // 15: more joins than there can be.
-pub fn judge_join_count(k: usize) -> u8
-    ensures { result ≡ first_broken (join_count_rule k ∷ []) }
+pub fn judge_join_count(k: usize) -> Result<(), Refusal>
+    ensures { number_of result ≡ first_broken (join_count_rule k ∷ []) }
 {
     if k > 4032 {
-        return 15;
+        return Err(Refusal::Count);
     }
-    0
+    Ok(())
 }
 
 // 12: more than 8 bands, or bands without places.
-pub fn judge_band_count(places: usize, k: usize) -> u8
-    ensures { result ≡ first_broken (band_count_rule places k ∷ []) }
+pub fn judge_band_count(places: usize, k: usize) -> Result<(), Refusal>
+    ensures { number_of result ≡ first_broken (band_count_rule places k ∷ []) }
 {
-    if k > 8 {
-        return 12;
+    if k > 8 || (k > 0 && places == 0) {
+        return Err(Refusal::Bands);
     }
-    if k == 0 {
-        return 0;
-    }
-    if places == 0 {
-        return 12;
-    }
-    0
+    Ok(())
 }
 
 // 15: more than 499 shuffles.
-pub fn judge_shuffle_count(k: usize) -> u8
-    ensures { result ≡ first_broken (shuffle_count_rule k ∷ []) }
+pub fn judge_shuffle_count(k: usize) -> Result<(), Refusal>
+    ensures { number_of result ≡ first_broken (shuffle_count_rule k ∷ []) }
 {
     if k > 499 {
-        return 15;
+        return Err(Refusal::Count);
     }
-    0
+    Ok(())
 }
 
 // 2: a buffer not of its exact length.
@@ -86,27 +77,12 @@ pub fn judge_lengths(
     places: usize,
     bands: usize,
     shuffles: usize,
-) -> u8
-    ensures { result ≡ first_broken
+) -> Result<(), Refusal>
+    ensures { number_of result ≡ first_broken
         ((misfits ((values, 64) ∷ (categories, 64) ∷ (weights, 4096) ∷ (places, 128) ∷ (bands, 8) ∷ (shuffles, 31936) ∷ []), 2) ∷ []) }
 {
-    if values != 64 {
-        return 2;
+    if [values, categories, weights, places, bands, shuffles] != [64, 64, 4096, 128, 8, 31936] {
+        return Err(Refusal::Length);
     }
-    if categories != 64 {
-        return 2;
-    }
-    if weights != 4096 {
-        return 2;
-    }
-    if places != 128 {
-        return 2;
-    }
-    if bands != 8 {
-        return 2;
-    }
-    if shuffles != 31936 {
-        return 2;
-    }
-    0
+    Ok(())
 }

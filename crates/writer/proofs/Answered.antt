@@ -1,21 +1,34 @@
--- What the writer answers and leaves, by the number of its judge, who judges all but 19. Assumes nothing.
+-- What the writer answers and leaves, by the refusal of its judge, who judges all but 19. Assumes nothing.
 use mathlib.Core.Path.{◌≡◌, sym, ap, ◌∙◌}
 use mathlib.Core.List.{List, [], ◌∷◌, ◌++◌, append_assoc}
 use Prim.Native.Nat.{ℕ, ◌≤◌, ◌<◌}
 use borrow.Author.Tests.{lt-ltb, le-ltb}
 use lib.Dec.{ltb}
 use lib.ListN.{length}
-use Rattle.whole.specs.Rules.{Rule, first_broken, misfits, outside}
+use Rattle.whole.specs.Rules.{Rule, first_broken, size_rules}
 use Rattle.whole.proofs.InTurn.{Numbered, second_decides, none_of_both, numbered_both}
-use Rattle.whole.proofs.Rules.{holds, in_range, first_here, kept_when_refused, worked_when_taken}
+use Rattle.whole.proofs.Rules.{sizes_hold, worked_when_taken}
 use Rattle.whole.specs.Table.{over}
+use Rattle.refusals.specs.declared.Refusal.{Refusal}
+use Rattle.refusals.specs.Refusals.{number_by}
+use Rattle.refusals.proofs.Refusals.{left_by}
 use Rattle.account.specs.Refusals.{sum_rules}
-use Rattle.image.specs.Image.{Job, zone_count_rule, job_bytes}
+use Rattle.image.specs.Image.{Job, job_bytes}
 use Rattle.image.specs.Reader.{Buffers, buffer_lengths}
 use Rattle.image.specs.Writer.{lent_job, part_rules, write_rules, write_refusal, write_length, write_left}
 use Rattle.image.specs.declared.Given.{Given}
-use Rattle.writer.specs.Steps.{Sized, job_rules}
 use Rattle.image.proofs.Parts.{parts_numbered}
+use Rattle.writer.specs.Steps.{Sized, judged_rules}
+use Rattle.writer.proofs.Judged.{stops}
+
+-- what a refused call answers and leaves, and one that is not refused
+pub record Kept (given : Given) (lent : Buffers) (out : List ℕ) : Type 0 where
+  pub length : [] ≡ write_length given lent (length out)
+  pub left : out ≡ write_left given lent out
+
+pub record Worked (given : Given) (lent : Buffers) (out : List ℕ) : Type 0 where
+  pub length : length (job_bytes given (lent_job given lent)) ∷ [] ≡ write_length given lent (length out)
+  pub left : over (job_bytes given (lent_job given lent)) out ≡ write_left given lent out
 
 module _ (given : Given) (lent : Buffers) where
   abbrev job : Job
@@ -24,58 +37,61 @@ module _ (given : Given) (lent : Buffers) where
   abbrev bytes : List ℕ
   bytes = job_bytes given job
 
+  abbrev parts : List Rule
+  parts = part_rules given job
+
   abbrev sums : List Rule
   sums = sum_rules given.values job.values job.weights
 
-  -- what the judge judges, and 19
-  abbrev pub judged_rules : List Rule
-  judged_rules = zone_count_rule given.values ∷ (misfits (buffer_lengths lent), 2) ∷ job_rules given job
+  abbrev sizes : List Rule
+  sizes = size_rules given.values (buffer_lengths lent)
 
+  -- 19
   abbrev last : ℕ → List Rule
   last room = (ltb room (length bytes), 19) ∷ []
 
-  numbered : Numbered judged_rules
-  numbered = (tt, (tt, numbered_both (part_rules given job) sums (parts_numbered given job) (tt, (tt, tt))))
+  numbered : Numbered (judged_rules given lent)
+  numbered = (tt, (tt, numbered_both parts sums (parts_numbered given job) (tt, (tt, tt))))
 
-  both : (room : ℕ) → write_refusal given lent room ≡ first_broken (judged_rules ++ last room)
+  both : (room : ℕ) → write_refusal given lent room ≡ first_broken (judged_rules given lent ++ last room)
   unfolding write_refusal write_rules
-  both room =
-      ap (λ rules. first_broken (zone_count_rule given.values ∷ (misfits (buffer_lengths lent), 2) ∷ rules))
-      (sym (append_assoc (part_rules given job) sums (last room)))
+  both room = ap (λ rules. first_broken (sizes ++ rules)) (sym (append_assoc parts sums (last room)))
 
-  pub refused : (room r : ℕ) → r ≡ first_broken judged_rules → (r ≡ 0 → ⊥) → r ≡ write_refusal given lent room
-  refused room r e f = first_here (last room) judged_rules r e f ∙ sym (both room)
+  pub refused : (room : ℕ) (e : Refusal) → number_by e ≡ first_broken (judged_rules given lent) → number_by e ≡ write_refusal given lent room
+  refused room e h = stops (judged_rules given lent) (last room) e h ∙ sym (both room)
 
-  module _ (sound : first_broken judged_rules ≡ 0) where
+  module _ (sound : first_broken (judged_rules given lent) ≡ 0) where
     pub no_room : (room : ℕ) → room < length bytes → 19 ≡ write_refusal given lent room
-    no_room room h = sym (both room ∙ second_decides (last room) judged_rules numbered sound ∙ rw (lt-ltb room (length bytes) h))
+    no_room room h =
+        sym (both room ∙ second_decides (last room) (judged_rules given lent) numbered sound ∙ rw (lt-ltb room (length bytes) h))
 
     pub taken : (room : ℕ) → length bytes ≤ room → write_refusal given lent room ≡ 0
-    taken room h = both room ∙ second_decides (last room) judged_rules numbered sound ∙ rw (le-ltb room (length bytes) h)
+    taken room h = both room ∙ second_decides (last room) (judged_rules given lent) numbered sound ∙ rw (le-ltb room (length bytes) h)
 
     -- what the judge has shown
     pub sized : Sized given lent
     sized =
-        let z = holds (outside 2 64 given.values) 0 _ sound in
-        let r = in_range 2 64 given.values z.0 in
-        record { two = r.0; zones = r.1; fits = (holds (misfits (buffer_lengths lent)) 1 _ z.1).0 }
+        let z = sizes_hold given.values (buffer_lengths lent) (none_of_both (parts ++ sums) sizes (tt, (tt, tt)) sound).0 in
+        record { two = z.two; zones = z.zones; fits = z.fitting }
 
-    pub parts_sound : first_broken (part_rules given job) ≡ 0
+    pub parts_sound : first_broken parts ≡ 0
     parts_sound =
-        let z = holds (outside 2 64 given.values) 0 _ sound in
-        let l = holds (misfits (buffer_lengths lent)) 1 _ z.1 in
-        (none_of_both sums (part_rules given job) (parts_numbered given job) l.1).0
+        let z = none_of_both (parts ++ sums) sizes (tt, (tt, tt)) sound in (none_of_both sums parts (parts_numbered given job) z.1).0
 
-  -- what is answered and left where there is a number, and where there is none
   module _ (out : List ℕ) where
     abbrev number : ℕ
     number = write_refusal given lent (length out)
 
-    pub kept : (number ≡ 0 → ⊥) → ([] ≡ write_length given lent (length out)) × (out ≡ write_left given lent out)
+    pub kept : (e : Refusal) → number_by e ≡ number → Kept given lent out
     unfolding write_length write_left
-    kept f = (sym (kept_when_refused number (length bytes ∷ []) [] f), sym (kept_when_refused number (over bytes out) out f))
+    kept e h = record {
+      length = sym (left_by number (length bytes ∷ []) [] e h);
+      left = sym (left_by number (over bytes out) out e h);
+    }
 
-    pub worked :
-        number ≡ 0 → (length bytes ∷ [] ≡ write_length given lent (length out)) × (over bytes out ≡ write_left given lent out)
+    pub worked : number ≡ 0 → Worked given lent out
     unfolding write_length write_left
-    worked e = (sym (worked_when_taken number (length bytes ∷ []) [] e), sym (worked_when_taken number (over bytes out) out e))
+    worked e = record {
+      length = sym (worked_when_taken number (length bytes ∷ []) [] e);
+      left = sym (worked_when_taken number (over bytes out) out e);
+    }

@@ -1,6 +1,6 @@
--- The six sections of an image one after the other: where each begins, and the length of all. Assumes nothing.
+-- The six sections of an image one after the other, and the length of all. Assumes nothing.
 use mathlib.Core.Path.{◌≡◌, refl, sym, ap, ◌∙◌}
-use mathlib.Core.List.{List, ◌++◌}
+use mathlib.Core.List.{List, [], ◌∷◌, ◌++◌}
 use Prim.Native.Nat.{ℕ, ◌+◌, ◌*◌, ◌≤◌}
 use native.Mathlib.Nat as N
 use native.Mathlib.Omega.{arith}
@@ -12,7 +12,7 @@ use Rattle.image.specs.Image.{signed_bytes, join_bytes, section_bytes, job_bytes
 use Rattle.image.specs.Reader.{Buffers}
 use Rattle.image.specs.Writer.{lent_job}
 use Rattle.image.specs.declared.Given.{Given}
-use Rattle.writer.specs.Steps.{Counted, length_with}
+use Rattle.writer.specs.Steps.{Counted, one_byte, length_with}
 use Rattle.whole.proofs.Stores.{each_length}
 use Rattle.writer.proofs.Parts.{Whole, regroup}
 
@@ -21,6 +21,12 @@ pub short : (given : Given) (k : ℕ) → Counted given k → length_with given 
 short given k c =
     let rows : given.shuffles * given.values ≤ 31936 = N.mul-le-mul {n₂ = 499} {m₂ = 64} c.shuffles c.zones in
     omega arith
+
+-- bytes are the bytes of each
+each_byte : (bytes : List ℕ) → each one_byte bytes ≡ bytes
+unfolding each
+each_byte [] = refl
+each_byte (x ∷ bytes) = ap (λ l. x ∷ l) (each_byte bytes)
 
 module _ (given : Given) (lent : Buffers) (k : ℕ) where
   abbrev n : ℕ
@@ -34,7 +40,7 @@ module _ (given : Given) (lent : Buffers) (k : ℕ) where
   values_section = section_bytes n (each signed_bytes (take n lent.values))
 
   abbrev pub categories_section : List ℕ
-  categories_section = section_bytes given.categories (take given.categories lent.categories)
+  categories_section = section_bytes given.categories (each one_byte (take given.categories lent.categories))
 
   abbrev pub joins_section : List ℕ
   joins_section = section_bytes k (each join_bytes joins)
@@ -46,7 +52,7 @@ module _ (given : Given) (lent : Buffers) (k : ℕ) where
   bands_section = section_bytes given.bands (each word_bytes (take given.bands lent.bands))
 
   abbrev pub shuffles_section : List ℕ
-  shuffles_section = section_bytes given.shuffles (take (given.shuffles * n) lent.shuffles)
+  shuffles_section = section_bytes given.shuffles (each one_byte (take (given.shuffles * n) lent.shuffles))
 
   -- those before each
   abbrev pub to_joins : List ℕ
@@ -64,61 +70,48 @@ module _ (given : Given) (lent : Buffers) (k : ℕ) where
   abbrev pub sections : List ℕ
   sections = to_shuffles ++ shuffles_section
 
-  -- where the code puts them
-  abbrev at_categories : ℕ
-  at_categories = 2 + 4 * n
+  -- they grow by their lengths
+  pub record Grown : Type 0 where
+    pub joins : length to_joins ≡ length values_section + length categories_section
+    pub places : length to_places ≡ length to_joins + length joins_section
+    pub bands : length to_bands ≡ length to_places + length places_section
+    pub shuffles : length to_shuffles ≡ length to_bands + length bands_section
+    pub all : length sections ≡ length to_shuffles + length shuffles_section
 
-  abbrev at_joins : ℕ
-  at_joins = at_categories + 2 + given.categories
+  pub grown : Grown
+  grown = record {
+    joins = length-append values_section categories_section;
+    places = length-append to_joins joins_section;
+    bands = length-append to_places places_section;
+    shuffles = length-append to_bands bands_section;
+    all = length-append to_shuffles shuffles_section;
+  }
 
-  abbrev at_places : ℕ
-  at_places = at_joins + 2 + 3 * k
+  -- with a count of joins, categories and shuffles in place of its own
+  abbrev framed : ℕ → List ℕ → List ℕ → List ℕ
+  framed m categories shuffles =
+      values_section
+      ++ (section_bytes given.categories categories
+      ++ (section_bytes m (each join_bytes joins) ++ (places_section ++ (bands_section ++ section_bytes given.shuffles shuffles))))
 
-  abbrev at_bands : ℕ
-  at_bands = at_places + 2 + 4 * (2 * given.places)
+  -- they are the bytes of the job
+  pub all_sections : k ≡ length joins → job_bytes given (lent_job given lent) ≡ sections
+  unfolding job_bytes lent_job
+  all_sections counted =
+      let categories = take given.categories lent.categories in
+      let shuffles = take (given.shuffles * n) lent.shuffles in
+      ap (λ m. framed m categories shuffles) (sym counted)
+      ∙ ap (λ c. framed k c shuffles) (sym (each_byte categories))
+      ∙ ap (framed k (each one_byte categories)) (sym (each_byte shuffles))
+      ∙ regroup values_section categories_section joins_section places_section bands_section shuffles_section
 
-  abbrev at_shuffles : ℕ
-  at_shuffles = at_bands + 2 + 4 * given.bands
-
-  pub record Placed : Type 0 where
-    pub categories : at_categories ≡ 0 + length values_section
-    pub joins : at_joins ≡ 0 + length to_joins
-    pub places : at_places ≡ 0 + length to_places
-    pub bands : at_bands ≡ 0 + length to_bands
-    pub shuffles : at_shuffles ≡ 0 + length to_shuffles
-    pub all : length_with given k ≡ length sections
-
-  module _ (w : Whole given lent k) where
-    pub placed : Placed
-    placed =
-        let v = each_length signed_bytes 4 (λ x. refl) (take n lent.values) ∙ ap (λ m. 4 * m) w.values in
-        let c = w.categories in
-        let j = each_length join_bytes 3 (λ x. refl) joins ∙ ap (λ m. 3 * m) (sym w.joins) in
-        let p = each_length signed_bytes 4 (λ x. refl) (take (2 * given.places) lent.places) ∙ ap (λ m. 4 * m) w.places in
-        let b = each_length word_bytes 4 (λ x. refl) (take given.bands lent.bands) ∙ ap (λ m. 4 * m) w.bands in
-        let s = w.shuffles in
-        let to2 = length-append values_section categories_section in
-        let to3 = length-append to_joins joins_section in
-        let to4 = length-append to_places places_section in
-        let to5 = length-append to_bands bands_section in
-        let to6 = length-append to_shuffles shuffles_section in record {
-          categories = omega arith;
-          joins = omega arith;
-          places = omega arith;
-          bands = omega arith;
-          shuffles = omega arith;
-          all = omega arith;
-        }
-
-    abbrev after_joins : List ℕ
-    after_joins = places_section ++ (bands_section ++ shuffles_section)
-
-    -- they are the bytes of the job
-    pub all_sections : job_bytes given (lent_job given lent) ≡ sections
-    unfolding job_bytes lent_job
-    all_sections =
-        ap (λ m. values_section ++ (categories_section ++ (section_bytes m (each join_bytes joins) ++ after_joins))) (sym w.joins)
-        ∙ regroup values_section categories_section joins_section places_section bands_section shuffles_section
-
-    pub all_length : length (job_bytes given (lent_job given lent)) ≡ length_with given k
-    all_length = ap length all_sections ∙ sym placed.all
+  pub all_length : Whole given lent k → length (job_bytes given (lent_job given lent)) ≡ length_with given k
+  all_length w =
+      let v = each_length signed_bytes 4 (λ x. refl) (take n lent.values) ∙ ap (λ m. 4 * m) w.values in
+      let c = each_length one_byte 1 (λ x. refl) (take given.categories lent.categories) in
+      let j = each_length join_bytes 3 (λ x. refl) joins ∙ ap (λ m. 3 * m) (sym w.joins) in
+      let p = each_length signed_bytes 4 (λ x. refl) (take (2 * given.places) lent.places) ∙ ap (λ m. 4 * m) w.places in
+      let b = each_length word_bytes 4 (λ x. refl) (take given.bands lent.bands) ∙ ap (λ m. 4 * m) w.bands in
+      let s = each_length one_byte 1 (λ x. refl) (take (given.shuffles * n) lent.shuffles) in
+      let g = grown in
+      omega (arith, ap length (all_sections w.joins), w.categories, w.shuffles)

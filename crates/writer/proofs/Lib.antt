@@ -1,9 +1,8 @@
 -- Laws of the writer, each file named by its subject.
-pub mod SectionPut
-pub mod Bits
+pub mod Behind
 pub mod Joins
 pub mod Parts
 pub mod Lengths
-pub mod Counts
+pub mod Judged
 pub mod Answered
 pub mod Theorems

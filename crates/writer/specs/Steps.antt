@@ -1,6 +1,6 @@
 -- What the private functions of the writer promise each other. Assumes nothing.
 use Rattle.std.specs.Prelude.{◌≡◌, false, List, [], ◌∷◌, ◌++◌, ℕ, zero, suc, ◌+◌, ◌*◌, ◌≤◌, length, ℤ}
-use Rattle.whole.specs.Rules.{Rule, first_broken, misfits}
+use Rattle.whole.specs.Rules.{Rule, first_broken, misfits, size_rules}
 use Rattle.whole.specs.Search.{any_beyond, any_above, any_on_diagonal}
 use Rattle.account.specs.Refusals.{sum_rules}
 use Rattle.image.specs.Joins.{joins_of}
@@ -15,15 +15,12 @@ pub record Sized (given : Given) (lent : Buffers) : Type 0 where
   pub zones : given.values ≤ 64
   pub fits : misfits (buffer_lengths lent) ≡ false
 
--- the parts, then 6 and 7
-abbrev pub job_rules : Given → Job → List Rule
-job_rules given job = part_rules given job ++ sum_rules given.values job.values job.weights
-
--- values and weights that break none of 3 to 5
-pub record Summable (n : ℕ) (values : List ℤ) (weights : List ℕ) : Type 0 where
-  pub near : any_beyond 100000 values ≡ false
-  pub light : any_above 9 weights ≡ false
-  pub clear : any_on_diagonal n weights ≡ false
+-- what is judged before the room: 1 and 2, then the parts, then 6 and 7
+abbrev pub judged_rules : Given → Buffers → List Rule
+judged_rules given lent =
+    let job = lent_job given lent in
+    size_rules given.values (buffer_lengths lent)
+    ++ (part_rules given job ++ sum_rules given.values job.values job.weights)
 
 -- a table of n × n weights
 pub record Tabled (weights : List ℕ) (n : ℕ) : Type 0 where
@@ -31,11 +28,11 @@ pub record Tabled (weights : List ℕ) (n : ℕ) : Type 0 where
   pub zones : n ≤ 64
   pub there : length weights ≡ n * n
 
--- the joins of a weight at a place, and their bytes
-abbrev pub one_of : ℕ → ℕ
-one_of zero = 0
-one_of (suc w) = 1
+-- the bytes of a number of one byte
+abbrev pub one_byte : ℕ → List ℕ
+one_byte x = x ∷ []
 
+-- the bytes of the joins of a weight at a place
 abbrev pub bytes_of : ℕ → ℕ → ℕ → List ℕ
 bytes_of from to zero = []
 bytes_of from to (suc w) = from ∷ to ∷ suc w ∷ []

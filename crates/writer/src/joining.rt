@@ -3,52 +3,34 @@ ghost use Rattle.std.specs.Prelude.{◌≡◌, ℕ, ◌+◌, ◌*◌, ◌/◌, �
 ghost use Rattle.std.proofs.lemmas.List.Edits.{sets};
 ghost use Rattle.whole.specs.Rules.{first_broken, in_turn};
 ghost use Rattle.whole.specs.Table.{each};
+ghost use Rattle.refusals.specs.Refusals.{number_of};
 ghost use Rattle.image.specs.Joins.{joins_of, weight_rules};
 ghost use Rattle.image.specs.Image.{join_bytes};
-ghost use Rattle.writer.specs.Steps.{Tabled, one_of, bytes_of};
+ghost use Rattle.writer.specs.Steps.{Tabled, bytes_of};
+
+use refusals::Refusal;
 
 // The first number of a table of weights, row by row: 5 before 4 at each weight.
-pub(super) fn judge_weights(weights: &[u8], n: usize) -> u8
+pub(super) fn judge_weights(weights: &[u8], n: usize) -> Result<(), Refusal>
     requires { Tabled weights.now n }
-    ensures { result ≡ first_broken (in_turn (weight_rules n weights.now) (n * n)) }
+    ensures { number_of result ≡ first_broken (in_turn (weight_rules n weights.now) (n * n)) }
 {
-    let mut p: usize = 0;
-    while p < weights.len() {
-        let weight = weights[p];
-        if weight > 0 {
-            if p / n == p % n {
-                return 5;
-            }
+    for (p, weight) in weights.iter().enumerate() {
+        if *weight > 0 && p / n == p % n {
+            return Err(Refusal::Diagonal);
         }
-        if weight > 9 {
-            return 4;
+        if *weight > 9 {
+            return Err(Refusal::Weight);
         }
-        p += 1;
     }
-    0
+    Ok(())
 }
 
-// One join for a weight above 0.
-fn one(weight: u8) -> usize
-    ensures { (result ≡ one_of weight) × (result ≤ 1) }
-{
-    if weight == 0 {
-        return 0;
-    }
-    1
-}
-
-// How many joins a table has, of however many zones.
+// How many joins a table has, of however many zones: one for each weight above 0.
 pub(super) fn count_joins(weights: &[u8]) -> usize
     ensures { (n : ℕ) → result ≡ length (joins_of n weights.now) }
 {
-    let mut joins: usize = 0;
-    let mut p: usize = 0;
-    while p < weights.len() {
-        joins += one(weights[p]);
-        p += 1;
-    }
-    joins
+    weights.iter().filter(|weight| **weight > 0).count()
 }
 
 // The bytes of the join of a weight above 0; answers the place after them.
@@ -62,29 +44,26 @@ fn put_join(out: &mut [u8], at: usize, from: usize, to: usize, weight: u8) -> us
     if weight == 0 {
         return at;
     }
+    // No From leads here from a usize.
     out[at] = from as u8;
     out[at + 1] = to as u8;
     out[at + 2] = weight;
     at + 3
 }
 
-// The bytes of the joins of a table, row by row.
-pub(super) fn put_joins(out: &mut [u8], at: usize, weights: &[u8], n: usize)
+// The bytes of the joins of a table, row by row; answers the place after them.
+pub(super) fn put_joins(out: &mut [u8], at: usize, weights: &[u8], n: usize) -> usize
     requires tabled { Tabled weights.now n }
     requires weights_in_bounds { at + length (each join_bytes (joins_of n weights.now)) ≤ length out.old }
-    ensures { out.new ≡ sets out.old at (each join_bytes (joins_of n weights.now)) }
+    ensures place { result ≡ at + length (each join_bytes (joins_of n weights.now)) }
+    ensures out_after { out.new ≡ sets out.old at (each join_bytes (joins_of n weights.now)) }
 {
-    let mut place: usize = at;
-    let mut from: usize = 0;
-    let mut to: usize = 0;
-    let mut p: usize = 0;
-    while p < weights.len() {
-        place = put_join(out, place, from, to, weights[p]);
-        to += 1;
-        if to == n {
-            from += 1;
-            to = 0;
+    let mut place = at;
+    for from in 0..n {
+        let row = &weights[from * n..from * n + n];
+        for (to, weight) in row.iter().enumerate() {
+            place = put_join(out, place, from, to, *weight);
         }
-        p += 1;
     }
+    place
 }

@@ -2,56 +2,38 @@
 ghost use Rattle.std.specs.Prelude.{◌≡◌, ◌+◌, ◌*◌, ◌≤◌, ◌<◌, length};
 ghost use Rattle.std.proofs.lemmas.List.Edits.{sets};
 ghost use Rattle.whole.specs.Table.{each, over};
-ghost use Rattle.words.specs.Words.{word_bytes};
 ghost use Rattle.image.specs.Joins.{joins_of};
-ghost use Rattle.image.specs.Image.{signed_bytes, join_bytes, section_bytes, job_bytes};
+ghost use Rattle.image.specs.Image.{join_bytes, section_bytes, job_bytes};
 ghost use Rattle.image.specs.Reader.{buffers};
 ghost use Rattle.image.specs.Writer.{lent_job};
 ghost use Rattle.writer.specs.Steps.{Tabled, Storable, Counted, length_with};
 
+use crate::putting::Number;
 use crate::{joining, putting};
 use image::Given;
 
-// A section of signed numbers.
-fn put_signed_section(out: &mut [u8], at: usize, k: usize, numbers: &[i32])
+// A section of numbers: their count k, then each. Answers the place behind it, as the other that puts one does.
+fn put_section<N: Number>(out: &mut [u8], at: usize, k: usize, numbers: &[N]) -> usize
     requires k_bound { k < 65536 }
-    requires numbers_in_bounds { at + (2 + 4 * length numbers.now) ≤ length out.old }
-    ensures { out.new ≡ sets out.old at (section_bytes k (each signed_bytes numbers.now)) }
+    requires numbers_in_bounds { at + length (section_bytes k (each N.bytes numbers.now)) ≤ length out.old }
+    ensures place { result ≡ at + length (section_bytes k (each N.bytes numbers.now)) }
+    ensures out_after { out.new ≡ sets out.old at (section_bytes k (each N.bytes numbers.now)) }
 {
-    putting::put_count(out, at, k);
-    putting::put_signed(out, at + 2, numbers);
-}
-
-// A section of unsigned numbers.
-fn put_words_section(out: &mut [u8], at: usize, k: usize, numbers: &[u32])
-    requires k_bound { k < 65536 }
-    requires numbers_in_bounds { at + (2 + 4 * length numbers.now) ≤ length out.old }
-    ensures { out.new ≡ sets out.old at (section_bytes k (each word_bytes numbers.now)) }
-{
-    putting::put_count(out, at, k);
-    putting::put_words(out, at + 2, numbers);
-}
-
-// A section of bytes.
-fn put_bytes_section(out: &mut [u8], at: usize, k: usize, numbers: &[u8])
-    requires k_bound { k < 65536 }
-    requires numbers_in_bounds { at + (2 + length numbers.now) ≤ length out.old }
-    ensures { out.new ≡ sets out.old at (section_bytes k numbers.now) }
-{
-    putting::put_count(out, at, k);
-    putting::put_bytes(out, at + 2, numbers);
+    let items = putting::put_count(out, at, k);
+    putting::put_each(out, items, numbers)
 }
 
 // The section of the joins, of which there are k.
-fn put_joins_section(out: &mut [u8], at: usize, k: usize, weights: &[u8], n: usize)
+fn put_joins_section(out: &mut [u8], at: usize, k: usize, weights: &[u8], n: usize) -> usize
     requires tabled { Tabled weights.now n }
     requires k_value { k ≡ length (joins_of n weights.now) }
-    requires k_in_bounds { at + (2 + 3 * k) ≤ length out.old }
-    ensures { out.new
+    requires joins_in_bounds { at + length (section_bytes k (each join_bytes (joins_of n weights.now))) ≤ length out.old }
+    ensures place { result ≡ at + length (section_bytes k (each join_bytes (joins_of n weights.now))) }
+    ensures out_after { out.new
         ≡ sets out.old at (section_bytes k (each join_bytes (joins_of n weights.now))) }
 {
-    putting::put_count(out, at, k);
-    joining::put_joins(out, at + 2, weights, n);
+    let items = putting::put_count(out, at, k);
+    joining::put_joins(out, items, weights, n)
 }
 
 // The length of the image of a job with these counts and so many joins.
@@ -87,25 +69,18 @@ pub(super) fn store(
         places.now bands.now shuffles.now))) out.old }
 {
     let n = given.values;
-    put_signed_section(out, 0, n, &values[..n]);
-    let at_categories = 2 + 4 * n;
-    let categories_end = given.categories;
-    put_bytes_section(
+    let at_categories = put_section(out, 0, n, &values[..n]);
+    let at_joins = put_section(
         out,
         at_categories,
-        categories_end,
-        &categories[..categories_end],
+        given.categories,
+        &categories[..given.categories],
     );
-    let at_joins = at_categories + 2 + categories_end;
     let pairs = n * n;
-    put_joins_section(out, at_joins, joins, &weights[..pairs], n);
-    let at_places = at_joins + 2 + 3 * joins;
+    let at_places = put_joins_section(out, at_joins, joins, &weights[..pairs], n);
     let coordinates = 2 * given.places;
-    put_signed_section(out, at_places, given.places, &places[..coordinates]);
-    let at_bands = at_places + 2 + 4 * coordinates;
-    let bands_end = given.bands;
-    put_words_section(out, at_bands, bands_end, &bands[..bands_end]);
-    let at_shuffles = at_bands + 2 + 4 * bands_end;
+    let at_bands = put_section(out, at_places, given.places, &places[..coordinates]);
+    let at_shuffles = put_section(out, at_bands, given.bands, &bands[..given.bands]);
     let entries = given.shuffles * n;
-    put_bytes_section(out, at_shuffles, given.shuffles, &shuffles[..entries]);
+    put_section(out, at_shuffles, given.shuffles, &shuffles[..entries]);
 }

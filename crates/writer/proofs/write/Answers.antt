@@ -1,22 +1,26 @@
--- `write` meets its contract: the judge's number, or 19 by the job's length, or the job's bytes and their length. Assumes nothing.
+-- `write` meets its contract: the judge's refusal, or 19 by the job's length, or the job's bytes and their length. Assumes nothing.
 use mathlib.Core.Path.{◌≡◌, sym, ap, ◌∙◌}
 use mathlib.Core.List.{List, [], ◌∷◌}
 use Prim.Native.Nat.{ℕ, ◌≤◌, ◌<◌}
 use native.Mathlib.Omega.{arith}
+use borrow.Author.Rules.{rules}
 use lib.ListN.{length}
+use Rattle.std.specs.Prelude.{Err}
 use Rattle.whole.specs.Rules.{first_broken}
 use Rattle.whole.proofs.Lists.{few}
+use Rattle.refusals.specs.declared.Refusal.TheVariants.{Output}
+use Rattle.refusals.specs.Refusals.{number_by, number_of}
 use Rattle.image.specs.Image.{job_bytes}
 use Rattle.image.specs.Reader.{Buffers, buffers}
 use Rattle.image.specs.Writer.{lent_job, part_rules}
 use Rattle.image.specs.declared.Given.{Given}
-use Rattle.writer.specs.Steps.{Sized}
-use Rattle.writer.specs.Answers.{number_of, length_of}
+use Rattle.writer.specs.Steps.{Sized, judged_rules}
+use Rattle.writer.specs.Answers.{length_of}
 use Rattle.writer.proofs.Parts.{Whole, whole, weights_there}
 use Rattle.writer.proofs.Lengths.{all_length}
 use Rattle.writer.proofs.Answered as A
 use Rattle.writer.proofs.write.Goals as goal
-use Rattle.writer.proofs.write.Goals.{Start, Else-number-ne0, After-count_joins-joins, After-image_length-length}
+use Rattle.writer.proofs.write.Goals.{Start, In_ok-judge, After-count_joins-joins, After-image_length-length}
 
 -- what is lent
 module _ (s : Start) where
@@ -31,18 +35,17 @@ module _ (s : Start) where
   abbrev out : List ℕ
   out = s.args.out.now
 
--- the judge has no number
-sound :
-    (c : Else-number-ne0) → let s = (goal.at.Else-number-ne0 c).Start in first_broken (A.judged_rules (given s) (lent s)) ≡ 0
-sound c = sym c.judge-number.ensures ∙ c.if-number-ne0.false
+-- the judge refuses nothing
+sound : (c : In_ok-judge) → let s = (goal.at.In_ok-judge c).Start in first_broken (judged_rules (given s) (lent s)) ≡ 0
+sound c = sym c.in_ok-judge.ensures
 
 -- the joins are counted
 module _ (c : After-count_joins-joins) where
   abbrev s : Start
   s = (goal.at.After-count_joins-joins c).Start
 
-  abbrev passed : Else-number-ne0
-  passed = (goal.at.After-count_joins-joins c).Else-number-ne0
+  abbrev passed : In_ok-judge
+  passed = (goal.at.After-count_joins-joins c).In_ok-judge
 
   sized : Sized (given s) (lent s)
   sized = A.sized (given s) (lent s) (sound passed)
@@ -64,38 +67,39 @@ measured c =
     let counted = parts ((goal.at.After-image_length-length c).After-count_joins-joins) in
     c.image_length-length.ensures ∙ sym (all_length (given s) (lent s) c.count_joins-joins.result counted)
 
-pub returns-then-number-ne0 : goal.returns-then-number-ne0
-unfolding number_of length_of
-returns-then-number-ne0 c =
-    let s = (goal.at.returns-then-number-ne0 c).Start in
-    let number =
-    A.refused (given s) (lent s) (length (out s)) c.judge-number.result c.judge-number.ensures c.if-number-ne0.true in
-    let kept = A.kept (given s) (lent s) (out s) (λ z. c.if-number-ne0.true (number ∙ z)) in
-    record { number = number; length = kept.0; lent = kept.1 }
+pub returns-in_err-judge : goal.returns-in_err-judge
+unfolding length_of
+returns-in_err-judge c =
+    let s = (goal.at.returns-in_err-judge c).Start in
+    let e = c.in_err-judge in
+    let same : c.from_residual.result ≡ Err e.field-0.0 = search rules in
+    let number = A.refused (given s) (lent s) (length (out s)) e.field-0.0 e.ensures in
+    let kept = A.kept (given s) (lent s) (out s) e.field-0.0 number in
+    record { number = ap number_of same ∙ number; length = ap length_of same ∙ kept.length; lent = kept.left }
 
 pub overflow_mul-pairs : goal.overflow_mul-pairs
 overflow_mul-pairs c =
     let s = (goal.at.overflow_mul-pairs c).Start in
-    omega (arith, few (given s).values (A.sized (given s) (lent s) (sound c)).zones)
+    omega (arith, few (given s).values (A.sized (given s) (lent s) (sound ((goal.at.overflow_mul-pairs c).In_ok-judge))).zones)
 
 pub slice_bounds-count_joins-end : goal.slice_bounds-count_joins-end
 slice_bounds-count_joins-end c =
     let s = (goal.at.slice_bounds-count_joins-end c).Start in
-    sym (weights_there (given s) (lent s) (A.sized (given s) (lent s) (sound ((goal.at.slice_bounds-count_joins-end c).Else-number-ne0))))
+    sym (weights_there (given s) (lent s) (A.sized (given s) (lent s) (sound ((goal.at.slice_bounds-count_joins-end c).In_ok-judge))))
 
 pub image_length-length-requires : goal.image_length-length-requires
-image_length-length-requires c = (parts c).counted
+image_length-length-requires c = (parts ((goal.at.image_length-length-requires c).After-count_joins-joins)).counted
 
 pub returns-then-out-length : goal.returns-then-out-length
-unfolding number_of length_of
+unfolding length_of
 returns-then-out-length c =
     let s = (goal.at.returns-then-out-length c).Start in
-    let e = sound ((goal.at.returns-then-out-length c).Else-number-ne0) in
+    let e = sound ((goal.at.returns-then-out-length c).In_ok-judge) in
     let short : length (out s) < length (job_bytes (given s) (lent_job (given s) (lent s))) =
     omega (arith, measured ((goal.at.returns-then-out-length c).After-image_length-length), c.if-out-length.true) in
     let number = A.no_room (given s) (lent s) e (length (out s)) short in
-    let kept = A.kept (given s) (lent s) (out s) (λ z. omega (arith, number ∙ z)) in
-    record { number = number; length = kept.0; lent = kept.1 }
+    let kept = A.kept (given s) (lent s) (out s) Output number in
+    record { number = number; length = kept.length; lent = kept.left }
 
 pub store-requires : goal.store-requires
 unfolding lent_job
@@ -108,15 +112,15 @@ store-requires c =
     }
 
 pub returns : goal.returns
-unfolding number_of length_of
+unfolding length_of
 returns c =
     let s = (goal.at.returns c).Start in
     let measure = measured ((goal.at.returns c).After-image_length-length) in
     let room : length (job_bytes (given s) (lent_job (given s) (lent s))) ≤ length (out s) =
     omega (arith, measure, c.if-out-length.false) in
-    let number = A.taken (given s) (lent s) (sound ((goal.at.returns c).Else-number-ne0)) (length (out s)) room in
+    let number = A.taken (given s) (lent s) (sound ((goal.at.returns c).In_ok-judge)) (length (out s)) room in
     let answer = A.worked (given s) (lent s) (out s) number in record {
       number = sym number;
-      length = ap (λ m. m ∷ []) measure ∙ answer.0;
-      lent = c.store.ensures ∙ answer.1;
+      length = ap (λ m. m ∷ []) measure ∙ answer.length;
+      lent = c.store.ensures ∙ answer.left;
     }

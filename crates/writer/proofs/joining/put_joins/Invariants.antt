@@ -1,17 +1,10 @@
-use mathlib.Core.Path.{◌≡◌}
-use Prim.Native.Nat.{◌+◌, ◌*◌, ◌-◌, ◌≤◌, ◌<◌}
-use lib.ListN.{length}
-use Rattle.whole.proofs.Stores.{Stored}
+use Prim.Native.Nat.{◌+◌, ◌*◌}
+use Rattle.writer.proofs.Behind.{Behind}
 use Rattle.writer.proofs.Joins.{bytes_before}
 use Rattle.writer.proofs.joining.put_joins.Given as goal
 
-abbrev pub invariant-loop-p : goal.invariant-loop-p
-invariant-loop-p l =
-    (l.p ≤ length l.weights)
-    × (l.place ≡ l.at + length (bytes_before l.n l.weights l.p))
-    × Stored l.initial.out l.at (bytes_before l.n l.weights l.p) l.out
-    × (l.from * l.n + l.to ≡ l.p)
-    × (l.to < l.n)
+abbrev pub invariant-loop-from : goal.invariant-loop-from
+invariant-loop-from l = Behind l.fn.out l.at (bytes_before l.n l.weights (l.from * l.n)) l.place l.out
 
-abbrev pub decreases-loop-p : goal.decreases-loop-p
-decreases-loop-p l = length l.weights - l.p
+abbrev pub invariant-loop-to : goal.invariant-loop-to
+invariant-loop-to l = Behind l.fn.out l.at (bytes_before l.n l.weights (l.from * l.n + l.to)) l.place l.out

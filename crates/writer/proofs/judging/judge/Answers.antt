@@ -1,17 +1,21 @@
--- `judge` meets its contract: 1, then 2, then the job, whose judge is asked where both hold. Assumes nothing.
+-- `judge` meets its contract: 1 and 2, then the parts, then 6 and 7, each judged where those before it break no rule. Assumes nothing.
 use mathlib.Core.Path.{◌≡◌, sym, ◌∙◌}
-use mathlib.Core.List.{List, [], ◌∷◌, ◌++◌}
-use Rattle.whole.specs.Rules.{Rule, first_broken, misfits, outside}
-use Rattle.whole.proofs.InTurn.{second_decides}
-use Rattle.whole.proofs.Rules.{first_here, in_range}
-use Rattle.image.specs.Image.{zone_count_rule}
+use mathlib.Core.List.{List, ◌++◌}
+use borrow.Author.Rules.{rules}
+use Rattle.whole.specs.Rules.{Rule, first_broken, size_rules}
+use Rattle.whole.proofs.Rules.{sizes_hold}
+use Rattle.refusals.specs.Refusals.{number_by, number_of}
+use Rattle.account.specs.Refusals.{sum_rules}
+use Rattle.image.specs.Image.{Job}
 use Rattle.image.specs.Reader.{Buffers, buffers, buffer_lengths}
-use Rattle.image.specs.Writer.{lent_job}
+use Rattle.image.specs.Writer.{lent_job, part_rules}
 use Rattle.image.specs.declared.Given.{Given}
-use Rattle.image.proofs.Sections.{unbroken}
-use Rattle.writer.specs.Steps.{job_rules}
+use Rattle.image.proofs.Parts.{parts_numbered}
+use Rattle.writer.specs.Steps.{Sized, judged_rules}
+use Rattle.writer.proofs.Judged.{stops, passes}
+use Rattle.writer.proofs.Parts.{sums_last}
 use Rattle.writer.proofs.judging.judge.Goals as goal
-use Rattle.writer.proofs.judging.judge.Goals.{Start, Else-zones-ne0, Else-lengths-ne0}
+use Rattle.writer.proofs.judging.judge.Goals.{Start, In_ok-judge_lent}
 
 module _ (s : Start) where
   abbrev given : Given
@@ -22,57 +26,40 @@ module _ (s : Start) where
       buffers s.args.values.now s.args.categories.now s.args.weights.now
       s.args.places.now s.args.bands.now s.args.shuffles.now
 
-  -- 1, and 2
-  abbrev first : List Rule
-  first = zone_count_rule given.values ∷ []
+  abbrev job : Job
+  job = lent_job given lent
 
-  abbrev second : List Rule
-  second = (misfits (buffer_lengths lent), 2) ∷ []
+  abbrev sizes : List Rule
+  sizes = size_rules given.values (buffer_lengths lent)
 
-  abbrev third : List Rule
-  third = job_rules given (lent_job given lent)
+  abbrev sums : List Rule
+  sums = sum_rules given.values job.values job.weights
 
--- 1 is judged
-past_zones :
-    (c : Else-zones-ne0) (rest : List Rule) → let s = (goal.at.Else-zones-ne0 c).Start in
-    first_broken (zone_count_rule (given s).values ∷ rest) ≡ first_broken rest
-past_zones c rest =
-    let s = (goal.at.Else-zones-ne0 c).Start in
-    second_decides rest (first s) (tt, tt) (sym c.judge_zone_count-zones.ensures ∙ c.if-zones-ne0.false)
+module _ (c : In_ok-judge_lent) where
+  abbrev s : Start
+  s = (goal.at.In_ok-judge_lent c).Start
 
--- and 2
-past_lengths :
-    (c : Else-lengths-ne0) → let s = (goal.at.Else-lengths-ne0 c).Start in
-    first_broken (second s ++ third s) ≡ first_broken (third s)
-past_lengths c =
-    let s = (goal.at.Else-lengths-ne0 c).Start in
-    second_decides (third s) (second s) (tt, tt) (sym c.judge_lengths-lengths.ensures ∙ c.if-lengths-ne0.false)
+  sized : Sized (given s) (lent s)
+  sized =
+      let z = sizes_hold (given s).values (buffer_lengths (lent s)) (sym c.in_ok-judge_lent.ensures) in
+      record { two = z.two; zones = z.zones; fits = z.fitting }
 
-pub returns-then-zones-ne0 : goal.returns-then-zones-ne0
-returns-then-zones-ne0 c =
-    let s = (goal.at.returns-then-zones-ne0 c).Start in
-    first_here (second s ++ third s) (first s) c.judge_zone_count-zones.result c.judge_zone_count-zones.ensures
-    c.if-zones-ne0.true
+  past_sizes : first_broken (judged_rules (given s) (lent s)) ≡ first_broken (part_rules (given s) (job s) ++ sums s)
+  past_sizes = passes (sizes s) (part_rules (given s) (job s) ++ sums s) (tt, (tt, tt)) c.in_ok-judge_lent.ensures
 
-pub returns-then-lengths-ne0 : goal.returns-then-lengths-ne0
-returns-then-lengths-ne0 c =
-    let s = (goal.at.returns-then-lengths-ne0 c).Start in
-    first_here (third s) (second s) c.judge_lengths-lengths.result c.judge_lengths-lengths.ensures c.if-lengths-ne0.true
-    ∙ sym (past_zones ((goal.at.returns-then-lengths-ne0 c).Else-zones-ne0) (second s ++ third s))
-
-pub judge_job-requires : goal.judge_job-requires
-judge_job-requires c =
-    let s = (goal.at.judge_job-requires c).Start in
-    let n = (given s).values in
-    let zones = unbroken (outside 2 64 n) 0 c.judge_zone_count-zones.result c.judge_zone_count-zones.ensures c.if-zones-ne0.false in
-    let r = in_range 2 64 n zones in record {
-      two = r.0;
-      zones = r.1;
-      fits = unbroken (misfits (buffer_lengths (lent s))) 1 c.judge_lengths-lengths.result c.judge_lengths-lengths.ensures c.if-lengths-ne0.false;
-    }
+pub returns-in_err-judge_parts : goal.returns-in_err-judge_parts
+returns-in_err-judge_parts c =
+    let l = (goal.at.returns-in_err-judge_parts c).In_ok-judge_lent in
+    let e = c.in_err-judge_parts in
+    let same : number_of c.from_residual-in_err-judge_parts.result ≡ number_by e.field-0.0 = search rules in
+    same ∙ stops (part_rules (given (s l)) (job (s l))) (sums (s l)) e.field-0.0 e.ensures ∙ sym (past_sizes l)
 
 pub returns : goal.returns
+unfolding lent_job
 returns c =
-    let s = (goal.at.returns c).Start in
-    let zones = past_zones ((goal.at.returns c).Else-zones-ne0) (second s ++ third s) in
-    c.judge_job.ensures ∙ sym (zones ∙ past_lengths ((goal.at.returns c).Else-lengths-ne0))
+    let l = (goal.at.returns c).In_ok-judge_lent in
+    let parts = part_rules (given (s l)) (job (s l)) in
+    let sound = c.in_ok-judge_parts.ensures in
+    c.judge.ensures
+    ∙ sums_last (given (s l)) (lent (s l)) (sized l) (sym sound)
+    ∙ sym (past_sizes l ∙ passes parts (sums (s l)) (parts_numbered (given (s l)) (job (s l))) sound)

@@ -1,9 +1,0 @@
--- `judge_shuffle_count` meets its contract: the tests on the way to a return fix the rule. Assumes nothing.
-use borrow.Author.Tests.{lt-ltb, le-ltb}
-use Rattle.image.proofs.judge_shuffle_count.Goals as goal
-
-pub returns-then-k-gt499 : goal.returns-then-k-gt499
-returns-then-k-gt499 c = simp (lt-ltb _ _ c.if-k-gt499.true)
-
-pub returns : goal.returns
-returns c = simp (le-ltb _ _ c.if-k-gt499.false)
