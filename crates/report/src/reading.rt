@@ -67,19 +67,6 @@ fn put_text(
     }
 }
 
-// 4,096 places for weights, and 31,936 for shuffles. Only their number is promised, so that the lists stay small in proofs.
-fn weight_room() -> [u8; 4096]
-    ensures { 4096 ≡ length result }
-{
-    [0; 4096]
-}
-
-fn shuffle_room() -> [u8; 31936]
-    ensures { 31936 ≡ length result }
-{
-    [0; 31936]
-}
-
 // The text of an image at the front of a page.
 pub(super) fn put_report(page: &mut [u8], image: &[u8]) -> Answer
     requires { Room page.old 0 16128 }
@@ -87,10 +74,10 @@ pub(super) fn put_report(page: &mut [u8], image: &[u8]) -> Answer
 {
     let mut values: [i32; 64] = [0; 64];
     let mut categories: [u8; 64] = [0; 64];
-    let mut weights = weight_room();
+    let mut weights: [u8; 4096] = rooms::room();
     let mut places: [i32; 128] = [0; 128];
     let mut bands: [u32; 8] = [0; 8];
-    let mut shuffles = shuffle_room();
+    let mut shuffles: [u8; 31936] = rooms::room();
     put_text(
         page,
         image,

@@ -144,13 +144,6 @@ fn put_rank(
     }
 }
 
-// 4,096 places for classes. Only their number is promised, so that the list stays small in proofs.
-fn class_room() -> [u8; 4096]
-    ensures { 4096 ≡ length result }
-{
-    [0; 4096]
-}
-
 // The lines of a job.
 pub(super) fn put_job(
     page: &mut [u8],
@@ -169,7 +162,7 @@ pub(super) fn put_job(
         places.now bands.now shuffles.now)) }
 {
     let pairs = n * n;
-    let mut class_space = class_room();
+    let mut class_space: [u8; 4096] = rooms::room();
     let classes = &mut class_space[..pairs];
     class_pairs(n, places, bands, classes);
     let mut rows: [i64; 27] = [0; 27];

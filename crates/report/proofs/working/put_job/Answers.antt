@@ -21,7 +21,7 @@ use Rattle.report.proofs.Listed.{class_lines_are as class-rows-are}
 use Rattle.report.proofs.JobText.{figures_length, zones_are, sums_within, job_lines_are}
 use Rattle.report.proofs.JobText.{Reports, reports, never_refused, pair_is, sums_are, class_lines_are, job_text_is}
 use Rattle.report.proofs.working.put_job.Goals as goal
-use Rattle.report.proofs.working.put_job.Goals.{After-class_pairs, After-class_room-class_space, After-plain_report-report, In-Reported, Start}
+use Rattle.report.proofs.working.put_job.Goals.{After-class_pairs, After-room-class_space, After-plain_report-report, In-Reported, Start}
 
 -- texts that are the same by their parts
 both_same : {a b a' b' : List ℕ} → a ≡ a' → b ≡ b' → a ++ b ≡ a' ++ b'
@@ -31,25 +31,25 @@ counted_same : (count : ℕ) {a b : List ℕ} → a ≡ b → cond (eqb count 0)
 counted_same count e = ap (cond (eqb count 0) []) e
 
 -- the array has room for the classes of n × n pairs
-module _ (c : After-class_room-class_space) where
+module _ (c : After-room-class_space) where
   abbrev begun : Start
-  begun = ((goal.at.After-class_room-class_space c).Start)
+  begun = ((goal.at.After-room-class_space c).Start)
 
   abbrev zones : ℕ
   zones = begun.args.n
 
-  class_places : zones * zones ≤ length c.class_room-class_space.result
-  class_places = omega (arith, few zones begun.requires.sound_lists.job.zones, c.class_room-class_space.ensures)
+  class_places : zones * zones ≤ length c.room-class_space.result
+  class_places = omega (arith, few zones begun.requires.sound_lists.job.zones, c.room-class_space.ensures.size)
 
 pub slice_bounds-class_space-end : goal.slice_bounds-class_space-end
 slice_bounds-class_space-end c = class_places c
 
 pub slice_bounds-classes-end : goal.slice_bounds-classes-end
-slice_bounds-classes-end c = sym (length-take-le _ _ (class_places ((goal.at.slice_bounds-classes-end c).After-class_room-class_space)))
+slice_bounds-classes-end c = sym (length-take-le _ _ (class_places ((goal.at.slice_bounds-classes-end c).After-room-class_space)))
 
 pub class_pairs-requires : goal.class_pairs-requires
 class_pairs-requires c = record {
-  room_fits = length-take-le _ _ (class_places ((goal.at.class_pairs-requires c).After-class_room-class_space));
+  room_fits = length-take-le _ _ (class_places ((goal.at.class_pairs-requires c).After-room-class_space));
   banded = c.requires.sound_lists.banded;
 }
 
@@ -67,8 +67,8 @@ module _ (c : After-plain_report-report) where
   abbrev pairs_classed : After-class_pairs
   pairs_classed = ((goal.at.After-plain_report-report c).After-class_pairs)
 
-  abbrev rooms : After-class_room-class_space
-  rooms = ((goal.at.After-class_pairs pairs_classed).After-class_room-class_space)
+  abbrev rooms : After-room-class_space
+  rooms = ((goal.at.After-class_pairs pairs_classed).After-room-class_space)
 
   abbrev start : Start
   start = begun rooms
