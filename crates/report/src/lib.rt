@@ -40,6 +40,6 @@ pub fn refusal(number: u8, page: &mut [u8]) -> Answer
     if page.len() != 16384 {
         return Answer::Refused(2);
     }
-    let list = [number as i64];
+    let list = [i64::from(number)];
     Answer::Printed(putting::put_line(page, 0, b"refused", &list))
 }

@@ -13,24 +13,13 @@ use crate::{lines, putting};
 use account::RankAnswer;
 use coefficients::{Pair, Whole};
 
-// Every pair of zones in class 0.
-fn unclass(classes: &mut [u8])
-    ensures { classes.new ≡ table (λ k. 0) (length classes.old) }
-{
-    let mut i: usize = 0;
-    while i < classes.len() {
-        classes[i] = 0;
-        i += 1;
-    }
-}
-
 // Each pair of zones in the class of its band, and in class 0 where there are no bands.
 fn class_pairs(n: usize, places: &[i32], bands: &[u32], classes: &mut [u8])
     requires { Bandable n places.now bands.now (length classes.old) }
     ensures { Classed n places.now bands.now classes.new }
 {
-    unclass(classes);
-    if bands.len() > 0 {
+    classes.fill(0);
+    if !bands.is_empty() {
         places::bands(n, places, bands, classes);
     }
 }
@@ -91,7 +80,7 @@ fn put_pairs(page: &mut [u8], at: usize, n: usize, categories: &[u8], weights: &
     ensures { Put page.old page.new at result 6144
         (where_given categories.now (pair_lines n categories.now weights.now)) }
 {
-    if categories.len() == 0 {
+    if categories.is_empty() {
         return at;
     }
     let mut table: [i64; 64] = [0; 64];
@@ -128,12 +117,13 @@ fn put_rank(
     ensures { Put page.old page.new at result 96
         (where_given shuffles.now (rank_line n values.now weights.now shuffles.now)) }
 {
-    if shuffles.len() == 0 {
+    if shuffles.is_empty() {
         return at;
     }
     match account::rank(n, values, weights, shuffles) {
         RankAnswer::Refused(_) => at,
         RankAnswer::Counted(counts) => {
+            // no From leads here from a usize
             let list = [
                 counts.less as i64,
                 counts.equal as i64,

@@ -7,34 +7,20 @@ use Rattle.report.proofs.Puts.{put_length, put_each_none, put_numbered_next, put
 use Rattle.report.proofs.lines.put_table.Goals as goal
 
 pub loop-r-init : goal.loop-r-init
-loop-r-init c = (omega arith, put_each_none (λ row. each (table_line _ row) (numbered 8)))
+loop-r-init c = put_each_none (λ row. each (table_line _ row) (numbered 8))
 
 pub put_table_row-place-requires : goal.put_table_row-place-requires
 put_table_row-place-requires c = record {
   table_len = c.requires.table_len;
   r_bound = omega arith;
-  room = omega (arith, put_length c.loop-r.invariant.1);
+  room = omega (arith, put_length c.loop-r.invariant);
 }
-
-pub overflow_add-r : goal.overflow_add-r
-overflow_add-r c = omega arith
-
-pub loop-r-smaller : goal.loop-r-smaller
-loop-r-smaller c = omega arith
 
 pub loop-r-preserved : goal.loop-r-preserved
 loop-r-preserved c =
-    let table = c.args.table.now in (
-      omega arith,
-      put_numbered_next (λ row. each (table_line table row) (numbered 8)) {size = 768} 8 c.loop-r.r (omega arith) c.loop-r.invariant.1
-          c.put_table_row-place.ensures,
-    )
-
-pub shape_of-page : goal.shape_of-page
-shape_of-page c = put_length c.loop-r.invariant.1
+    put_numbered_next (λ row. each (table_line c.args.table.now row) (numbered 8)) {size = 768} 8 c.loop-r.r (omega arith)
+    c.loop-r.invariant c.put_table_row-place.ensures
 
 pub returns : goal.returns
 returns c =
-    let l = c.loop-r in
-    let table = c.args.table.now in
-    put_numbered_all (λ row. each (table_line table row) (numbered 8)) 768 8 l.r (omega arith) l.invariant.1
+    put_numbered_all (λ row. each (table_line c.args.table.now row) (numbered 8)) 768 8 c.loop-r.r (omega arith) c.loop-r.invariant

@@ -2,6 +2,7 @@
 use mathlib.Core.Path.{◌≡◌, sym, ◌∙◌}
 use Prim.Native.Nat.{◌+◌, ◌≤◌}
 use native.Mathlib.Omega.{arith}
+use borrow.Author.Rules.{rules}
 use mir.Syntax.{w64}
 use Rattle.whole.proofs.Machine.{fits_le}
 use Rattle.account.specs.Rank.{job_rank, three}
@@ -11,8 +12,8 @@ use Rattle.report.proofs.Puts.{put_none, put_as}
 use Rattle.report.proofs.working.put_rank.Goals as goal
 use Rattle.report.proofs.working.put_rank.Goals.{In-Counted}
 
-pub returns-then-shuffles-eq0 : goal.returns-then-shuffles-eq0
-returns-then-shuffles-eq0 c = put_as put_none (sym (not_given c.args.shuffles.now _ c.if-shuffles-eq0.true))
+pub returns-then-is_empty : goal.returns-then-is_empty
+returns-then-is_empty c = put_as put_none (sym (not_given c.args.shuffles.now _ (search rules)))
 
 -- the counts are the job's
 ranked :
@@ -41,4 +42,4 @@ pub returns-in-Counted : goal.returns-in-Counted
 returns-in-Counted c =
     put_as c.put_line.ensures
     (counted_line _ _ _ _ _ (ranked ((goal.at.returns-in-Counted c).In-Counted))
-    ∙ sym (given c.args.shuffles.now _ c.if-shuffles-eq0.false))
+    ∙ sym (given c.args.shuffles.now _ (search rules)))
