@@ -2,8 +2,7 @@
 use Prim.Native.Nat.{suc, ◌+◌, ◌*◌, ◌<◌}
 use native.Mathlib.Omega.{arith}
 use borrow.Author.Rules.{rules}
-use lib.ListN.{length, get_or, take}
-use lib.IntN.{pos}
+use lib.ListN.{length, take}
 use mir.Syntax.{w64}
 use mir.ValLaws.{to_z-of_z}
 use Rattle.whole.specs.Table.{each}
@@ -29,11 +28,9 @@ turn c =
     let rows = c.args.rows.now in
     let k = c.loop-k.k in
     let class = (nat w64 k 8 (omega arith) tt).same in
-    let weight = to_z-of_z w64 (get_or rows (k * 3) (pos 0)) (search rules) in
-    let cross = to_z-of_z w64 (get_or rows (k * 3 + 1) (pos 0)) (search rules) in
-    let squares = to_z-of_z w64 (get_or rows (k * 3 + 2) (pos 0)) (search rules) in
     let pair = there c.args.pairs k _ _ (known ((goal.at.After-put_pair_line-place c).In-loop-k)) in
-    let put = put_as c.put_pair_line-place.ensures (row_text rows c.args.pairs k class weight cross squares pair) in
+    let put = put_as c.put_pair_line-place.ensures (row_text rows c.args.pairs k class
+    (to_z-of_z w64 _ (search rules)) (to_z-of_z w64 _ (search rules)) (to_z-of_z w64 _ (search rules)) pair) in
     put_numbered_next (row_line _ _) {size = 128} (suc c.args.last) k (omega arith) c.loop-k.invariant put
 
 pub loop-k-init : goal.loop-k-init
