@@ -57,13 +57,12 @@ pub record Within (sums : Sums) : Type 0 where
   pub geary_numerator : nat_abs (pos ((sums.kept - 1) * sums.kept) *ℤ sums.squares) ≤ ratio_limit
   pub geary_divisor : nat_abs ((pos 2 *ℤ sums.weight) *ℤ sums.spread) ≤ ratio_limit
 
--- weights, numerators and figures of n zones, so many of which are kept
-pub record Zoned (n weights many locals figures : ℕ) : Type 0 where
+-- weights and figures of n zones, so many of which are kept
+pub record Zoned (n weights many figures : ℕ) : Type 0 where
   pub least : 2 ≤ n
   pub most : n ≤ 64
   pub weights_fit : weights ≡ n * n
   pub few : many ≤ n
-  pub locals_fit : locals ≡ n
   pub figures_fit : figures ≡ n
 
 -- a local numerator and the bits of a local figure for each zone that is listed

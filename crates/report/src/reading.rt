@@ -34,7 +34,6 @@ fn put_read(
     let in_shuffles = counts.shuffles * n;
     working::put_job(
         page,
-        n,
         &values[..n],
         &categories[..in_categories],
         &weights[..pairs],

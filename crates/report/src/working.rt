@@ -28,19 +28,19 @@ fn class_pairs(n: usize, places: &[i32], bands: &[u32], classes: &mut [u8])
 fn put_hot_list(
     page: &mut [u8],
     at: usize,
-    n: usize,
     weights: &[u8],
     many: usize,
     locals: &[i64],
     figures: &[u64],
     spread: i64,
 ) -> usize
-    requires zoned { Zoned n (length weights.now) many (length locals.now) (length figures.now) }
+    requires zoned { Zoned (length locals.now) (length weights.now) many (length figures.now) }
     requires room { Room page.old at 8192 }
     ensures { Put page.old page.new at result 8192
         (each (zone_line locals.now figures.now spread)
-        (take many (in_order n weights.now locals.now))) }
+        (take many (in_order (length locals.now) weights.now locals.now))) }
 {
+    let n = locals.len();
     let mut space: [u8; 64] = [0; 64];
     hot_list::order(n, weights, locals, &mut space[..n]);
     lines::put_zones(page, at, &space[..many], locals, figures, spread)
@@ -49,7 +49,6 @@ fn put_hot_list(
 // The lines that every report has: those of the whole job, then those of its zones kept.
 fn put_account(
     page: &mut [u8],
-    n: usize,
     weights: &[u8],
     whole: Whole,
     locals: &[i64],
@@ -57,12 +56,12 @@ fn put_account(
 ) -> usize
     requires within { Within whole.sums }
     requires readable_pair { ReadablePair whole.pair }
-    requires zoned { Zoned n (length weights.now) whole.sums.kept (length locals.now) (length figures.now) }
+    requires zoned { Zoned (length locals.now) (length weights.now) whole.sums.kept (length figures.now) }
     requires room { Room page.old 0 8736 }
     ensures { Put page.old page.new 0 result 8736
         ((sum_lines whole.sums ++ ratio_lines whole.sums whole.pair)
         ++ each (zone_line locals.now figures.now whole.sums.spread)
-        (take whole.sums.kept (in_order n weights.now locals.now))) }
+        (take whole.sums.kept (in_order (length locals.now) weights.now locals.now))) }
 {
     let sums = whole.sums;
     let pair = whole.pair;
@@ -70,7 +69,7 @@ fn put_account(
     let many = sums.kept;
     let place = lines::put_sums(page, 0, sums);
     let end = lines::put_ratios(page, place, sums, pair);
-    put_hot_list(page, end, n, weights, many, locals, figures, spread)
+    put_hot_list(page, end, weights, many, locals, figures, spread)
 }
 
 // The pair lines, which need categories.
@@ -104,23 +103,16 @@ fn put_classes(page: &mut [u8], at: usize, rows: &[i64], pairs: [Pair; 9], bands
 }
 
 // The rank line, which needs a shuffle.
-fn put_rank(
-    page: &mut [u8],
-    at: usize,
-    n: usize,
-    values: &[i32],
-    weights: &[u8],
-    shuffles: &[u8],
-) -> usize
-    requires shuffles_value { rank_refusal n values.now weights.now shuffles.now ≡ 0 }
+fn put_rank(page: &mut [u8], at: usize, values: &[i32], weights: &[u8], shuffles: &[u8]) -> usize
+    requires shuffles_value { rank_refusal (length values.now) values.now weights.now shuffles.now ≡ 0 }
     requires room { Room page.old at 96 }
     ensures { Put page.old page.new at result 96
-        (where_given shuffles.now (rank_line n values.now weights.now shuffles.now)) }
+        (where_given shuffles.now (rank_line (length values.now) values.now weights.now shuffles.now)) }
 {
     if shuffles.is_empty() {
         return at;
     }
-    match account::rank(n, values, weights, shuffles) {
+    match account::rank(values.len(), values, weights, shuffles) {
         RankAnswer::Refused(_) => at,
         RankAnswer::Counted(counts) => {
             // no From leads here from a usize
@@ -137,7 +129,6 @@ fn put_rank(
 // The lines of a job.
 pub(super) fn put_job(
     page: &mut [u8],
-    n: usize,
     values: &[i32],
     categories: &[u8],
     weights: &[u8],
@@ -145,12 +136,13 @@ pub(super) fn put_job(
     bands: &[u32],
     shuffles: &[u8],
 ) -> usize
-    requires sound_lists { SoundLists n values.now categories.now weights.now places.now bands.now shuffles.now }
+    requires sound_lists { SoundLists (length values.now) values.now categories.now weights.now places.now bands.now shuffles.now }
     requires room { Room page.old 0 16128 }
     ensures { Put page.old page.new 0 result 16128
-        (job_text n (lists values.now categories.now weights.now
+        (job_text (length values.now) (lists values.now categories.now weights.now
         places.now bands.now shuffles.now)) }
 {
+    let n = values.len();
     let pairs = n * n;
     let mut class_space: [u8; 4096] = rooms::room();
     let classes = &mut class_space[..pairs];
@@ -168,10 +160,10 @@ pub(super) fn put_job(
     match answer {
         coefficients::Answer::Refused(_) => 0,
         coefficients::Answer::Reported(whole) => {
-            let at_pairs = put_account(page, n, weights, whole, locals, figures);
+            let at_pairs = put_account(page, weights, whole, locals, figures);
             let at_classes = put_pairs(page, at_pairs, n, categories, weights);
             let at_rank = put_classes(page, at_classes, &rows, of_classes, bands.len());
-            put_rank(page, at_rank, n, values, weights, shuffles)
+            put_rank(page, at_rank, values, weights, shuffles)
         }
     }
 }

@@ -1,9 +1,11 @@
 -- `put_read` meets its contract. Assumes nothing.
-use mathlib.Core.Path.{sym}
+use mathlib.Core.Path.{◌≡◌, sym}
 use Prim.Native.Nat.{◌*◌}
+use lib.ListN.{length, take}
 use lib.Seq.{length-take-le}
 use Rattle.image.specs.Writer.{lent_job}
 use Rattle.report.proofs.reading.put_read.Goals as goal
+use Rattle.report.proofs.reading.put_read.Goals.{Start}
 
 pub slice_bounds-put_job-end : goal.slice_bounds-put_job-end
 slice_bounds-put_job-end c =
@@ -29,10 +31,17 @@ pub slice_bounds-put_job-end-6 : goal.slice_bounds-put_job-end-6
 slice_bounds-put_job-end-6 c =
     sym (length-take-le (c.args.counts.shuffles * c.args.counts.values) c.args.shuffles.now c.requires.held.shuffles_in)
 
+-- the values that are handed on are as many as the counts say
+many_values : (c : Start) → length (take c.args.counts.values c.args.values.now) ≡ c.args.counts.values
+many_values c = length-take-le c.args.counts.values c.args.values.now c.requires.held.values_in
+
 pub put_job-requires : goal.put_job-requires
 unfolding lent_job
-put_job-requires c = record { sound_lists = c.requires.held.sound; room = c.requires.room }
+put_job-requires c = record {
+  sound_lists = rw (many_values ((goal.at.put_job-requires c).Start)) c.requires.held.sound;
+  room = c.requires.room;
+}
 
 pub returns : goal.returns
 unfolding lent_job
-returns c = c.put_job.ensures
+returns c = rw (many_values ((goal.at.returns c).Start)) at c.put_job.ensures

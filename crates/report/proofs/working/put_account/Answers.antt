@@ -1,7 +1,7 @@
 -- `put_account` meets its contract: the sums, the ratios and the zones are put in turn. Assumes nothing.
 use mathlib.Core.Path.{◌≡◌, ap}
 use native.Mathlib.Omega.{arith}
-use lib.ListN.{take}
+use lib.ListN.{length, take}
 use mir.Syntax.{w64}
 use mir.ValLaws.{to_z-of_z}
 use Rattle.whole.specs.Table.{each}
@@ -39,6 +39,6 @@ returns c =
     let zones =
     put_as c.put_hot_list.ensures
     (ap (λ m. each (zone_line a.locals.now a.figures.now m)
-    (take a.whole.sums.kept (in_order a.n a.weights.now a.locals.now)))
+    (take a.whole.sums.kept (in_order (length a.locals.now) a.weights.now a.locals.now)))
     spread_read) in
     put_then (put_then c.put_sums-place.ensures c.put_ratios-end.ensures) zones

@@ -73,7 +73,7 @@ module _ (c : After-order) where
   s = ((goal.at.After-order c).Start)
 
   abbrev n : ℕ
-  n = s.args.n
+  n = length s.args.locals.now
 
   abbrev weights : List ℕ
   weights = s.args.weights.now
@@ -90,7 +90,7 @@ module _ (c : After-order) where
       let z = s.requires.zoned in
       c.order.ensures.lent
       ∙ worked_when_taken _ _ _
-      (order_taken n _ _ _ z.least z.most z.weights_fit z.locals_fit (length-take-le _ _ z.most))
+      (order_taken n _ _ _ z.least z.most z.weights_fit refl (length-take-le _ _ z.most))
 
 pub slice_bounds-space-end-2 : goal.slice_bounds-space-end-2
 slice_bounds-space-end-2 c =
@@ -109,7 +109,7 @@ put_zones-requires c =
     let after_order = (goal.at.put_zones-requires c).After-order in
     let z = (s after_order).requires.zoned in record {
       listed = listed (n after_order) (weights after_order) (locals after_order) _ z.few (zones after_order) _ (zones_left after_order)
-          z.locals_fit z.figures_fit;
+          refl z.figures_fit;
       room = room (n after_order) (weights after_order) (locals after_order) _ z.few (zones after_order) _ (zones_left after_order) _ _
           z.most (omega (arith, (s after_order).requires.room));
     }

@@ -36,7 +36,7 @@ module _ (c : After-room-class_space) where
   begun = ((goal.at.After-room-class_space c).Start)
 
   abbrev zones : ℕ
-  zones = begun.args.n
+  zones = length begun.args.values.now
 
   class_places : zones * zones ≤ length c.room-class_space.result
   class_places = omega (arith, few zones begun.requires.sound_lists.job.zones, c.room-class_space.ensures.size)
@@ -74,7 +74,7 @@ module _ (c : After-plain_report-report) where
   start = begun rooms
 
   abbrev n : ℕ
-  n = start.args.n
+  n = length start.args.values.now
 
   abbrev values : List ℤ
   values = start.args.values.now
@@ -115,16 +115,15 @@ pub put_account-at_pairs-requires : goal.put_account-at_pairs-requires
 put_account-at_pairs-requires c =
     let w = (goal.at.put_account-at_pairs-requires c).In-Reported in
     let b = answered w in
-    let zones = job_locals_length (n b) (values b) (weights b) in record {
+    let locals_fit = ap length (said b).in_locals ∙ job_locals_length (n b) (values b) (weights b) in record {
       within = sums_within (n b) (values b) (weights b) (sound b) _ (sums_known w);
       readable_pair = job_readable (n b) (values b) (weights b) _ (pair_known w);
       zoned = record {
-        least = (sound b).two;
-        most = (sound b).zones;
-        weights_fit = (sound b).weights_fit;
-        few = omega (arith, kept_in (n b) (values b) (weights b) _ (sums_known w), kept_most (n b) (values b) (weights b));
-        locals_fit = ap length (said b).in_locals ∙ zones;
-        figures_fit = ap length (said b).of_zones ∙ figures_length (n b) (values b) (weights b) ∙ zones;
+        least = omega (arith, (sound b).two, locals_fit);
+        most = omega (arith, (sound b).zones, locals_fit);
+        weights_fit = (sound b).weights_fit ∙ ap (λ m. m * m) (sym locals_fit);
+        few = omega (arith, kept_in (n b) (values b) (weights b) _ (sums_known w), kept_most (n b) (values b) (weights b), locals_fit);
+        figures_fit = ap length (said b).of_zones ∙ figures_length (n b) (values b) (weights b) ∙ ap length (sym (said b).in_locals);
       };
       room = omega (arith, c.requires.room);
     }

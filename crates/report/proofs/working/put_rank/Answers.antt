@@ -3,6 +3,7 @@ use mathlib.Core.Path.{◌≡◌, sym, ◌∙◌}
 use Prim.Native.Nat.{◌+◌, ◌≤◌}
 use native.Mathlib.Omega.{arith}
 use borrow.Author.Rules.{rules}
+use lib.ListN.{length}
 use mir.Syntax.{w64}
 use Rattle.whole.proofs.Machine.{fits_le}
 use Rattle.account.specs.Rank.{job_rank, three}
@@ -19,7 +20,7 @@ returns-then-is_empty c = put_as put_none (sym (not_given c.args.shuffles.now _ 
 ranked :
     (c : In-Counted) →
     let a = c.args in
-    three c.in-Counted.counts ≡ job_rank a.n a.values.now a.weights.now a.shuffles.now
+    three c.in-Counted.counts ≡ job_rank (length a.values.now) a.values.now a.weights.now a.shuffles.now
 ranked c = ranked_counts _ _ _ _ c.requires.shuffles_value _ c.rank.ensures.counts _ c.in-Counted.is
 
 few : (c : In-Counted) → let t = c.in-Counted.counts in t.less + t.equal + t.greater ≤ 499
