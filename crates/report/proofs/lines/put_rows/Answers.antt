@@ -10,7 +10,7 @@ use Rattle.whole.proofs.Machine.{nat}
 use Rattle.coefficients.specs.FloatReport.{no_pair}
 use Rattle.report.specs.Steps.{Put, row_line}
 use Rattle.report.specs.Text.{numbered}
-use Rattle.report.proofs.Puts.{put_length, put_as, put_each_none, put_numbered_next, put_numbered_all}
+use Rattle.report.proofs.Puts.{put_as, put_each_none, put_numbered_next, put_numbered_all}
 use Rattle.report.proofs.LineLaws.{there, row_text}
 use Rattle.report.proofs.lines.put_rows.Goals as goal
 use Rattle.report.proofs.lines.put_rows.Goals.{In-loop-k, After-put_pair_line-place}
@@ -36,14 +36,10 @@ turn c =
 pub loop-k-init : goal.loop-k-init
 loop-k-init c = put_each_none (row_line _ _)
 
-pub put_pair_line-place-requires : goal.put_pair_line-place-requires
-put_pair_line-place-requires c =
-    let in_loop_k = (goal.at.put_pair_line-place-requires c).In-loop-k in
-    let k = c.loop-k.k in record {
-      short = record { letters = omega arith; items = omega arith };
-      readable_pair = rw (there c.args.pairs k _ no_pair (known in_loop_k)) (c.requires.readable_pairs k (known in_loop_k));
-      room = omega (arith, put_length c.loop-k.invariant);
-    }
+pub put_pair_line-place-requires-clause-readable_pair : goal.put_pair_line-place-requires-clause-readable_pair
+put_pair_line-place-requires-clause-readable_pair c =
+    let inside = known ((goal.at.put_pair_line-place-requires-clause-readable_pair c).In-loop-k) in
+    rw (there c.args.pairs c.loop-k.k _ no_pair inside) (c.requires.readable_pairs c.loop-k.k inside)
 
 pub loop-k-preserved : goal.loop-k-preserved
 loop-k-preserved c = turn ((goal.at.loop-k-preserved c).After-put_pair_line-place)

@@ -3,18 +3,11 @@ use native.Mathlib.Omega.{arith}
 use Rattle.whole.specs.Table.{each}
 use Rattle.report.specs.Steps.{table_line}
 use Rattle.report.specs.Text.{numbered}
-use Rattle.report.proofs.Puts.{put_length, put_each_none, put_numbered_next, put_numbered_all}
+use Rattle.report.proofs.Puts.{put_each_none, put_numbered_next, put_numbered_all}
 use Rattle.report.proofs.lines.put_table.Goals as goal
 
 pub loop-r-init : goal.loop-r-init
 loop-r-init c = put_each_none (λ row. each (table_line _ row) (numbered 8))
-
-pub put_table_row-place-requires : goal.put_table_row-place-requires
-put_table_row-place-requires c = record {
-  table_len = c.requires.table_len;
-  r_bound = omega arith;
-  room = omega (arith, put_length c.loop-r.invariant);
-}
 
 pub loop-r-preserved : goal.loop-r-preserved
 loop-r-preserved c =

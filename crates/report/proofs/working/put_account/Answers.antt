@@ -1,6 +1,5 @@
 -- `put_account` meets its contract: the sums, the ratios and the zones are put in turn. Assumes nothing.
 use mathlib.Core.Path.{◌≡◌, ap}
-use native.Mathlib.Omega.{arith}
 use lib.ListN.{length, take}
 use mir.Syntax.{w64}
 use mir.ValLaws.{to_z-of_z}
@@ -8,28 +7,9 @@ use Rattle.whole.specs.Table.{each}
 use Rattle.whole.proofs.Machine.{r64}
 use Rattle.hot_list.specs.HotList.{in_order}
 use Rattle.report.specs.Steps.{zone_line}
-use Rattle.report.proofs.Puts.{put_length, put_as, put_then}
+use Rattle.report.proofs.Puts.{put_as, put_then}
 use borrow.Author.Rules.{rules}
 use Rattle.report.proofs.working.put_account.Goals as goal
-
-pub put_sums-place-requires : goal.put_sums-place-requires
-put_sums-place-requires c = record { kept_bound = c.requires.within.zones; room = omega (arith, c.requires.room) }
-
-pub put_ratios-end-requires : goal.put_ratios-end-requires
-put_ratios-end-requires c =
-    let put = c.put_sums-place.ensures in record {
-      within = c.requires.within;
-      readable_pair = c.requires.readable_pair;
-      room = omega (arith, put_length put, put.few, c.requires.room);
-    }
-
-pub put_hot_list-requires : goal.put_hot_list-requires
-put_hot_list-requires c =
-    let first = c.put_sums-place.ensures in
-    let second = c.put_ratios-end.ensures in record {
-      zoned = c.requires.zoned;
-      room = omega (arith, put_length first, first.few, put_length second, second.few, c.requires.room);
-    }
 
 -- the spread that is read is the one that was lent
 pub returns : goal.returns

@@ -3,12 +3,9 @@ use mathlib.Core.Path.{◌≡◌, sym, ◌∙◌}
 use borrow.Author.Rules.{rules}
 use lib.ListN.{length}
 use Rattle.joins.proofs.Theorems.{table_left}
-use Rattle.report.proofs.Listed.{not_given, given, joined_lines}
-use Rattle.report.proofs.Puts.{put_none, put_as}
+use Rattle.report.proofs.Listed.{given, joined_lines}
+use Rattle.report.proofs.Puts.{put_as}
 use Rattle.report.proofs.working.put_pairs.Goals as goal
-
-pub returns-then-is_empty : goal.returns-then-is_empty
-returns-then-is_empty c = put_as put_none (sym (not_given c.args.categories.now _ (search rules)))
 
 pub returns : goal.returns
 returns c =

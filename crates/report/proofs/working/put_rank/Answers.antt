@@ -8,13 +8,10 @@ use mir.Syntax.{w64}
 use Rattle.whole.proofs.Machine.{fits_le}
 use Rattle.account.specs.Rank.{job_rank, three}
 use Rattle.account.proofs.RankTheorems.{ranked_counts, never_refused}
-use Rattle.report.proofs.Listed.{not_given, given, few_counted, counted_line}
-use Rattle.report.proofs.Puts.{put_none, put_as}
+use Rattle.report.proofs.Listed.{given, few_counted, counted_line}
+use Rattle.report.proofs.Puts.{put_as}
 use Rattle.report.proofs.working.put_rank.Goals as goal
 use Rattle.report.proofs.working.put_rank.Goals.{In-Counted}
-
-pub returns-then-is_empty : goal.returns-then-is_empty
-returns-then-is_empty c = put_as put_none (sym (not_given c.args.shuffles.now _ (search rules)))
 
 -- the counts are the job's
 ranked :
