@@ -5,8 +5,9 @@ ghost use Rattle.image.specs.Writer.{lent_job};
 ghost use Rattle.report.specs.Text.{job_text};
 ghost use Rattle.report.specs.Steps.{Put, Room, Exact, Held, given_of, Prints};
 
-use crate::{Answer, working};
+use crate::working;
 use reader::Counts;
+use refusals::Refusal;
 
 // The lines of the job in the buffers: the first entries of each, as many as the counts say.
 fn put_read(
@@ -53,21 +54,19 @@ fn put_text(
     places: &mut [i32],
     bands: &mut [u32],
     shuffles: &mut [u8],
-) -> Answer
+) -> Result<usize, Refusal>
     requires exact { Exact (buffers values.old categories.old weights.old places.old bands.old shuffles.old) }
     requires room { Room page.old 0 16128 }
     ensures { Prints image.now page.old page.new result }
 {
-    match reader::read(image, values, categories, weights, places, bands, shuffles) {
-        reader::Answer::Refused(number) => Answer::Refused(number),
-        reader::Answer::Read(counts) => Answer::Printed(put_read(
-            page, counts, values, categories, weights, places, bands, shuffles,
-        )),
-    }
+    let counts = reader::read(image, values, categories, weights, places, bands, shuffles)?;
+    Ok(put_read(
+        page, counts, values, categories, weights, places, bands, shuffles,
+    ))
 }
 
 // The text of an image at the front of a page.
-pub(super) fn put_report(page: &mut [u8], image: &[u8]) -> Answer
+pub(super) fn put_report(page: &mut [u8], image: &[u8]) -> Result<usize, Refusal>
     requires { Room page.old 0 16128 }
     ensures { Prints image.now page.old page.new result }
 {

@@ -1,5 +1,4 @@
-// The calls on a job, and its lines from what they answer. No call refuses the job of an accepted image, so that no arm for a refusal can
-// be reached.
+// The calls on a job, and its lines from what they answer. No call refuses the job of an accepted image, so that each answer is unwrapped.
 ghost use Rattle.std.specs.Prelude.{◌≡◌, cond, [], ◌++◌, suc, ◌≤◌, eqb, length, take};
 ghost use Rattle.whole.specs.Table.{table, each};
 ghost use Rattle.account.specs.Rank.{rank_refusal};
@@ -10,7 +9,6 @@ ghost use Rattle.report.specs.Steps.{Put, Room, Within, Zoned, SoundLists, Joina
 ghost use Rattle.report.specs.Steps.{sum_lines, ratio_lines, zone_line, row_line, lists};
 
 use crate::{lines, putting};
-use account::RankAnswer;
 use coefficients::{Pair, Whole};
 
 // Each pair of zones in the class of its band, and in class 0 where there are no bands.
@@ -20,7 +18,7 @@ fn class_pairs(n: usize, places: &[i32], bands: &[u32], classes: &mut [u8])
 {
     classes.fill(0);
     if !bands.is_empty() {
-        places::bands(n, places, bands, classes);
+        places::bands(n, places, bands, classes).unwrap();
     }
 }
 
@@ -42,7 +40,7 @@ fn put_hot_list(
 {
     let n = locals.len();
     let mut space: [u8; 64] = [0; 64];
-    hot_list::order(n, weights, locals, &mut space[..n]);
+    hot_list::order(n, weights, locals, &mut space[..n]).unwrap();
     lines::put_zones(page, at, &space[..many], locals, figures, spread)
 }
 
@@ -83,7 +81,7 @@ fn put_pairs(page: &mut [u8], at: usize, n: usize, categories: &[u8], weights: &
         return at;
     }
     let mut table: [i64; 64] = [0; 64];
-    joins::join_table(n, categories, weights, &mut table);
+    joins::join_table(n, categories, weights, &mut table).unwrap();
     lines::put_table(page, at, &table)
 }
 
@@ -112,18 +110,14 @@ fn put_rank(page: &mut [u8], at: usize, values: &[i32], weights: &[u8], shuffles
     if shuffles.is_empty() {
         return at;
     }
-    match account::rank(values.len(), values, weights, shuffles) {
-        RankAnswer::Refused(_) => at,
-        RankAnswer::Counted(counts) => {
-            // no From leads here from a usize
-            let list = [
-                counts.less as i64,
-                counts.equal as i64,
-                counts.greater as i64,
-            ];
-            putting::put_line(page, at, b"rank", &list)
-        }
-    }
+    let counts = account::rank(values.len(), values, weights, shuffles).unwrap();
+    // no From leads here from a usize
+    let list = [
+        counts.less as i64,
+        counts.equal as i64,
+        counts.greater as i64,
+    ];
+    putting::put_line(page, at, b"rank", &list)
 }
 
 // The lines of a job.
