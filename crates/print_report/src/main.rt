@@ -1,7 +1,7 @@
 // The report program: reads an image from standard input, at most its first 44,909 bytes, and writes its report to standard output.
 #![tactic(auto)]
 
-ghost use Rattle.std.specs.Prelude.{◌≡◌, ◌≤◌, length, take, IfOk, OnOk, IfSome};
+ghost use Rattle.std.specs.Prelude.{◌≡◌, ◌≤◌, length, take, OnOk, IfSome};
 ghost use Rattle.std.specs.Io.KnownBytes.{Appends};
 ghost use Rattle.report.specs.Text.{refusal_line, report_text, Decides};
 
@@ -9,36 +9,12 @@ use report::Answer;
 use std::io;
 use std::io::{Read, Write};
 
-// Room for as many bytes as decide the report of any image, so that what is not read could not change it. Only the lengths of the two lists
-// are promised, so that they stay small in proofs.
+// Room for as many bytes as decide the report of any image, so that what is not read could not change it.
 fn input_room() -> [u8; 44909]
-    ensures value { 44909 ≡ length result }
+    ensures value { length result ≡ 44909 }
     ensures decides { Decides (length result) }
 {
-    [0; 44909]
-}
-
-fn page_room() -> [u8; 16384]
-    ensures { 16384 ≡ length result }
-{
-    [0; 16384]
-}
-
-// Reads until the room is full or the input ends, whatever the sizes of the single reads, and answers how many bytes were read.
-fn read_full<R: Read>(reader: &mut R, room: &mut [u8]) -> io::Result<usize>
-    ensures upper_bound { IfOk result (λ end. end ≤ length room.new) }
-    ensures bytes { IfOk result (λ end. IfSome (R.remaining reader.old)
-        (λ bytes. take end room.new ≡ take (length room.old) bytes)) }
-{
-    let mut end: usize = 0;
-    while end < room.len() {
-        let more = reader.read(&mut room[end..])?;
-        if more == 0 {
-            return Ok(end);
-        }
-        end += more;
-    }
-    Ok(end)
+    rooms::room()
 }
 
 // The text of an image at the front of the page, and its length: its report, or `refused` and the number.
@@ -71,8 +47,8 @@ fn run<R: Read, W: Write>(reader: &mut R, writer: &mut W) -> io::Result<()>
         (λ image. Appends (W.contents writer.old) (W.contents writer.new) (report_text image))) }
 {
     let mut input = input_room();
-    let mut page = page_room();
-    let end = read_full(reader, &mut input)?;
+    let mut page: [u8; 16384] = rooms::room();
+    let end = inputs::read_full(reader, &mut input)?;
     let length = print_text(&input[..end], &mut page);
     writer.write_all(&page[..length])
 }

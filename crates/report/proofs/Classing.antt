@@ -2,14 +2,12 @@
 use mathlib.Core.Path.{◌≡◌, ap, ◌∙◌}
 use mathlib.Core.Bool.{false}
 use mathlib.Core.List.{List}
-use Prim.Native.Nat.{ℕ, ◌*◌}
+use Prim.Native.Nat.{ℕ, ◌*◌, ◌<◌}
 use native.Mathlib.Omega.{arith}
 use lib.IntN.{ℤ}
-use lib.ListN.{length}
+use lib.ListN.{length, replicate, length-replicate, get_or-replicate}
 use Rattle.whole.specs.Search.{any_above}
-use Rattle.whole.specs.Table.{table}
 use Rattle.whole.proofs.Search.{all_within}
-use Rattle.whole.proofs.Table.{table_length, table_held}
 use Rattle.whole.proofs.TableRows.{rows_length}
 use Rattle.places.specs.Bands.{pair_class, band_classes, band_refusal, bands_left}
 use Rattle.places.specs.Places.{squared_distance}
@@ -23,14 +21,15 @@ band_classes_length n places bands = rows_length (pair_class bands (squared_dist
 
 -- `before` is what was lent with every class 0
 module _ (n : ℕ) (places : List ℤ) (bands lent before : List ℕ) (so : Bandable n places bands (length lent))
-    (zeros : before ≡ table (λ k. 0) (length lent)) where
+    (zeros : before ≡ replicate (length lent) 0) where
   as_long : length before ≡ n * n
-  as_long = ap length zeros ∙ table_length (λ k. 0) (length lent) ∙ so.room_fits
+  as_long = ap length zeros ∙ length-replicate (length lent) 0 ∙ so.room_fits
 
   none_above : any_above 8 before ≡ false
   none_above =
       all_within 8 before
-      (λ k h. omega (arith, table_held (λ i. 0) (length lent) 0 before zeros k (omega (arith, h, as_long, so.room_fits))))
+      (λ k h. let inside : k < length lent = omega (arith, h, as_long, so.room_fits) in
+      rw zeros (omega (arith, get_or-replicate {A = ℕ} (length lent) k 0 0 inside)))
 
   -- without bands it stays so
   pub unbanded : length bands ≡ 0 → Classed n places bands before

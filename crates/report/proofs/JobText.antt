@@ -101,8 +101,8 @@ module _ (n : ℕ) (values : List ℤ) (weights : List ℕ) where
   pub zones_are :
       {held : List ℤ} {floats : List ℕ} {spread : ℤ} {many : ℕ} → held ≡ locals → floats ≡ figures → spread ≡ M →
       many ≡ job_kept n values weights →
-      each (zone_line held floats spread) (take many (in_order n weights held)) ≡ local_lines n values weights
-  zones_are g h f k = rw (f, g, h, k) all_lines
+      each (zone_line held floats spread) (take many (in_order (length held) weights held)) ≡ local_lines n values weights
+  zones_are g h f k = rw (f, g, h, k, job_locals_length n values weights) all_lines
 
 -- ---- the sums that the account answers
 module _ (n : ℕ) (values : List ℤ) (weights : List ℕ) (sound : Sound n values weights) where

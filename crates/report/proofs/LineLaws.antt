@@ -1,5 +1,5 @@
 -- Lines of a report from what the machine reads: each number that a call is handed is the one that is meant. Assumes nothing.
-use mathlib.Core.Path.{◌≡◌, refl, ap}
+use mathlib.Core.Path.{◌≡◌, refl, ap, ◌∙◌}
 use mathlib.Core.Bool.{true, false}
 use mathlib.Core.List.{List, [], ◌∷◌, ◌++◌}
 use Prim.Native.Nat.{ℕ, zero, suc, ◌+◌, ◌*◌, ◌-◌, ◌^◌, ◌≤◌, ◌<◌}
@@ -28,6 +28,10 @@ pub there : {A : Type 0} (l : List A) (k : ℕ) (d e : A) → k < length l → g
 there [] k d e h = let z : ⊥ = omega arith in absurd z
 there (x ∷ l) zero d e h = refl
 there (x ∷ l) (suc k) d e h = there l k d e (omega arith)
+
+-- what a call has answered is read back from its bits as it is
+pub read_back : {answer meant : ℤ} → mag answer < 2 ^ 63 → answer ≡ meant → r64 answer ≡ meant
+read_back h e = to_z-of_z w64 _ (sfits_of h) ∙ e
 
 -- ---- the lines of a job
 

@@ -4,8 +4,6 @@ use mathlib.Core.Bool.{cond}
 use mathlib.Core.List.{List, [], ◌∷◌}
 use Prim.Native.Nat.{ℕ, suc, ◌+◌, ◌*◌, ◌≤◌, ◌<◌}
 use native.Mathlib.Omega.{arith}
-use borrow.Author.Tests.{eq-eqb, ne_eqb}
-use lib.Dec.{eqb}
 use lib.IntN.{ℤ, pos}
 use lib.ListN.{length, get_or}
 use lib.Signed.{lt_z}
@@ -40,14 +38,6 @@ module _ {A : Type 0} where
   pub given : (list : List A) (lines : List ℕ) → (length list ≡ 0 → ⊥) → where_given list lines ≡ lines
   given [] lines f = absurd (f refl)
   given (item ∷ more) lines f = refl
-
--- lines that need a number of items above 0
-module _ (count : ℕ) (lines : List ℕ) where
-  pub none_counted : count ≡ 0 → cond (eqb count 0) [] lines ≡ []
-  none_counted e = rw (eq-eqb count 0 e) refl
-
-  pub some_counted : (count ≡ 0 → ⊥) → cond (eqb count 0) [] lines ≡ lines
-  some_counted f = rw (ne_eqb count 0 f) refl
 
 -- ---- the same text for each of 0, 1, .., n − 1
 numbered_same : (a b : ℕ → List ℕ) (n : ℕ) → ((k : ℕ) → k < n → a k ≡ b k) → each a (numbered n) ≡ each b (numbered n)

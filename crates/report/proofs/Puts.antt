@@ -4,16 +4,14 @@ use mathlib.Core.List.{List, [], ◌∷◌, ◌++◌, append_assoc, append-nil}
 use Prim.Native.Nat.{ℕ, ◌+◌, ◌*◌, ◌≤◌, ◌<◌}
 use native.Mathlib.Nat.{mul-suc}
 use native.Mathlib.Omega.{arith}
-use lib.IntN.{ℤ}
-use lib.ListN.{length, get_or, take, drop, length-append}
-use lib.Seq.{sets, length-sets, take_at}
+use lib.ListN.{length, get_or, take, length-append}
+use lib.Seq.{sets, length-sets}
 use Rattle.whole.specs.Table.{each, over}
 use Rattle.whole.proofs.Table.{table_length, table_at}
 use Rattle.whole.proofs.Stores.{Stored, stored_next, stored_over, front_next, front_all, each_none, each_both}
-use Rattle.pages.specs.Lines.{numbers}
 use Rattle.pages.specs.Pages.{Puts}
 use Rattle.pages.proofs.Widths.{fitting}
-use Rattle.report.specs.Steps.{Put, Short}
+use Rattle.report.specs.Steps.{Put}
 use Rattle.report.specs.Text.{numbered}
 
 module _ {old : List ℕ} {at : ℕ} where
@@ -55,22 +53,6 @@ put_of most puts h room =
     let end = fitting puts (omega (arith, h, room)) in
     record { same = puts.same; behind = end; few = omega (arith, end, h) }
 
--- a word and its numbers, and the line feed
-module _ (word : List ℕ) (list : List ℤ) (short : Short word list) (width : length (numbers list) ≤ 21 * length list) where
-  pub start_width : length (word ++ numbers list) ≤ 92
-  start_width = omega (arith, length-append word (numbers list), width, short.letters, short.items)
-
-  pub line_width : length (word ++ (numbers list ++ (10 ∷ []))) ≤ 96
-  line_width =
-      omega (
-        arith,
-        length-append word (numbers list ++ (10 ∷ [])),
-        length-append (numbers list) (10 ∷ []),
-        width,
-        short.letters,
-        short.items,
-      )
-
 -- the text of a line that is put in four parts
 pub line_parts : (word before after end : List ℕ) → ((word ++ before) ++ after) ++ end ≡ word ++ ((before ++ after) ++ end)
 line_parts word before after end = ap (λ l. l ++ end) (append_assoc word before after) ∙ append_assoc word (before ++ after) end
@@ -79,10 +61,6 @@ line_parts word before after end = ap (λ l. l ++ end) (append_assoc word before
 module _ {old new : List ℕ} {place most : ℕ} {text : List ℕ} (put : Put old new 0 place most text) (h : length text ≤ length old) where
   pub put_over : new ≡ over text old
   put_over = let s : Stored old 0 text new = record { same = put.same } in stored_over s h
-
-  -- what stands before the place that is answered
-  pub put_front : take place new ≡ text
-  put_front = ap (take place) put_over ∙ take_at text (drop (length text) old) place (omega (arith, put.behind))
 
 -- ---- a text for each item of a list, of at most `size` bytes each
 module _ {A : Type 0} (text : A → List ℕ) where

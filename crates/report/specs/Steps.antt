@@ -1,10 +1,12 @@
 -- What the private functions of the report promise each other. Assumes nothing.
-use Rattle.std.specs.Prelude.{◌≡◌, false, cond, List, [], ◌∷◌, ◌++◌, ℕ, ◌+◌, ◌*◌, ◌-◌, ◌≤◌, ◌<◌, ℤ, pos, negsuc, nat_abs, ◌*ℤ◌, length, get_or, ◌≤ℤ◌}
+use Rattle.std.specs.Prelude.{◌≡◌, false, cond, List, [], ◌∷◌, ◌++◌, ℕ, ◌+◌, ◌*◌, ◌-◌, ◌≤◌, ◌<◌, ℤ, pos, negsuc, nat_abs, ◌*ℤ◌, length, get_or, ◌≤ℤ◌, Result}
 use Rattle.std.proofs.lemmas.List.Edits.{sets}
 use Rattle.std.specs.Int.Signed.{lt_z}
 use Rattle.whole.specs.Rules.{first_broken, misfits, unless_refused, ratio_limit}
 use Rattle.whole.specs.Search.{any_above}
 use Rattle.whole.specs.Table.{at, over}
+use Rattle.refusals.specs.declared.Refusal.{Refusal}
+use Rattle.refusals.specs.Refusals.{number_of}
 use Rattle.account.specs.Refusals.{account_refusal}
 use Rattle.account.specs.Classes.{class_rules, row_at}
 use Rattle.account.specs.Rank.{rank_refusal}
@@ -20,8 +22,7 @@ use Rattle.image.specs.declared.Given.{Given}
 use Rattle.reader.specs.declared.Counts.{Counts}
 use Rattle.pages.specs.Lines.{line, numbers, bits}
 use Rattle.report.specs.Lines.{coefficient}
-use Rattle.report.specs.Text.{image_text, number_of, length_in}
-use Rattle.report.specs.declared.Answer.{Answer}
+use Rattle.report.specs.Text.{image_text, length_in}
 
 -- ---- what a call has put into a page
 
@@ -36,7 +37,7 @@ abbrev pub Room : List ℕ → ℕ → ℕ → Type 0
 Room page at most = at + most ≤ length page
 
 -- what is answered of an image, and what its page then holds
-pub record Prints (image old new : List ℕ) (r : Answer) : Type 0 where
+pub record Prints (image old new : List ℕ) (r : Result ℕ Refusal) : Type 0 where
   pub number : number_of r ≡ image_refusal image
   pub long : length_in r ≡ unless_refused (image_refusal image) (length (image_text image) ∷ []) []
   pub page : new ≡ unless_refused (image_refusal image) (over (image_text image) old) old
@@ -57,13 +58,12 @@ pub record Within (sums : Sums) : Type 0 where
   pub geary_numerator : nat_abs (pos ((sums.kept - 1) * sums.kept) *ℤ sums.squares) ≤ ratio_limit
   pub geary_divisor : nat_abs ((pos 2 *ℤ sums.weight) *ℤ sums.spread) ≤ ratio_limit
 
--- weights, numerators and figures of n zones, so many of which are kept
-pub record Zoned (n weights many locals figures : ℕ) : Type 0 where
+-- weights and figures of n zones, so many of which are kept
+pub record Zoned (n weights many figures : ℕ) : Type 0 where
   pub least : 2 ≤ n
   pub most : n ≤ 64
   pub weights_fit : weights ≡ n * n
   pub few : many ≤ n
-  pub locals_fit : locals ≡ n
   pub figures_fit : figures ≡ n
 
 -- a local numerator and the bits of a local figure for each zone that is listed

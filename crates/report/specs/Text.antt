@@ -1,9 +1,10 @@
 -- A whole report, as document 01 writes it out: the text of an image, which is the lines of its job, or `refused` and the number.
 -- Assumes nothing.
-use Rattle.std.specs.Prelude.{◌≡◌, cond, List, [], ◌∷◌, ◌++◌, ℕ, suc, ◌-◌, ◌*◌, ℤ, pos, negsuc, ◌*ℤ◌, length, take}
+use Rattle.std.specs.Prelude.{◌≡◌, cond, List, [], ◌∷◌, ◌++◌, ℕ, suc, ◌-◌, ◌*◌, ℤ, pos, negsuc, ◌*ℤ◌, length, take, Result, Ok, Err}
 use Rattle.std.specs.Int.Signed.{lt_z}
 use Rattle.whole.specs.Rules.{first_broken, misfits, unless_refused}
 use Rattle.whole.specs.Table.{table, at, pair_at, each, over}
+use Rattle.refusals.specs.declared.Refusal.{Refusal}
 use Rattle.kept.specs.Kept.{keeps, kept_count, kept_values, kept_pairs}
 use Rattle.account.specs.Measures.{total_of, deviation_of, spread_of, weight_of, cross_of, squares_of}
 use Rattle.account.specs.Refusals.{job_spread}
@@ -19,8 +20,6 @@ use Rattle.coefficients.specs.declared.Pair.{Pair}
 use Rattle.image.specs.Image.{Job, count, job_of, image_rules, image_refusal}
 use Rattle.pages.specs.Lines.{line, numbers}
 use Rattle.report.specs.Lines.{figure, coefficient}
-use Rattle.report.specs.declared.Answer.{Answer}
-use Rattle.report.specs.declared.Answer.TheVariants.{Refused, Printed}
 
 -- 0, 1, .., n − 1
 abbrev pub numbered : ℕ → List ℕ
@@ -145,15 +144,10 @@ Decides many = (image : List ℕ) → report_text (take many image) ≡ report_t
 
 -- ---- what the calls answer, by its cases
 
--- the number of the refusal, 0 where nothing is refused
-unfoldable pub number_of : Answer → ℕ
-number_of (Refused number) = number
-number_of (Printed long) = 0
-
 -- the length of the text, none where the call is refused
-unfoldable pub length_in : Answer → List ℕ
-length_in (Refused number) = []
-length_in (Printed long) = long ∷ []
+unfoldable pub length_in : Result ℕ Refusal → List ℕ
+length_in (Ok long) = long ∷ []
+length_in (Err refusal) = []
 
 -- ---- the report: a page of 16,384 places is lent
 module _ (image page : List ℕ) where

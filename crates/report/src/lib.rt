@@ -7,39 +7,41 @@ mod reading;
 mod working;
 
 ghost use Rattle.std.specs.Prelude.{◌≡◌};
-ghost use Rattle.report.specs.Text.{number_of, length_in, print_refusal, print_length, page_left};
+ghost use Rattle.refusals.specs.Refusals.{number_of};
+ghost use Rattle.report.specs.Text.{length_in, print_refusal, print_length, page_left};
 ghost use Rattle.report.specs.Text.{line_refusal, line_length, line_left};
 
-// The number of the refusal, or the length of the text.
-#[derive(Clone, Copy)]
-pub enum Answer {
-    Refused(u8),
-    Printed(usize),
+use refusals::Refusal;
+
+// The page has 16,384 places.
+fn judge_page(page: &[u8]) -> Result<(), Refusal>
+    ensures { number_of result ≡ line_refusal page.now }
+{
+    if page.len() != 16384 {
+        return Err(Refusal::Length);
+    }
+    Ok(())
 }
 
 // Puts the text of an image's report, the lines of its job, at the front of `page`, which has 16,384 places, and answers its length. Where
 // the page has another length, or the image is refused, the page is left as it was.
-pub fn report(image: &[u8], page: &mut [u8]) -> Answer
+pub fn report(image: &[u8], page: &mut [u8]) -> Result<usize, Refusal>
     ensures number { number_of result ≡ print_refusal image.now page.old }
     ensures length { length_in result ≡ print_length image.now page.old }
     ensures page { page.new ≡ page_left image.now page.old }
 {
-    if page.len() != 16384 {
-        return Answer::Refused(2);
-    }
+    judge_page(page)?;
     reading::put_report(page, image)
 }
 
 // Puts the line of an image that is refused by that number, `refused` and the number, at the front of such a page, and answers its length.
 // Where the page has another length it is left as it was.
-pub fn refusal(number: u8, page: &mut [u8]) -> Answer
+pub fn refusal(number: u8, page: &mut [u8]) -> Result<usize, Refusal>
     ensures number { number_of result ≡ line_refusal page.old }
     ensures length { length_in result ≡ line_length number page.old }
     ensures page { page.new ≡ line_left number page.old }
 {
-    if page.len() != 16384 {
-        return Answer::Refused(2);
-    }
-    let list = [number as i64];
-    Answer::Printed(putting::put_line(page, 0, b"refused", &list))
+    judge_page(page)?;
+    let list = [i64::from(number)];
+    Ok(putting::put_line(page, 0, b"refused", &list))
 }

@@ -22,6 +22,7 @@ pub(super) fn put_sums(page: &mut [u8], at: usize, sums: Sums) -> usize
     let weight = sums.weight;
     let cross = sums.cross;
     let squares = sums.squares;
+    // no From leads here from a usize
     let zones = [kept as i64, total, spread];
     let joins = [weight, cross, squares];
     let place = putting::put_line(page, at, b"zones", &zones);
@@ -40,6 +41,7 @@ pub(super) fn put_ratios(page: &mut [u8], at: usize, sums: Sums, pair: Pair) -> 
     let geary = pair.geary;
     let cross = sums.cross;
     let of_moran = [cross, sums.weight * sums.spread];
+    // no From leads here from a usize
     let of_geary = [
         ((kept - 1) * kept) as i64 * sums.squares,
         2 * sums.weight * sums.spread,
@@ -65,32 +67,28 @@ pub(super) fn put_zones(
         (each (zone_line locals.now figures.now spread) zones.now) }
 {
     let mut place = at;
-    let mut i: usize = 0;
-    while i < zones.len() {
-        let zone = zones[i] as usize;
-        let list = [zone as i64, locals[zone], spread];
-        place = putting::put_bits_line(page, place, b"local", &list, figures[zone]);
-        i += 1;
+    for &zone in zones {
+        let of_zone = usize::from(zone);
+        let list = [i64::from(zone), locals[of_zone], spread];
+        place = putting::put_bits_line(page, place, b"local", &list, figures[of_zone]);
     }
     place
 }
 
 // The entries above 0 of row r of the join table.
-fn put_table_row(page: &mut [u8], at: usize, table: &[i64], r: usize) -> usize
+fn put_table_row(page: &mut [u8], at: usize, table: &[i64], r: u8) -> usize
     requires table_len { length table.now ≡ 64 }
     requires r_bound { r < 8 }
     requires room { Room page.old at 768 }
     ensures { Put page.old page.new at result 768 (each (table_line table.now r) (numbered 8)) }
 {
     let mut place = at;
-    let mut s: usize = 0;
-    while s < 8 {
-        let joins = table[r * 8 + s];
+    for s in 0..8 {
+        let joins = table[usize::from(r * 8 + s)];
         if joins > 0 {
-            let list = [r as i64, s as i64, joins];
+            let list = [i64::from(r), i64::from(s), joins];
             place = putting::put_line(page, place, b"pair", &list);
         }
-        s += 1;
     }
     place
 }
@@ -103,10 +101,8 @@ pub(super) fn put_table(page: &mut [u8], at: usize, table: &[i64]) -> usize
         (each (λ r. each (table_line table.now r) (numbered 8)) (numbered 8)) }
 {
     let mut place = at;
-    let mut r: usize = 0;
-    while r < 8 {
+    for r in 0..8 {
         place = put_table_row(page, place, table, r);
-        r += 1;
     }
     place
 }
@@ -127,12 +123,11 @@ pub(super) fn put_rows(
         (each (row_line rows.now pairs) (numbered (suc last))) }
 {
     let mut place = at;
-    let mut k: usize = 0;
-    while k <= last {
+    for k in 0..=last {
         let pair = pairs[k];
+        // no From leads here from a usize
         let list = [k as i64, rows[k * 3], rows[k * 3 + 1], rows[k * 3 + 2]];
         place = putting::put_pair_line(page, place, b"class", &list, pair);
-        k += 1;
     }
     place
 }

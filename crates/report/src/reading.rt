@@ -5,8 +5,9 @@ ghost use Rattle.image.specs.Writer.{lent_job};
 ghost use Rattle.report.specs.Text.{job_text};
 ghost use Rattle.report.specs.Steps.{Put, Room, Exact, Held, given_of, Prints};
 
-use crate::{Answer, working};
+use crate::working;
 use reader::Counts;
+use refusals::Refusal;
 
 // The lines of the job in the buffers: the first entries of each, as many as the counts say.
 fn put_read(
@@ -34,7 +35,6 @@ fn put_read(
     let in_shuffles = counts.shuffles * n;
     working::put_job(
         page,
-        n,
         &values[..n],
         &categories[..in_categories],
         &weights[..pairs],
@@ -54,43 +54,28 @@ fn put_text(
     places: &mut [i32],
     bands: &mut [u32],
     shuffles: &mut [u8],
-) -> Answer
+) -> Result<usize, Refusal>
     requires exact { Exact (buffers values.old categories.old weights.old places.old bands.old shuffles.old) }
     requires room { Room page.old 0 16128 }
     ensures { Prints image.now page.old page.new result }
 {
-    match reader::read(image, values, categories, weights, places, bands, shuffles) {
-        reader::Answer::Refused(number) => Answer::Refused(number),
-        reader::Answer::Read(counts) => Answer::Printed(put_read(
-            page, counts, values, categories, weights, places, bands, shuffles,
-        )),
-    }
-}
-
-// 4,096 places for weights, and 31,936 for shuffles. Only their number is promised, so that the lists stay small in proofs.
-fn weight_room() -> [u8; 4096]
-    ensures { 4096 ≡ length result }
-{
-    [0; 4096]
-}
-
-fn shuffle_room() -> [u8; 31936]
-    ensures { 31936 ≡ length result }
-{
-    [0; 31936]
+    let counts = reader::read(image, values, categories, weights, places, bands, shuffles)?;
+    Ok(put_read(
+        page, counts, values, categories, weights, places, bands, shuffles,
+    ))
 }
 
 // The text of an image at the front of a page.
-pub(super) fn put_report(page: &mut [u8], image: &[u8]) -> Answer
+pub(super) fn put_report(page: &mut [u8], image: &[u8]) -> Result<usize, Refusal>
     requires { Room page.old 0 16128 }
     ensures { Prints image.now page.old page.new result }
 {
     let mut values: [i32; 64] = [0; 64];
     let mut categories: [u8; 64] = [0; 64];
-    let mut weights = weight_room();
+    let mut weights: [u8; 4096] = rooms::room();
     let mut places: [i32; 128] = [0; 128];
     let mut bands: [u32; 8] = [0; 8];
-    let mut shuffles = shuffle_room();
+    let mut shuffles: [u8; 31936] = rooms::room();
     put_text(
         page,
         image,

@@ -1,5 +1,4 @@
-// The calls on a job, and its lines from what they answer. No call refuses the job of an accepted image, so that no arm for a refusal can
-// be reached.
+// The calls on a job, and its lines from what they answer. No call refuses the job of an accepted image, so that each answer is unwrapped.
 ghost use Rattle.std.specs.Prelude.{◌≡◌, cond, [], ◌++◌, suc, ◌≤◌, eqb, length, take};
 ghost use Rattle.whole.specs.Table.{table, each};
 ghost use Rattle.account.specs.Rank.{rank_refusal};
@@ -10,28 +9,16 @@ ghost use Rattle.report.specs.Steps.{Put, Room, Within, Zoned, SoundLists, Joina
 ghost use Rattle.report.specs.Steps.{sum_lines, ratio_lines, zone_line, row_line, lists};
 
 use crate::{lines, putting};
-use account::RankAnswer;
 use coefficients::{Pair, Whole};
-
-// Every pair of zones in class 0.
-fn unclass(classes: &mut [u8])
-    ensures { classes.new ≡ table (λ k. 0) (length classes.old) }
-{
-    let mut i: usize = 0;
-    while i < classes.len() {
-        classes[i] = 0;
-        i += 1;
-    }
-}
 
 // Each pair of zones in the class of its band, and in class 0 where there are no bands.
 fn class_pairs(n: usize, places: &[i32], bands: &[u32], classes: &mut [u8])
     requires { Bandable n places.now bands.now (length classes.old) }
     ensures { Classed n places.now bands.now classes.new }
 {
-    unclass(classes);
-    if bands.len() > 0 {
-        places::bands(n, places, bands, classes);
+    classes.fill(0);
+    if !bands.is_empty() {
+        places::bands(n, places, bands, classes).unwrap();
     }
 }
 
@@ -39,28 +26,27 @@ fn class_pairs(n: usize, places: &[i32], bands: &[u32], classes: &mut [u8])
 fn put_hot_list(
     page: &mut [u8],
     at: usize,
-    n: usize,
     weights: &[u8],
     many: usize,
     locals: &[i64],
     figures: &[u64],
     spread: i64,
 ) -> usize
-    requires zoned { Zoned n (length weights.now) many (length locals.now) (length figures.now) }
+    requires zoned { Zoned (length locals.now) (length weights.now) many (length figures.now) }
     requires room { Room page.old at 8192 }
     ensures { Put page.old page.new at result 8192
         (each (zone_line locals.now figures.now spread)
-        (take many (in_order n weights.now locals.now))) }
+        (take many (in_order (length locals.now) weights.now locals.now))) }
 {
+    let n = locals.len();
     let mut space: [u8; 64] = [0; 64];
-    hot_list::order(n, weights, locals, &mut space[..n]);
+    hot_list::order(n, weights, locals, &mut space[..n]).unwrap();
     lines::put_zones(page, at, &space[..many], locals, figures, spread)
 }
 
 // The lines that every report has: those of the whole job, then those of its zones kept.
 fn put_account(
     page: &mut [u8],
-    n: usize,
     weights: &[u8],
     whole: Whole,
     locals: &[i64],
@@ -68,12 +54,12 @@ fn put_account(
 ) -> usize
     requires within { Within whole.sums }
     requires readable_pair { ReadablePair whole.pair }
-    requires zoned { Zoned n (length weights.now) whole.sums.kept (length locals.now) (length figures.now) }
+    requires zoned { Zoned (length locals.now) (length weights.now) whole.sums.kept (length figures.now) }
     requires room { Room page.old 0 8736 }
     ensures { Put page.old page.new 0 result 8736
         ((sum_lines whole.sums ++ ratio_lines whole.sums whole.pair)
         ++ each (zone_line locals.now figures.now whole.sums.spread)
-        (take whole.sums.kept (in_order n weights.now locals.now))) }
+        (take whole.sums.kept (in_order (length locals.now) weights.now locals.now))) }
 {
     let sums = whole.sums;
     let pair = whole.pair;
@@ -81,7 +67,7 @@ fn put_account(
     let many = sums.kept;
     let place = lines::put_sums(page, 0, sums);
     let end = lines::put_ratios(page, place, sums, pair);
-    put_hot_list(page, end, n, weights, many, locals, figures, spread)
+    put_hot_list(page, end, weights, many, locals, figures, spread)
 }
 
 // The pair lines, which need categories.
@@ -91,11 +77,11 @@ fn put_pairs(page: &mut [u8], at: usize, n: usize, categories: &[u8], weights: &
     ensures { Put page.old page.new at result 6144
         (where_given categories.now (pair_lines n categories.now weights.now)) }
 {
-    if categories.len() == 0 {
+    if categories.is_empty() {
         return at;
     }
     let mut table: [i64; 64] = [0; 64];
-    joins::join_table(n, categories, weights, &mut table);
+    joins::join_table(n, categories, weights, &mut table).unwrap();
     lines::put_table(page, at, &table)
 }
 
@@ -115,46 +101,28 @@ fn put_classes(page: &mut [u8], at: usize, rows: &[i64], pairs: [Pair; 9], bands
 }
 
 // The rank line, which needs a shuffle.
-fn put_rank(
-    page: &mut [u8],
-    at: usize,
-    n: usize,
-    values: &[i32],
-    weights: &[u8],
-    shuffles: &[u8],
-) -> usize
-    requires shuffles_value { rank_refusal n values.now weights.now shuffles.now ≡ 0 }
+fn put_rank(page: &mut [u8], at: usize, values: &[i32], weights: &[u8], shuffles: &[u8]) -> usize
+    requires shuffles_value { rank_refusal (length values.now) values.now weights.now shuffles.now ≡ 0 }
     requires room { Room page.old at 96 }
     ensures { Put page.old page.new at result 96
-        (where_given shuffles.now (rank_line n values.now weights.now shuffles.now)) }
+        (where_given shuffles.now (rank_line (length values.now) values.now weights.now shuffles.now)) }
 {
-    if shuffles.len() == 0 {
+    if shuffles.is_empty() {
         return at;
     }
-    match account::rank(n, values, weights, shuffles) {
-        RankAnswer::Refused(_) => at,
-        RankAnswer::Counted(counts) => {
-            let list = [
-                counts.less as i64,
-                counts.equal as i64,
-                counts.greater as i64,
-            ];
-            putting::put_line(page, at, b"rank", &list)
-        }
-    }
-}
-
-// 4,096 places for classes. Only their number is promised, so that the list stays small in proofs.
-fn class_room() -> [u8; 4096]
-    ensures { 4096 ≡ length result }
-{
-    [0; 4096]
+    let counts = account::rank(values.len(), values, weights, shuffles).unwrap();
+    // no From leads here from a usize
+    let list = [
+        counts.less as i64,
+        counts.equal as i64,
+        counts.greater as i64,
+    ];
+    putting::put_line(page, at, b"rank", &list)
 }
 
 // The lines of a job.
 pub(super) fn put_job(
     page: &mut [u8],
-    n: usize,
     values: &[i32],
     categories: &[u8],
     weights: &[u8],
@@ -162,14 +130,15 @@ pub(super) fn put_job(
     bands: &[u32],
     shuffles: &[u8],
 ) -> usize
-    requires sound_lists { SoundLists n values.now categories.now weights.now places.now bands.now shuffles.now }
+    requires sound_lists { SoundLists (length values.now) values.now categories.now weights.now places.now bands.now shuffles.now }
     requires room { Room page.old 0 16128 }
     ensures { Put page.old page.new 0 result 16128
-        (job_text n (lists values.now categories.now weights.now
+        (job_text (length values.now) (lists values.now categories.now weights.now
         places.now bands.now shuffles.now)) }
 {
+    let n = values.len();
     let pairs = n * n;
-    let mut class_space = class_room();
+    let mut class_space: [u8; 4096] = rooms::room();
     let classes = &mut class_space[..pairs];
     class_pairs(n, places, bands, classes);
     let mut rows: [i64; 27] = [0; 27];
@@ -185,10 +154,10 @@ pub(super) fn put_job(
     match answer {
         coefficients::Answer::Refused(_) => 0,
         coefficients::Answer::Reported(whole) => {
-            let at_pairs = put_account(page, n, weights, whole, locals, figures);
+            let at_pairs = put_account(page, weights, whole, locals, figures);
             let at_classes = put_pairs(page, at_pairs, n, categories, weights);
             let at_rank = put_classes(page, at_classes, &rows, of_classes, bands.len());
-            put_rank(page, at_rank, n, values, weights, shuffles)
+            put_rank(page, at_rank, values, weights, shuffles)
         }
     }
 }

@@ -1,13 +1,10 @@
 -- `put_ratios` meets its contract: three lines, one behind the other, of products that fit. Assumes nothing.
 use Prim.Native.Nat.{ℕ}
-use native.Mathlib.Omega.{arith}
-use lib.IntN.{pos}
 use mir.Syntax.{w64}
-use Rattle.whole.proofs.Machine.{fit, fits_le}
+use Rattle.whole.proofs.Machine.{fit}
 use Rattle.account.specs.declared.Sums.{Sums}
-use Rattle.coefficients.proofs.Ratios.{ordered_le}
-use Rattle.report.proofs.Puts.{put_length, put_as, put_then}
-use Rattle.report.proofs.LineLaws.{Read, read, ratio_text, moran_divisor_is, geary_numerator_is, twice_is, geary_divisor_is}
+use Rattle.report.proofs.Puts.{put_as, put_then}
+use Rattle.report.proofs.LineLaws.{Read, read, ratio_text, twice_is, geary_divisor_is}
 use Rattle.report.proofs.lines.put_ratios.Goals as goal
 use Rattle.report.proofs.lines.put_ratios.Goals.{After-struct_told-2-1, After-struct_told-5-1, Start}
 
@@ -31,20 +28,6 @@ module _ (c : After-struct_told-2-1) where
       let f = c.struct_told-2-1.given in
       read sums f.0.1 f.1.0.1 f.1.1.0.1 f.1.1.1.0.1 f.1.1.1.1.0.1
 
-pub overflow_mul-of_moran : goal.overflow_mul-of_moran
-overflow_mul-of_moran c = fit w64 (moran_divisor_is (sums c) (reads c) (start c).requires.within) tt
-
-pub overflow_mul-of_geary : goal.overflow_mul-of_geary
-overflow_mul-of_geary c = omega (arith, ordered_le (n c) (start c).requires.within.zones)
-
-pub overflow_cast-of_geary : goal.overflow_cast-of_geary
-overflow_cast-of_geary c = fits_le w64 (pos _) 4032 (ordered_le (n c) (start c).requires.within.zones) tt
-
-pub overflow_mul-of_geary-2 : goal.overflow_mul-of_geary-2
-overflow_mul-of_geary-2 c =
-    let t = ((goal.at.overflow_mul-of_geary-2 c).After-struct_told-2-1) in
-    fit w64 (geary_numerator_is (sums t) (reads t) (start t).requires.within) tt
-
 pub overflow_mul-of_geary-3 : goal.overflow_mul-of_geary-3
 overflow_mul-of_geary-3 c =
     let t = ((goal.at.overflow_mul-of_geary-3 c).After-struct_told-2-1) in
@@ -54,30 +37,6 @@ pub overflow_mul-of_geary-4 : goal.overflow_mul-of_geary-4
 overflow_mul-of_geary-4 c =
     let t = told c in
     fit w64 (geary_divisor_is (sums t) (reads t) (start t).requires.within) tt
-
-pub put_figure_line-place-requires : goal.put_figure_line-place-requires
-put_figure_line-place-requires c = let s = start (told ((goal.at.put_figure_line-place-requires c).After-struct_told-5-1)) in record {
-  short = record { letters = omega arith; items = omega arith };
-  readable = s.requires.readable_pair.of_moran;
-  room = omega (arith, s.requires.room);
-}
-
-pub put_figure_line-end-requires : goal.put_figure_line-end-requires
-put_figure_line-end-requires c =
-    let s = start (told ((goal.at.put_figure_line-end-requires c).After-struct_told-5-1)) in
-    let first = c.put_figure_line-place.ensures in record {
-      short = record { letters = omega arith; items = omega arith };
-      readable = s.requires.readable_pair.of_geary;
-      room = omega (arith, s.requires.room, first.few, put_length first);
-    }
-
-pub put_line-requires : goal.put_line-requires
-put_line-requires c =
-    let s = start (told ((goal.at.put_line-requires c).After-struct_told-5-1)) in
-    let both = put_then c.put_figure_line-place.ensures c.put_figure_line-end.ensures in record {
-      short = record { letters = omega arith; items = omega arith };
-      room = omega (arith, s.requires.room, both.few, put_length both);
-    }
 
 pub returns : goal.returns
 returns c =

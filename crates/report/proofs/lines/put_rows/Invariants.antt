@@ -1,4 +1,4 @@
-use Prim.Native.Nat.{suc, ◌*◌, ◌-◌, ◌≤◌}
+use Prim.Native.Nat.{suc, ◌*◌}
 use lib.ListN.{take}
 use Rattle.whole.specs.Table.{each}
 use Rattle.report.specs.Steps.{Put, row_line}
@@ -7,7 +7,4 @@ use Rattle.report.proofs.lines.put_rows.Given as goal
 
 abbrev pub invariant-loop-k : goal.invariant-loop-k
 invariant-loop-k l =
-    (l.k ≤ suc l.last) × Put l.initial.page l.page l.at l.place (128 * l.k) (each (row_line l.rows l.pairs) (take l.k (numbered (suc l.last))))
-
-abbrev pub decreases-loop-k : goal.decreases-loop-k
-decreases-loop-k l = suc l.last - l.k
+    Put l.initial.page l.page l.at l.place (128 * l.k) (each (row_line l.rows l.pairs) (take l.k (numbered (suc l.last))))

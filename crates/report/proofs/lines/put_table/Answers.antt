@@ -3,38 +3,17 @@ use native.Mathlib.Omega.{arith}
 use Rattle.whole.specs.Table.{each}
 use Rattle.report.specs.Steps.{table_line}
 use Rattle.report.specs.Text.{numbered}
-use Rattle.report.proofs.Puts.{put_length, put_each_none, put_numbered_next, put_numbered_all}
+use Rattle.report.proofs.Puts.{put_each_none, put_numbered_next, put_numbered_all}
 use Rattle.report.proofs.lines.put_table.Goals as goal
 
 pub loop-r-init : goal.loop-r-init
-loop-r-init c = (omega arith, put_each_none (λ row. each (table_line _ row) (numbered 8)))
-
-pub put_table_row-place-requires : goal.put_table_row-place-requires
-put_table_row-place-requires c = record {
-  table_len = c.requires.table_len;
-  r_bound = omega arith;
-  room = omega (arith, put_length c.loop-r.invariant.1);
-}
-
-pub overflow_add-r : goal.overflow_add-r
-overflow_add-r c = omega arith
-
-pub loop-r-smaller : goal.loop-r-smaller
-loop-r-smaller c = omega arith
+loop-r-init c = put_each_none (λ row. each (table_line _ row) (numbered 8))
 
 pub loop-r-preserved : goal.loop-r-preserved
 loop-r-preserved c =
-    let table = c.args.table.now in (
-      omega arith,
-      put_numbered_next (λ row. each (table_line table row) (numbered 8)) {size = 768} 8 c.loop-r.r (omega arith) c.loop-r.invariant.1
-          c.put_table_row-place.ensures,
-    )
-
-pub shape_of-page : goal.shape_of-page
-shape_of-page c = put_length c.loop-r.invariant.1
+    put_numbered_next (λ row. each (table_line c.args.table.now row) (numbered 8)) {size = 768} 8 c.loop-r.r (omega arith)
+    c.loop-r.invariant c.put_table_row-place.ensures
 
 pub returns : goal.returns
 returns c =
-    let l = c.loop-r in
-    let table = c.args.table.now in
-    put_numbered_all (λ row. each (table_line table row) (numbered 8)) 768 8 l.r (omega arith) l.invariant.1
+    put_numbered_all (λ row. each (table_line c.args.table.now row) (numbered 8)) 768 8 c.loop-r.r (omega arith) c.loop-r.invariant

@@ -1,4 +1,4 @@
-use Prim.Native.Nat.{◌*◌, ◌-◌, ◌≤◌}
+use Prim.Native.Nat.{◌*◌}
 use lib.ListN.{take}
 use Rattle.whole.specs.Table.{each}
 use Rattle.report.specs.Steps.{Put, table_line}
@@ -7,7 +7,4 @@ use Rattle.report.proofs.lines.put_table.Given as goal
 
 abbrev pub invariant-loop-r : goal.invariant-loop-r
 invariant-loop-r l =
-    (l.r ≤ 8) × Put l.initial.page l.page l.at l.place (768 * l.r) (each (λ row. each (table_line l.table row) (numbered 8)) (take l.r (numbered 8)))
-
-abbrev pub decreases-loop-r : goal.decreases-loop-r
-decreases-loop-r l = 8 - l.r
+    Put l.initial.page l.page l.at l.place (768 * l.r) (each (λ row. each (table_line l.table row) (numbered 8)) (take l.r (numbered 8)))

@@ -8,9 +8,6 @@ use Rattle.report.proofs.Puts.{put_length, put_most, put_as, put_then, put_of, l
 use Rattle.report.proofs.putting.put_bits_line.Goals as goal
 use Rattle.report.proofs.putting.put_bits_line.Goals.{After-put_bits-end}
 
-pub put_bits-end-requires : goal.put_bits-end-requires
-put_bits-end-requires c = tt
-
 -- there is room for the bits
 bits_put :
     (c : After-put_bits-end) →

@@ -20,11 +20,8 @@ held b = let l = b.read.new in buffers l.values l.categories l.weights l.places 
 told : (b : After-read) → Told (start b).args.image.now (lent (start b)) b.read.result (held b)
 told b = let e = b.read.ensures in record { number = e.number; counted = e.counts; left = e.lent }
 
-pub put_read-requires : goal.put_read-requires
-put_read-requires c = record {
-  held = read_held (told ((goal.at.put_read-requires c).After-read)) c.in-Read.is;
-  room = c.requires.room;
-}
+pub put_read-requires-clause-held : goal.put_read-requires-clause-held
+put_read-requires-clause-held c = read_held (told ((goal.at.put_read-requires-clause-held c).After-read)) c.in-Read.is
 
 pub returns-in-Refused : goal.returns-in-Refused
 returns-in-Refused c = refused_prints (told ((goal.at.returns-in-Refused c).After-read)) c.in-Refused.is c.requires.exact

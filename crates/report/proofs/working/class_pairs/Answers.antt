@@ -1,18 +1,14 @@
 -- `class_pairs` meets its contract: class 0 everywhere, then the classes of the bands where there are bands. Assumes nothing.
-use native.Mathlib.Omega.{arith}
+use borrow.Author.Rules.{rules}
 use Rattle.report.proofs.Classing.{unbanded, banded}
 use Rattle.report.proofs.working.class_pairs.Goals as goal
 
-pub unclass-requires : goal.unclass-requires
-unclass-requires c = tt
+pub returns-then-not-is_empty : goal.returns-then-not-is_empty
+returns-then-not-is_empty c =
+    let zeros = c.fill.ensures.after (λ byte e. e) in
+    banded _ _ _ c.args.classes.now _ c.requires zeros (search rules) _ c.bands.ensures.lent
 
-pub bands-requires : goal.bands-requires
-bands-requires c = tt
-
-pub returns-then-bands-gt0 : goal.returns-then-bands-gt0
-returns-then-bands-gt0 c =
-    banded _ _ _ c.args.classes.now _ c.requires c.unclass.ensures (λ e. omega (arith, c.if-bands-gt0.true)) _ c.bands.ensures.lent
-
-pub returns-else-bands-gt0 : goal.returns-else-bands-gt0
-returns-else-bands-gt0 c =
-    unbanded _ _ _ c.args.classes.now _ c.requires c.unclass.ensures (omega (arith, c.if-bands-gt0.false))
+pub returns-else-not-is_empty : goal.returns-else-not-is_empty
+returns-else-not-is_empty c =
+    let zeros = c.fill.ensures.after (λ byte e. e) in
+    unbanded _ _ _ c.args.classes.now _ c.requires zeros (search rules)

@@ -1,35 +1,15 @@
 -- `put_account` meets its contract: the sums, the ratios and the zones are put in turn. Assumes nothing.
 use mathlib.Core.Path.{◌≡◌, ap}
-use native.Mathlib.Omega.{arith}
-use lib.ListN.{take}
+use lib.ListN.{length, take}
 use mir.Syntax.{w64}
 use mir.ValLaws.{to_z-of_z}
 use Rattle.whole.specs.Table.{each}
 use Rattle.whole.proofs.Machine.{r64}
 use Rattle.hot_list.specs.HotList.{in_order}
 use Rattle.report.specs.Steps.{zone_line}
-use Rattle.report.proofs.Puts.{put_length, put_as, put_then}
+use Rattle.report.proofs.Puts.{put_as, put_then}
 use borrow.Author.Rules.{rules}
 use Rattle.report.proofs.working.put_account.Goals as goal
-
-pub put_sums-place-requires : goal.put_sums-place-requires
-put_sums-place-requires c = record { kept_bound = c.requires.within.zones; room = omega (arith, c.requires.room) }
-
-pub put_ratios-end-requires : goal.put_ratios-end-requires
-put_ratios-end-requires c =
-    let put = c.put_sums-place.ensures in record {
-      within = c.requires.within;
-      readable_pair = c.requires.readable_pair;
-      room = omega (arith, put_length put, put.few, c.requires.room);
-    }
-
-pub put_hot_list-requires : goal.put_hot_list-requires
-put_hot_list-requires c =
-    let first = c.put_sums-place.ensures in
-    let second = c.put_ratios-end.ensures in record {
-      zoned = c.requires.zoned;
-      room = omega (arith, put_length first, first.few, put_length second, second.few, c.requires.room);
-    }
 
 -- the spread that is read is the one that was lent
 pub returns : goal.returns
@@ -39,6 +19,6 @@ returns c =
     let zones =
     put_as c.put_hot_list.ensures
     (ap (λ m. each (zone_line a.locals.now a.figures.now m)
-    (take a.whole.sums.kept (in_order a.n a.weights.now a.locals.now)))
+    (take a.whole.sums.kept (in_order (length a.locals.now) a.weights.now a.locals.now)))
     spread_read) in
     put_then (put_then c.put_sums-place.ensures c.put_ratios-end.ensures) zones

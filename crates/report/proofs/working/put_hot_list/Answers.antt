@@ -1,10 +1,10 @@
 -- `put_hot_list` meets its contract: the zones come back in order, and a line is put for each that is kept. Assumes nothing.
-use mathlib.Core.Path.{◌≡◌, refl, sym, ap, ◌∙◌}
+use mathlib.Core.Path.{◌≡◌, refl, ap, ◌∙◌}
 use mathlib.Core.List.{List, ◌++◌}
-use Prim.Native.Nat.{ℕ, ◌+◌, ◌*◌, ◌≤◌, ◌<◌}
+use Prim.Native.Nat.{ℕ, ◌*◌, ◌≤◌, ◌<◌}
 use native.Mathlib.Omega.{arith}
 use lib.IntN.{ℤ}
-use lib.ListN.{length, get_or, take, length-append}
+use lib.ListN.{length, get_or, take}
 use lib.Seq.{length-take-le, take-append-le, get_or-take}
 use mir.Syntax.{w64}
 use mir.ValLaws.{to_z-of_z}
@@ -29,9 +29,6 @@ module _ (n : ℕ) (weights : List ℕ) (locals : List ℤ) (many : ℕ) (few : 
   below k h = rw (get_or-take many (in_order n weights locals) k 0 h) (in_order_below n weights locals k (omega (arith, h, few)))
 
   module _ (zones rest : List ℕ) (e : zones ≡ in_order n weights locals) where
-    in_front : many ≤ length (zones ++ rest)
-    in_front = omega (arith, few, length-append zones rest, ap length e, in_order_length n weights locals)
-
     front_is : take many (zones ++ rest) ≡ shown
     front_is =
         take-append-le many zones rest (omega (arith, few, ap length e, in_order_length n weights locals)) ∙ ap (take many) e
@@ -49,23 +46,11 @@ module _ (n : ℕ) (weights : List ℕ) (locals : List ℤ) (many : ℕ) (few : 
     narrow : n ≤ 64 → 128 * length (take many (zones ++ rest)) ≤ 8192
     narrow h = omega (arith, h, few, front_length)
 
-    room : (at page : ℕ) → n ≤ 64 → at + 8192 ≤ page → at + 128 * length (take many (zones ++ rest)) ≤ page
-    room at page h r = omega (arith, narrow h, r)
-
     -- the lines of those zones, by the spread as it is read
     lines :
         (figures : List ℕ) (spread read : ℤ) → read ≡ spread →
         each (zone_line locals figures read) (take many (zones ++ rest)) ≡ each (zone_line locals figures spread) shown
     lines figures spread read f = rw (f, front_is) refl
-
-pub slice_bounds-space-end : goal.slice_bounds-space-end
-slice_bounds-space-end c = c.requires.zoned.most
-
-pub slice_bounds-order-end : goal.slice_bounds-order-end
-slice_bounds-order-end c = sym (length-take-le _ _ c.requires.zoned.most)
-
-pub order-requires : goal.order-requires
-order-requires c = tt
 
 -- what the order's call has left
 module _ (c : After-order) where
@@ -73,7 +58,7 @@ module _ (c : After-order) where
   s = ((goal.at.After-order c).Start)
 
   abbrev n : ℕ
-  n = s.args.n
+  n = length s.args.locals.now
 
   abbrev weights : List ℕ
   weights = s.args.weights.now
@@ -90,29 +75,14 @@ module _ (c : After-order) where
       let z = s.requires.zoned in
       c.order.ensures.lent
       ∙ worked_when_taken _ _ _
-      (order_taken n _ _ _ z.least z.most z.weights_fit z.locals_fit (length-take-le _ _ z.most))
+      (order_taken n _ _ _ z.least z.most z.weights_fit refl (length-take-le _ _ z.most))
 
-pub slice_bounds-space-end-2 : goal.slice_bounds-space-end-2
-slice_bounds-space-end-2 c =
-    let after_order = (goal.at.slice_bounds-space-end-2 c).After-order in
-    in_front (n after_order) (weights after_order) (locals after_order) _ (s after_order).requires.zoned.few (zones after_order) _
-    (zones_left after_order)
-
-pub slice_bounds-put_zones-end : goal.slice_bounds-put_zones-end
-slice_bounds-put_zones-end c =
-    let after_order = (goal.at.slice_bounds-put_zones-end c).After-order in
-    sym (front_length (n after_order) (weights after_order) (locals after_order) _ (s after_order).requires.zoned.few (zones after_order)
-    _ (zones_left after_order))
-
-pub put_zones-requires : goal.put_zones-requires
-put_zones-requires c =
-    let after_order = (goal.at.put_zones-requires c).After-order in
-    let z = (s after_order).requires.zoned in record {
-      listed = listed (n after_order) (weights after_order) (locals after_order) _ z.few (zones after_order) _ (zones_left after_order)
-          z.locals_fit z.figures_fit;
-      room = room (n after_order) (weights after_order) (locals after_order) _ z.few (zones after_order) _ (zones_left after_order) _ _
-          z.most (omega (arith, (s after_order).requires.room));
-    }
+pub put_zones-requires-clause-listed : goal.put_zones-requires-clause-listed
+put_zones-requires-clause-listed c =
+    let after_order = (goal.at.put_zones-requires-clause-listed c).After-order in
+    let z = (s after_order).requires.zoned in
+    listed (n after_order) (weights after_order) (locals after_order) _ z.few (zones after_order) _ (zones_left after_order) refl
+    z.figures_fit
 
 pub returns : goal.returns
 returns c =

@@ -2,26 +2,24 @@
 use mathlib.Core.Path.{◌≡◌, refl, sym, ap, ◌∙◌}
 use mathlib.Core.Bool.{cond}
 use mathlib.Core.List.{List, [], ◌++◌}
-use Prim.Native.Nat.{ℕ, ◌*◌, ◌≤◌}
+use Prim.Native.Nat.{ℕ, ◌*◌}
 use native.Mathlib.Omega.{arith}
 use lib.Dec.{eqb}
 use lib.IntN.{ℤ}
 use lib.ListN.{length}
 use lib.Seq.{length-take-le}
-use Rattle.whole.proofs.Lists.{few}
 use Rattle.account.specs.Answers.{listed, job_figures}
 use Rattle.account.proofs.Theorems.{job_locals_length, kept_most}
-use Rattle.account.proofs.ClassTheorems.{class_sums_length}
 use Rattle.coefficients.specs.Coefficients.{job_pair}
 use Rattle.coefficients.proofs.Job.{spread_in, kept_in}
 use Rattle.coefficients.proofs.Readable.{job_readable, classes_readable}
 use Rattle.report.specs.Steps.{Sound, Classed}
-use Rattle.report.proofs.Puts.{put_as, put_length, put_then}
+use Rattle.report.proofs.Puts.{put_as, put_then}
 use Rattle.report.proofs.Listed.{class_lines_are as class-rows-are}
 use Rattle.report.proofs.JobText.{figures_length, zones_are, sums_within, job_lines_are}
 use Rattle.report.proofs.JobText.{Reports, reports, never_refused, pair_is, sums_are, class_lines_are, job_text_is}
 use Rattle.report.proofs.working.put_job.Goals as goal
-use Rattle.report.proofs.working.put_job.Goals.{After-class_pairs, After-class_room-class_space, After-plain_report-report, In-Reported, Start}
+use Rattle.report.proofs.working.put_job.Goals.{After-class_pairs, After-plain_report-report, In-Reported, Start}
 
 -- texts that are the same by their parts
 both_same : {a b a' b' : List ℕ} → a ≡ a' → b ≡ b' → a ++ b ≡ a' ++ b'
@@ -30,51 +28,16 @@ both_same e f = rw (e, f) refl
 counted_same : (count : ℕ) {a b : List ℕ} → a ≡ b → cond (eqb count 0) [] a ≡ cond (eqb count 0) [] b
 counted_same count e = ap (cond (eqb count 0) []) e
 
--- the array has room for the classes of n × n pairs
-module _ (c : After-class_room-class_space) where
-  abbrev begun : Start
-  begun = ((goal.at.After-class_room-class_space c).Start)
-
-  abbrev zones : ℕ
-  zones = begun.args.n
-
-  class_places : zones * zones ≤ length c.class_room-class_space.result
-  class_places = omega (arith, few zones begun.requires.sound_lists.job.zones, c.class_room-class_space.ensures)
-
-pub slice_bounds-class_space-end : goal.slice_bounds-class_space-end
-slice_bounds-class_space-end c = class_places c
-
-pub slice_bounds-classes-end : goal.slice_bounds-classes-end
-slice_bounds-classes-end c = sym (length-take-le _ _ (class_places ((goal.at.slice_bounds-classes-end c).After-class_room-class_space)))
-
-pub class_pairs-requires : goal.class_pairs-requires
-class_pairs-requires c = record {
-  room_fits = length-take-le _ _ (class_places ((goal.at.class_pairs-requires c).After-class_room-class_space));
-  banded = c.requires.sound_lists.banded;
-}
-
-pub slice_bounds-locals-end : goal.slice_bounds-locals-end
-slice_bounds-locals-end c = sym (length-take-le _ _ c.requires.sound_lists.job.zones)
-
-pub slice_bounds-figures-end : goal.slice_bounds-figures-end
-slice_bounds-figures-end c = sym (length-take-le _ _ c.requires.sound_lists.job.zones)
-
-pub slice_bounds-plain_report-end : goal.slice_bounds-plain_report-end
-slice_bounds-plain_report-end c = refl
-
 -- what the plain report has answered and left
 module _ (c : After-plain_report-report) where
   abbrev pairs_classed : After-class_pairs
   pairs_classed = ((goal.at.After-plain_report-report c).After-class_pairs)
 
-  abbrev rooms : After-class_room-class_space
-  rooms = ((goal.at.After-class_pairs pairs_classed).After-class_room-class_space)
-
   abbrev start : Start
-  start = begun rooms
+  start = ((goal.at.After-class_pairs pairs_classed).Start)
 
   abbrev n : ℕ
-  n = start.args.n
+  n = length start.args.values.now
 
   abbrev values : List ℤ
   values = start.args.values.now
@@ -111,55 +74,34 @@ module _ (w : In-Reported) where
   pair_known : w.in-Reported.whole.pair ≡ job_pair (n answered) (values answered) (weights answered)
   pair_known = pair_is (said answered).of_job w.in-Reported.is
 
-pub put_account-at_pairs-requires : goal.put_account-at_pairs-requires
-put_account-at_pairs-requires c =
-    let w = (goal.at.put_account-at_pairs-requires c).In-Reported in
+pub put_account-at_pairs-requires-clause-within : goal.put_account-at_pairs-requires-clause-within
+put_account-at_pairs-requires-clause-within c =
+    let w = (goal.at.put_account-at_pairs-requires-clause-within c).In-Reported in
     let b = answered w in
-    let zones = job_locals_length (n b) (values b) (weights b) in record {
-      within = sums_within (n b) (values b) (weights b) (sound b) _ (sums_known w);
-      readable_pair = job_readable (n b) (values b) (weights b) _ (pair_known w);
-      zoned = record {
-        least = (sound b).two;
-        most = (sound b).zones;
-        weights_fit = (sound b).weights_fit;
-        few = omega (arith, kept_in (n b) (values b) (weights b) _ (sums_known w), kept_most (n b) (values b) (weights b));
-        locals_fit = ap length (said b).in_locals ∙ zones;
-        figures_fit = ap length (said b).of_zones ∙ figures_length (n b) (values b) (weights b) ∙ zones;
-      };
-      room = omega (arith, c.requires.room);
+    sums_within (n b) (values b) (weights b) (sound b) _ (sums_known w)
+
+pub put_account-at_pairs-requires-clause-readable_pair : goal.put_account-at_pairs-requires-clause-readable_pair
+put_account-at_pairs-requires-clause-readable_pair c =
+    let w = (goal.at.put_account-at_pairs-requires-clause-readable_pair c).In-Reported in
+    let b = answered w in
+    job_readable (n b) (values b) (weights b) _ (pair_known w)
+
+pub put_account-at_pairs-requires-clause-zoned : goal.put_account-at_pairs-requires-clause-zoned
+put_account-at_pairs-requires-clause-zoned c =
+    let w = (goal.at.put_account-at_pairs-requires-clause-zoned c).In-Reported in
+    let b = answered w in
+    let locals_fit = ap length (said b).in_locals ∙ job_locals_length (n b) (values b) (weights b) in record {
+      least = omega (arith, (sound b).two, locals_fit);
+      most = omega (arith, (sound b).zones, locals_fit);
+      weights_fit = (sound b).weights_fit ∙ ap (λ m. m * m) (sym locals_fit);
+      few = omega (arith, kept_in (n b) (values b) (weights b) _ (sums_known w), kept_most (n b) (values b) (weights b), locals_fit);
+      figures_fit = ap length (said b).of_zones ∙ figures_length (n b) (values b) (weights b) ∙ ap length (sym (said b).in_locals);
     }
 
-pub put_pairs-at_classes-requires : goal.put_pairs-at_classes-requires
-put_pairs-at_classes-requires c =
-    let first = c.put_account-at_pairs.ensures in record {
-      joinable = c.requires.sound_lists.joined;
-      room = omega (arith, put_length first, first.few, c.requires.room);
-    }
-
-pub slice_bounds-put_classes-end : goal.slice_bounds-put_classes-end
-slice_bounds-put_classes-end c =
-    let b = (goal.at.slice_bounds-put_classes-end c).After-plain_report-report in
-    sym (ap length (said b).in_rows ∙ class_sums_length (n b) (values b) (weights b) (classes b))
-
-pub put_classes-at_rank-requires : goal.put_classes-at_rank-requires
-put_classes-at_rank-requires c =
-    let b = (goal.at.put_classes-at_rank-requires c).After-plain_report-report in
-    let first = c.put_account-at_pairs.ensures in
-    let second = c.put_pairs-at_classes.ensures in record {
-      rows_len = ap length (said b).in_rows ∙ class_sums_length (n b) (values b) (weights b) (classes b);
-      readable_pairs = classes_readable (n b) (values b) (weights b) (classes b) _ (said b).of_classes;
-      bands_bound = c.requires.sound_lists.few_bands;
-      room = omega (arith, put_length first, first.few, put_length second, second.few, c.requires.room);
-    }
-
-pub put_rank-requires : goal.put_rank-requires
-put_rank-requires c =
-    let first = c.put_account-at_pairs.ensures in
-    let second = c.put_pairs-at_classes.ensures in
-    let third = c.put_classes-at_rank.ensures in record {
-      shuffles_value = c.requires.sound_lists.ranked;
-      room = omega (arith, put_length first, first.few, put_length second, second.few, put_length third, third.few, c.requires.room);
-    }
+pub put_classes-at_rank-requires-clause-readable_pairs : goal.put_classes-at_rank-requires-clause-readable_pairs
+put_classes-at_rank-requires-clause-readable_pairs c =
+    let b = (goal.at.put_classes-at_rank-requires-clause-readable_pairs c).After-plain_report-report in
+    classes_readable (n b) (values b) (weights b) (classes b) _ (said b).of_classes
 
 pub returns-in-Refused : goal.returns-in-Refused
 returns-in-Refused c = absurd (never_refused (said ((goal.at.returns-in-Refused c).After-plain_report-report)).of_job c.in-Refused.is)

@@ -2,23 +2,22 @@
 use mathlib.Core.Path.{◌≡◌, sym, ◌∙◌}
 use Prim.Native.Nat.{◌+◌, ◌≤◌}
 use native.Mathlib.Omega.{arith}
+use borrow.Author.Rules.{rules}
+use lib.ListN.{length}
 use mir.Syntax.{w64}
 use Rattle.whole.proofs.Machine.{fits_le}
 use Rattle.account.specs.Rank.{job_rank, three}
 use Rattle.account.proofs.RankTheorems.{ranked_counts, never_refused}
-use Rattle.report.proofs.Listed.{not_given, given, few_counted, counted_line}
-use Rattle.report.proofs.Puts.{put_none, put_as}
+use Rattle.report.proofs.Listed.{given, few_counted, counted_line}
+use Rattle.report.proofs.Puts.{put_as}
 use Rattle.report.proofs.working.put_rank.Goals as goal
 use Rattle.report.proofs.working.put_rank.Goals.{In-Counted}
-
-pub returns-then-shuffles-eq0 : goal.returns-then-shuffles-eq0
-returns-then-shuffles-eq0 c = put_as put_none (sym (not_given c.args.shuffles.now _ c.if-shuffles-eq0.true))
 
 -- the counts are the job's
 ranked :
     (c : In-Counted) →
     let a = c.args in
-    three c.in-Counted.counts ≡ job_rank a.n a.values.now a.weights.now a.shuffles.now
+    three c.in-Counted.counts ≡ job_rank (length a.values.now) a.values.now a.weights.now a.shuffles.now
 ranked c = ranked_counts _ _ _ _ c.requires.shuffles_value _ c.rank.ensures.counts _ c.in-Counted.is
 
 few : (c : In-Counted) → let t = c.in-Counted.counts in t.less + t.equal + t.greater ≤ 499
@@ -41,4 +40,4 @@ pub returns-in-Counted : goal.returns-in-Counted
 returns-in-Counted c =
     put_as c.put_line.ensures
     (counted_line _ _ _ _ _ (ranked ((goal.at.returns-in-Counted c).In-Counted))
-    ∙ sym (given c.args.shuffles.now _ c.if-shuffles-eq0.false))
+    ∙ sym (given c.args.shuffles.now _ (search rules)))

@@ -5,7 +5,7 @@ use Rattle.std.proofs.Math.Seq.{take-append-add}
 use Rattle.std.proofs.KnownBytes.{Consumes-trans}
 use Rattle.std.specs.Io.KnownBytes.{Consumes}
 use borrow.Rule.Slice.PartMut.{put_mid, post_of}
-use Rattle.print_report.proofs.read_full.Goals as goal
+use Rattle.inputs.proofs.read_full.Goals as goal
 
 -- after a read of `more` bytes into the room from `end` on
 read_on : (end most more : ℕ) (room part : List ℕ) → end ≤ length room → more ≤ length part →

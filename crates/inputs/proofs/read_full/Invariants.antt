@@ -1,7 +1,7 @@
 -- The loop of `read_full`: what was read so far stands at the front of the room, in the reader's order. Assumes nothing.
 use Rattle.std.proofs.Common.{◌≡◌, ◌-◌, ◌≤◌, length, take}
 use Rattle.std.specs.Io.KnownBytes.{Consumes}
-use Rattle.ratios.proofs.read_full.Given as goal
+use Rattle.inputs.proofs.read_full.Given as goal
 
 abbrev pub invariant-loop-end : goal.invariant-loop-end
 invariant-loop-end g l = record {
