@@ -15,10 +15,9 @@ pub(super) fn refused_report(number: u8) -> Report
         moran: Coefficient::Weightless,
         geary: Coefficient::Weightless,
     };
-    let classes = [none, none, none, none, none, none, none, none, none];
     Report {
         whole: coefficients::Answer::Refused(number),
-        classes: classes,
+        classes: [none; 9],
     }
 }
 
@@ -30,7 +29,7 @@ pub(super) fn refused(number: u8) -> Every
     Every {
         account: account::Answer::Refused(number),
         classes: account::Answer::Refused(number),
-        report: report,
+        report,
         plain: report,
     }
 }
@@ -72,7 +71,7 @@ pub(super) fn work_others(
     Every {
         account: own,
         classes: account::Answer::Accounted(sums),
-        report: report,
-        plain: plain,
+        report,
+        plain,
     }
 }

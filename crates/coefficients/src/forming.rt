@@ -9,6 +9,7 @@ ghost use Rattle.coefficients.specs.Steps.{Ratio, Formable, FormableRows, Numera
 use crate::{Coefficient, Pair};
 use account::ClassRow;
 use nearest::Answer;
+use std::array;
 
 // The nearest float to p over q. No refusal can come, so its arm gives a float that nobody meets.
 pub(super) fn ratio(p: i64, q: i64) -> f64
@@ -36,7 +37,7 @@ pub(super) fn pair(n: usize, spread: i64, row: ClassRow) -> Pair
         };
     }
     let moran = ratio(cross, weight * spread);
-    let ordered = ((n - 1) * n) as i64;
+    let ordered = ((n - 1) * n) as i64; // no From leads here from a usize
     let twice = 2 * weight;
     let geary = ratio(ordered * squares, twice * spread);
     Pair {
@@ -52,18 +53,12 @@ pub(super) fn class_pair(n: usize, spread: i64, rows: &[i64], k: usize) -> Pair
     ensures { result ≡ pair_of n spread (row_at rows.now k) }
 {
     let place = k * 3;
-    let weight = rows[place];
-    let cross = rows[place + 1];
-    let squares = rows[place + 2];
-    pair(
-        n,
-        spread,
-        ClassRow {
-            weight: weight,
-            cross: cross,
-            squares: squares,
-        },
-    )
+    let row = ClassRow {
+        weight: rows[place],
+        cross: rows[place + 1],
+        squares: rows[place + 2],
+    };
+    pair(n, spread, row)
 }
 
 // The pairs of the nine classes.
@@ -71,17 +66,7 @@ pub(super) fn class_pairs(n: usize, spread: i64, rows: &[i64]) -> [Pair; 9]
     requires { FormableRows n spread rows.now }
     ensures { result ≡ table (λ k. pair_of n spread (row_at rows.now k)) 9 }
 {
-    [
-        class_pair(n, spread, rows, 0),
-        class_pair(n, spread, rows, 1),
-        class_pair(n, spread, rows, 2),
-        class_pair(n, spread, rows, 3),
-        class_pair(n, spread, rows, 4),
-        class_pair(n, spread, rows, 5),
-        class_pair(n, spread, rows, 6),
-        class_pair(n, spread, rows, 7),
-        class_pair(n, spread, rows, 8),
-    ]
+    array::from_fn(|k| class_pair(n, spread, rows, k))
 }
 
 // The local Moran of each local numerator of a list, by its bits.
@@ -90,11 +75,8 @@ pub(super) fn put_figures(spread: i64, numerators: &[i64], figures: &mut [u64])
     requires figures_len { length figures.old ≡ length numerators.now }
     ensures { figures.new ≡ local_figures spread numerators.now }
 {
-    let mut i: usize = 0;
-    while i < numerators.len() {
-        let numerator = numerators[i];
-        let figure = ratio(numerator, spread);
-        figures[i] = f64::to_bits(figure);
-        i += 1;
+    // of a zip over iter_mut no proof knows what it wrote, so the numerators go by the index
+    for (i, figure) in figures.iter_mut().enumerate() {
+        *figure = ratio(numerators[i], spread).to_bits();
     }
 }

@@ -60,10 +60,9 @@ pub(super) fn refused(number: u8) -> Report
         moran: Coefficient::Weightless,
         geary: Coefficient::Weightless,
     };
-    let classes = [none, none, none, none, none, none, none, none, none];
     Report {
         whole: Answer::Refused(number),
-        classes: classes,
+        classes: [none; 9],
     }
 }
 
@@ -99,12 +98,8 @@ pub(super) fn report_job(
     let wanted = parts.len();
     forming::put_figures(spread, &class_locals[..wanted], parts);
     let pair = forming::pair(kept, spread, row);
-    let whole = Whole {
-        sums: sums,
-        pair: pair,
-    };
     Report {
-        whole: Answer::Reported(whole),
+        whole: Answer::Reported(Whole { sums, pair }),
         classes: forming::class_pairs(kept, spread, rows),
     }
 }

@@ -11,16 +11,16 @@ use borrow.Author.Tests.{eq-eqb, ne_eqb}
 use lib.Arith.{digits_div, digits_mod}
 use lib.Dec.{eqb}
 use lib.IntN.{ℤ, pos, nat_abs, ◌+ℤ◌, ◌*ℤ◌, +ℤ_idr}
-use lib.ListN.{length, get_or, set, length-set}
+use lib.ListN.{length, get_or, set, replicate, length-set}
 use lib.Seq.{get_or-set_same, get_or-set_other}
+use Rattle.std.proofs.lemmas.List.{length-replicate, get_or-replicate}
 use Rattle.whole.specs.Search.{any_above}
 use Rattle.whole.specs.Sum.{sum}
-use Rattle.whole.specs.Table.{table, at, pair_at}
+use Rattle.whole.specs.Table.{at, pair_at}
 use Rattle.whole.proofs.Lists.{few}
 use Rattle.whole.proofs.Search.{none_above}
 use Rattle.whole.proofs.Sum.{sum_zero, sum_more, sum_cong, sum_rows}
 use Rattle.whole.proofs.SumSize.{sum_size}
-use Rattle.whole.proofs.Table.{table_at, table_length}
 use Rattle.whole.proofs.TableRows.{split, rows_flat}
 use Rattle.account.specs.Measures.{weight_of, pairs_of, row_of}
 use Rattle.joins.specs.Joins.{category_at, weight_between, joins_of, join_table}
@@ -50,11 +50,11 @@ module _ (n : ℕ) (categories weights : List ℕ) where
     pub holds : (t : ℕ) → t < 64 → at entries t ≡ sum (adds t) p
 
   -- before the first
-  pub none_counted : (entries : List ℤ) → entries ≡ table (λ k. pos 0) 64 → Counted entries 0
+  pub none_counted : (entries : List ℤ) → entries ≡ replicate 64 (pos 0) → Counted entries 0
   none_counted entries e = record {
     passed = omega arith;
-    count = ap length e ∙ table_length (λ k. pos 0) 64;
-    holds = λ t h. ap (λ l. at l t) e ∙ table_at (λ k. pos 0) 64 t (pos 0) h ∙ sym (sum_zero (adds t));
+    count = ap length e ∙ length-replicate 64 (pos 0);
+    holds = λ t h. ap (λ l. at l t) e ∙ get_or-replicate 64 t (pos 0) (pos 0) h ∙ sym (sum_zero (adds t));
   }
 
   -- one more: the entry of its zones' categories is one weight larger

@@ -17,7 +17,7 @@ pub fn join_table(n: usize, categories: &[u8], weights: &[u8], table: &mut [i64]
     if number != 0 {
         return number;
     }
-    counting::clear(table);
+    table.fill(0);
     counting::count_joins(n, categories, weights, table);
     0
 }

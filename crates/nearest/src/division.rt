@@ -46,7 +46,7 @@ pub(super) fn widened(q: u64) -> Divisor
 fn room(x: u64) -> u64
     ensures { Room x result }
 {
-    u64::leading_zeros(x) as u64
+    u64::from(x.leading_zeros())
 }
 
 // How many digits more one division gives: as many as the divisor leaves room for, and no more than are lacking.
@@ -59,7 +59,7 @@ fn count(whole: u64, most: u64) -> u64
     ensures result_bound { (whole + 1) * 2 ^ result ≤ 2 ^ 53 }
 {
     let lacking = room(whole) - 11;
-    if lacking < most { lacking } else { most }
+    lacking.min(most)
 }
 
 // So many binary digits more, by a division.

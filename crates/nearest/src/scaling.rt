@@ -23,5 +23,6 @@ pub(super) fn scaled(m: u64, doublings: u64, halvings: u64) -> f64
     requires halvings_bound { halvings ≤ 115 }
     ensures { result ≡ round binary64 false (m * 2 ^ doublings) (2 ^ halvings) }
 {
+    // no From leads here from a u64: the cast is exact, since m has at most 53 digits
     (m as f64) * power(doublings, halvings)
 }

@@ -7,22 +7,16 @@ use native.Mathlib.Omega.{arith}
 use borrow.Author.Tests.{eqb-true, eqb-false, eq-eqb, ne_eqb, lt-ltb, le-ltb}
 use lib.Dec.{eqb, ltb}
 use lib.IntN.{ℤ, pos, negsuc, nat_abs, ◌+ℤ◌, ◌-ℤ◌, +ℤ_comm}
-use lib.Signed.{lt_z, le_z}
+use lib.Signed.{lt_z}
 use Rattle.whole.specs.Integer.{square, below_zero}
 use Rattle.whole.specs.Network.{Network}
 use Rattle.whole.specs.Search.{some}
-use Rattle.whole.proofs.Compare.{at_most}
 use Rattle.whole.proofs.Integer.{+_swap, diff_of, diff_+, diff_*, diff_neg, diff_eq}
 use Rattle.whole.proofs.Rules.{beside, second_fails}
 use Rattle.whole.proofs.Search.{some_found, some_cong}
 use Rattle.places.specs.Gabriel.{in_circle, any_in_circle, gabriel_weight}
 
 module _ (d : ℕ → ℕ → ℤ) (a b : ℕ) where
-  -- x, which is d(a,c) + d(b,c), is at most y, which is d(a,b)
-  pub circle_tested : (c : ℕ) (x y : ℤ) → x ≡ d a c +ℤ d b c → y ≡ d a b → le_z x y ≡ in_circle d a b c
-  unfolding in_circle
-  circle_tested c x y p q = ap (λ z. le_z z y) p ∙ ap (le_z (d a c +ℤ d b c)) q ∙ at_most (d a c +ℤ d b c) (d a b)
-
   -- ---- c is a third zone and in the circle
   abbrev pub third_in : ℕ → Bool
   third_in c = not (eqb c a || eqb c b) && in_circle d a b c

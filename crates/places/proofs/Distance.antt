@@ -2,7 +2,7 @@
 use mathlib.Core.Path.{◌≡◌, ap, ◌∙◌}
 use mathlib.Core.Bool.{false}
 use mathlib.Core.List.{List}
-use Prim.Native.Nat.{ℕ, ◌+◌, ◌*◌, ◌≤◌, ◌<◌}
+use Prim.Native.Nat.{ℕ, ◌≤◌, ◌<◌}
 use native.Mathlib.Omega.{arith}
 use lib.IntN.{ℤ, nat_abs, ◌+ℤ◌, ◌-ℤ◌, pos}
 use lib.ListN.{length}
@@ -13,7 +13,8 @@ use Rattle.whole.proofs.Integer.{diff_of, diff_+, diff_*, diff_neg, diff_eq}
 use Rattle.whole.proofs.Machine.{Is, told, rd, r64}
 use Rattle.whole.proofs.Search.{none_beyond}
 use Rattle.whole.proofs.Size.{size_+_le, size___le, size_*_le, +_above, square_above}
-use Rattle.places.specs.Places.{across, up, squared_distance}
+use Rattle.whole.specs.Table.{at}
+use Rattle.places.specs.Places.{across, up, squared_distance, squared_between}
 
 -- ---- the size
 
@@ -21,22 +22,20 @@ use Rattle.places.specs.Places.{across, up, squared_distance}
 difference_size : (x y : ℤ) → nat_abs x ≤ 30000 → nat_abs y ≤ 30000 → nat_abs (square (x -ℤ y)) ≤ 3600000000
 difference_size x y h k = let d = size___le x y 30000 30000 h k in size_*_le (x -ℤ y) (x -ℤ y) 60000 60000 d d
 
--- of the squared distance, where no coordinate is beyond 30,000
-distance_size :
-    (places : List ℤ) (a b : ℕ) → any_beyond 30000 places ≡ false → 2 * a + 1 < length places → 2 * b + 1 < length places →
-    nat_abs (squared_distance places a b) ≤ 7200000000
-unfolding squared_distance across up
-distance_size places a b near h k =
-    let size = none_beyond 30000 places near in
-    size_+_le (square (across places a -ℤ across places b)) (square (up places a -ℤ up places b)) 3600000000 3600000000
-    (difference_size (across places a) (across places b) (size (2 * a) (omega arith)) (size (2 * b) (omega arith)))
-    (difference_size (up places a) (up places b) (size (2 * a + 1) h) (size (2 * b + 1) k))
+-- of the squared distance of two zones, where no coordinate is beyond 30,000
+module _ (a b : List ℤ) (h : any_beyond 30000 a ≡ false) (k : any_beyond 30000 b ≡ false) (p : 1 < length a) (q : 1 < length b) where
+  between_size : nat_abs (squared_between a b) ≤ 7200000000
+  unfolding squared_between
+  between_size =
+      let of_a = none_beyond 30000 a h in
+      let of_b = none_beyond 30000 b k in
+      size_+_le (square (at a 0 -ℤ at b 0)) (square (at a 1 -ℤ at b 1)) 3600000000 3600000000
+      (difference_size (at a 0) (at b 0) (of_a 0 (omega arith)) (of_b 0 (omega arith)))
+      (difference_size (at a 1) (at b 1) (of_a 1 p) (of_b 1 q))
 
--- where y was told to be it, it is what is read of y
-pub distance_read :
-    (places : List ℤ) (a b : ℕ) → any_beyond 30000 places ≡ false → 2 * a + 1 < length places → 2 * b + 1 < length places →
-    (y : ℤ) → y ≡ squared_distance places a b → Is (r64 y) (squared_distance places a b) 7200000000
-distance_read places a b near h k y e = rd w64 (told (squared_distance places a b) 7200000000 e (distance_size places a b near h k)) tt
+  -- where y was told to be it, it is what is read of y
+  pub between_read : (y : ℤ) → y ≡ squared_between a b → Is (r64 y) (squared_between a b) 7200000000
+  between_read y e = rd w64 (told (squared_between a b) 7200000000 e between_size) tt
 
 -- ---- both ways
 

@@ -1,6 +1,7 @@
 // The classes of pairs of zones, by bands that were judged and accepted.
 ghost use Rattle.std.specs.Prelude.{◌≡◌, false, ◌*◌, ◌≤◌, length};
 ghost use Rattle.whole.specs.Search.{any_beyond};
+ghost use Rattle.places.specs.Places.{coordinates};
 ghost use Rattle.places.specs.Bands.{band_class, band_classes};
 
 use crate::distances;
@@ -10,35 +11,30 @@ pub(super) fn band_class(bands: &[u32], distance: i64) -> u8
     requires { length bands.now ≤ 8 }
     ensures { result ≡ band_class bands.now distance }
 {
-    let mut k: usize = 0;
-    while k < bands.len() {
-        let band = bands[k] as i64;
-        k += 1;
-        if distance <= band {
-            return k as u8;
+    for (k, band) in bands.iter().enumerate() {
+        if distance <= i64::from(*band) {
+            return k as u8 + 1; // no From leads here from a usize
         }
     }
     0
 }
 
 // The class of each pair, 0 on the diagonal. The p-th pair is zone p / n and zone p % n.
-pub(super) fn class_pairs(n: usize, places: &[i32], bands: &[u32], classes: &mut [u8])
-    requires n_bound { n ≤ 64 }
-    requires places_len { length places.now ≡ 2 * n }
-    requires places_value { any_beyond 30000 places.now ≡ false }
+pub(super) fn class_pairs(zones: &[[i32; 2]], bands: &[u32], classes: &mut [u8])
+    requires zones_bound { length zones.now ≤ 64 }
+    requires zones_near { any_beyond 30000 (coordinates zones.now) ≡ false }
     requires bands_len_bound { length bands.now ≤ 8 }
-    requires classes_len { length classes.old ≡ n * n }
-    ensures { classes.new ≡ band_classes n places.now bands.now }
+    requires classes_len { length classes.old ≡ length zones.now * length zones.now }
+    ensures { classes.new ≡ band_classes (length zones.now) (coordinates zones.now) bands.now }
 {
-    let mut p: usize = 0;
-    while p < classes.len() {
+    let n = zones.len();
+    for (p, class) in classes.iter_mut().enumerate() {
         let a = p / n;
         let b = p % n;
-        if a == b {
-            classes[p] = 0;
+        *class = if a == b {
+            0 // on the diagonal
         } else {
-            classes[p] = band_class(bands, distances::squared_distance(places, a, b));
-        }
-        p += 1;
+            band_class(bands, distances::squared_distance(zones[a], zones[b]))
+        };
     }
 }

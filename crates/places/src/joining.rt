@@ -1,51 +1,49 @@
 // The Gabriel network of places that were judged and accepted.
-ghost use Rattle.std.specs.Prelude.{◌≡◌, false, ◌+◌, ◌*◌, ◌<◌, ◌≤◌, length};
+ghost use Rattle.std.specs.Prelude.{◌≡◌, false, not, ◌*◌, ◌≤◌, ◌+ℤ◌, length};
+ghost use Rattle.std.specs.Int.Signed.{lt_z};
 ghost use Rattle.whole.specs.Search.{any_beyond};
-ghost use Rattle.places.specs.Places.{squared_distance};
-ghost use Rattle.places.specs.Gabriel.{in_circle, gabriel_network};
+ghost use Rattle.places.specs.Places.{squared_between, coordinates};
+ghost use Rattle.places.specs.Gabriel.{gabriel_network};
 
 use crate::distances;
 
 // Whether zone c is inside or on the circle of zones a and b, whose squared distance is given.
-pub(super) fn in_circle(places: &[i32], a: usize, b: usize, distance: i64, c: usize) -> bool
-    requires places_len_bound { length places.now ≤ 128 }
-    requires places_value { any_beyond 30000 places.now ≡ false }
-    requires a_in_bounds { 2 * a + 1 < length places.now }
-    requires b_in_bounds { 2 * b + 1 < length places.now }
-    requires c_in_bounds { 2 * c + 1 < length places.now }
-    requires distance_value { distance ≡ squared_distance places.now a b }
-    ensures { result ≡ in_circle (squared_distance places.now) a b c }
+pub(super) fn in_circle(a: [i32; 2], b: [i32; 2], distance: i64, c: [i32; 2]) -> bool
+    requires a_near { any_beyond 30000 a ≡ false }
+    requires b_near { any_beyond 30000 b ≡ false }
+    requires c_near { any_beyond 30000 c ≡ false }
+    requires distance_value { distance ≡ squared_between a b }
+    ensures { result ≡ not (lt_z (squared_between a b) (squared_between a c +ℤ squared_between b c)) }
 {
-    distances::squared_distance(places, a, c) + distances::squared_distance(places, b, c)
-        <= distance
+    distances::squared_distance(a, c) + distances::squared_distance(b, c) <= distance
 }
 
 // Joins the pairs of zones: the search for a pair stops at the first third zone inside or on its circle. The p-th pair is zone p / n and
 // zone p % n.
-pub(super) fn join_pairs(n: usize, places: &[i32], weights: &mut [u8])
-    requires n_bound { n ≤ 64 }
-    requires places_len { length places.now ≡ 2 * n }
-    requires places_value { any_beyond 30000 places.now ≡ false }
-    requires weights_len { length weights.old ≡ n * n }
-    ensures { weights.new ≡ gabriel_network n places.now }
+pub(super) fn join_pairs(zones: &[[i32; 2]], weights: &mut [u8])
+    requires zones_bound { length zones.now ≤ 64 }
+    requires zones_near { any_beyond 30000 (coordinates zones.now) ≡ false }
+    requires weights_len { length weights.old ≡ length zones.now * length zones.now }
+    ensures { weights.new ≡ gabriel_network (length zones.now) (coordinates zones.now) }
 {
-    let pairs = n * n;
-    'pair: for p in 0..pairs {
+    let n = zones.len();
+    'pair: for (p, weight) in weights.iter_mut().enumerate() {
         let a = p / n;
         let b = p % n;
-        weights[p] = 0;
+        *weight = 0;
         if a == b {
             continue 'pair;
         }
-        let distance = distances::squared_distance(places, a, b);
-        'third: for c in 0..n {
+        let (first, second) = (zones[a], zones[b]);
+        let distance = distances::squared_distance(first, second);
+        'third: for (c, third) in zones.iter().enumerate() {
             if c == a || c == b {
                 continue 'third;
             }
-            if in_circle(places, a, b, distance, c) {
+            if in_circle(first, second, distance, *third) {
                 continue 'pair;
             }
         }
-        weights[p] = 1;
+        *weight = 1;
     }
 }

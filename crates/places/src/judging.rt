@@ -1,41 +1,17 @@
 // The judges: each answers the number of the first broken rule, 0 where none is broken, and stores nothing.
 ghost use Rattle.std.specs.Prelude.{◌≡◌, [], ◌∷◌, ◌+◌, ◌*◌, ◌<◌, ◌≤◌, length};
 ghost use Rattle.whole.specs.Rules.{first_broken, size_rules};
-ghost use Rattle.whole.specs.Search.{some};
-ghost use Rattle.places.specs.Places.{at_one_place, any_at_one_place, call_rules, places_in_turn};
-ghost use Rattle.places.specs.Bands.{any_empty_band, any_not_rising, any_misplaced, bands_broken, band_refusal};
-
-// Whether a zone before a is at its place.
-pub(super) fn earlier_at_place(places: &[i32], a: usize) -> bool
-    requires { 2 * a + 1 < length places.now }
-    ensures { result ≡ some (at_one_place places.now a) a }
-{
-    let across = places[2 * a];
-    let up = places[2 * a + 1];
-    let mut b: usize = 0;
-    while b < a {
-        if places[2 * b] == across {
-            if places[2 * b + 1] == up {
-                return true;
-            }
-        }
-        b += 1;
-    }
-    false
-}
+ghost use Rattle.places.specs.Places.{coordinates, any_at_one_place, call_rules, places_in_turn};
+ghost use Rattle.places.specs.Bands.{any_misplaced, bands_broken, band_refusal};
 
 // Whether two of the zones are at one place.
-pub(super) fn any_at_one_place(n: usize, places: &[i32]) -> bool
-    requires n_bound { n ≤ 64 }
-    requires places_len { length places.now ≡ 2 * n }
-    ensures { result ≡ any_at_one_place n places.now }
+pub(super) fn any_at_one_place(zones: &[[i32; 2]]) -> bool
+    ensures { result ≡ any_at_one_place (length zones.now) (coordinates zones.now) }
 {
-    let mut a: usize = 0;
-    while a < n {
-        if earlier_at_place(places, a) {
+    for (a, zone) in zones.iter().enumerate() {
+        if zones[..a].contains(zone) {
             return true;
         }
-        a += 1;
     }
     false
 }
@@ -70,7 +46,8 @@ pub(super) fn judge_places(n: usize, places: &[i32], room: usize) -> u8
     if judges::any_beyond(30000, places) {
         return 10;
     }
-    if any_at_one_place(n, places) {
+    let (zones, _) = places.as_chunks::<2>();
+    if any_at_one_place(zones) {
         return 11;
     }
     0
@@ -80,75 +57,34 @@ pub(super) fn judge_places(n: usize, places: &[i32], room: usize) -> u8
 pub fn judge_in_turn(places: &[i32]) -> u8
     ensures { result ≡ first_broken (places_in_turn places.now) }
 {
-    let zones = places.len() / 2;
-    let mut a: usize = 0;
-    while a < zones {
-        let first = 2 * a;
-        let end = first + 2;
-        if judges::any_beyond(30000, &places[first..end]) {
+    let (zones, _) = places.as_chunks::<2>();
+    for (a, zone) in zones.iter().enumerate() {
+        if judges::any_beyond(30000, zone) {
             return 10;
         }
-        if earlier_at_place(places, a) {
+        if zones[..a].contains(zone) {
             return 11;
         }
-        a += 1;
     }
     0
-}
-
-// Whether some band is 0.
-pub(super) fn any_empty_band(bands: &[u32]) -> bool
-    ensures { result ≡ any_empty_band bands.now }
-{
-    let mut k: usize = 0;
-    while k < bands.len() {
-        if bands[k] == 0 {
-            return true;
-        }
-        k += 1;
-    }
-    false
-}
-
-// Whether some band is not above the one before it.
-pub(super) fn any_not_rising(bands: &[u32]) -> bool
-    requires { 1 ≤ length bands.now }
-    ensures { result ≡ any_not_rising bands.now }
-{
-    let mut k: usize = 1;
-    while k < bands.len() {
-        if bands[k] <= bands[k - 1] {
-            return true;
-        }
-        k += 1;
-    }
-    false
 }
 
 // Whether a band is 0, or the bands do not rise strictly. Of no bands neither is so.
 pub fn any_misplaced(bands: &[u32]) -> bool
     ensures { result ≡ any_misplaced bands.now }
 {
-    if bands.len() == 0 {
-        return false;
-    }
-    if any_empty_band(bands) {
-        return true;
-    }
-    any_not_rising(bands)
+    bands.contains(&0) || !bands.is_sorted_by(|low, high| low < high)
 }
 
 // Whether the bands break rule 12.
+#[tactic(auto, unfolding(crate::specs::Bands::bands_broken))]
 pub(super) fn bands_broken(bands: &[u32]) -> bool
     ensures { result ≡ bands_broken bands.now }
 {
-    if bands.len() < 1 {
-        return true;
+    match bands.len() {
+        1..=8 => any_misplaced(bands),
+        _ => true,
     }
-    if bands.len() > 8 {
-        return true;
-    }
-    any_misplaced(bands)
 }
 
 // 1, 2, 10, 11, then 12: the bands' refusal.

@@ -23,7 +23,8 @@ pub fn gabriel(n: usize, places: &[i32], weights: &mut [u8]) -> u8
     if number != 0 {
         return number;
     }
-    joining::join_pairs(n, places, weights);
+    let (zones, _) = places.as_chunks::<2>();
+    joining::join_pairs(zones, weights);
     0
 }
 
@@ -37,6 +38,7 @@ pub fn bands(n: usize, places: &[i32], bands: &[u32], classes: &mut [u8]) -> u8
     if number != 0 {
         return number;
     }
-    banding::class_pairs(n, places, bands, classes);
+    let (zones, _) = places.as_chunks::<2>();
+    banding::class_pairs(zones, bands, classes);
     0
 }

@@ -1,8 +1,7 @@
 -- `join_table` meets its contract: judged first, and counted only where no rule is broken. Assumes nothing.
 use mathlib.Core.Path.{◌≡◌, sym, ap, ◌∙◌}
 use lib.IntN.{pos}
-use lib.ListN.{length}
-use Rattle.whole.specs.Table.{table}
+use lib.ListN.{length, replicate}
 use Rattle.whole.proofs.Rules.{kept_when_refused, worked_when_taken}
 use Rattle.joins.specs.Joins.{join_refusal, joins_left}
 use Rattle.joins.proofs.Accepted.{Accepted, accepted}
@@ -32,9 +31,6 @@ returns-then-number-ne0 c = let found = c.judge_joins-number.ensures in record {
   lent = sym (kept_when_refused _ _ _ (λ z. c.if-number-ne0.true (found ∙ z)));
 }
 
-pub clear-requires : goal.clear-requires
-clear-requires c = tt
-
 pub count_joins-requires : goal.count_joins-requires
 count_joins-requires c =
     let g = good ((goal.at.count_joins-requires c).Else-number-ne0) in record {
@@ -43,7 +39,7 @@ count_joins-requires c =
       weights_len = g.weights_fit;
       weights_value = g.light;
       categories_value = g.low;
-      entries_value = c.clear.ensures ∙ ap (table (λ k. pos 0)) g.room_fit;
+      entries_value = c.fill.ensures.after (λ y e. e) ∙ ap (λ k. replicate k (pos 0)) g.room_fit;
     }
 
 pub returns : goal.returns

@@ -1,11 +1,18 @@
 -- `gabriel` meets its contract: judged first, and worked only where no rule is broken. Assumes nothing.
-use mathlib.Core.Path.{◌≡◌, sym, ◌∙◌}
+use mathlib.Core.Path.{◌≡◌, sym, ap, ◌∙◌}
+use mathlib.Core.List.{List}
+use Prim.Native.Nat.{◌*◌}
+use native.Mathlib.Omega.{arith}
+use lib.IntN.{ℤ}
 use lib.ListN.{length}
+use Rattle.whole.specs.Search.{any_beyond}
 use Rattle.whole.proofs.Rules.{kept_when_refused, worked_when_taken}
-use Rattle.places.specs.Gabriel.{gabriel_refusal, gabriel_left}
-use Rattle.places.proofs.Accepted.{gabriel_accepted}
+use Rattle.places.specs.Places.{coordinates}
+use Rattle.places.specs.Gabriel.{gabriel_network, gabriel_refusal, gabriel_left}
+use Rattle.places.proofs.Accepted.{Placed, gabriel_accepted}
+use Rattle.places.proofs.Coordinates.{taken_count, taken_all}
 use Rattle.places.proofs.gabriel.Goals as goal
-use Rattle.places.proofs.gabriel.Goals.{After-judge_places-number}
+use Rattle.places.proofs.gabriel.Goals.{After-judge_places-number, After-as_chunks}
 
 -- what the judge found
 found :
@@ -28,23 +35,40 @@ returns-then-number-ne0 c =
       lent = sym (kept_when_refused _ _ _ (λ z. c.if-number-ne0.true (e ∙ z)));
     }
 
+-- the zones that are joined are those of the places
+module _ (c : After-as_chunks) where
+  abbrev zones : List (List ℤ)
+  zones = c.as_chunks.result.0.now
+
+  good : Placed c.args.n c.args.places.now (length c.args.weights.now)
+  good = gabriel_accepted _ _ _ (sym (found ((goal.at.After-as_chunks c).After-judge_places-number)) ∙ c.if-number-ne0.false)
+
+  count : length zones ≡ c.args.n
+  count = taken_count zones c.args.places.now c.as_chunks.ensures.front c.args.n good.sizes.places_fit
+
+  all : coordinates zones ≡ c.args.places.now
+  all = taken_all zones c.args.places.now c.as_chunks.ensures.front c.args.n good.sizes.places_fit
+
 pub join_pairs-requires : goal.join_pairs-requires
 join_pairs-requires c =
-    let t = (goal.at.join_pairs-requires c).After-judge_places-number in
-    let g = gabriel_accepted _ _ _ (sym (found t) ∙ c.if-number-ne0.false) in
+    let t = (goal.at.join_pairs-requires c).After-as_chunks in
+    let g = good t in
     record {
-      n_bound = g.sizes.zones;
-      places_len = g.sizes.places_fit;
-      places_value = g.near;
-      weights_len = g.sizes.room_fit;
+      zones_bound = omega (arith, count t, g.sizes.zones);
+      zones_near = ap (any_beyond 30000) (all t) ∙ g.near;
+      weights_len = g.sizes.room_fit ∙ ap (λ k. k * k) (sym (count t));
     }
 
 pub returns : goal.returns
 unfolding gabriel_left
 returns c =
-    let t = (goal.at.returns c).After-judge_places-number in
-    let z = sym (found t) ∙ c.if-number-ne0.false in
+    let t = (goal.at.returns c).After-as_chunks in
+    let z = sym (found ((goal.at.returns c).After-judge_places-number)) ∙ c.if-number-ne0.false in
     record {
       number = sym z;
-      lent = c.join_pairs.ensures ∙ sym (worked_when_taken _ _ _ z);
+      lent =
+          c.join_pairs.ensures
+          ∙ ap (λ k. gabriel_network k (coordinates (zones t))) (count t)
+          ∙ ap (gabriel_network c.args.n) (all t)
+          ∙ sym (worked_when_taken _ _ _ z);
     }

@@ -1,36 +1,37 @@
--- `class_pairs` meets its contract: nine pairs in a row. Assumes nothing.
-use mathlib.Core.Path.{◌≡◌, refl, ap, ◌∙◌}
-use mathlib.Core.List.{[], ◌∷◌}
-use Prim.Native.Nat.{ℕ}
-use mir.Syntax.{w64}
-use mir.ValLaws.{to_z-of_z}
-use Rattle.whole.specs.Table.{table}
-use Rattle.whole.proofs.Machine.{r64}
+-- `class_pairs` meets its contract: nine pairs, by calls that leave the closure as it is. Assumes nothing.
+use mathlib.Core.Path.{◌≡◌, refl, ◌∙◌, subst}
+use mathlib.Core.List.{List}
+use Prim.Native.Nat.{ℕ, zero, suc, ◌+◌, ◌<◌}
+use native.Mathlib.Nat as N
+use native.Mathlib.Omega.{arith}
+use denote.Param.Members.{Mut}
+use lib.ListN.{get_or}
+use Rattle.std.proofs.Common.{rules}
+use Rattle.std.specs.Array.{IsFromFnResultFrom}
+use Rattle.std.specs.Fn.{Called}
+use Rattle.whole.proofs.Table.{is_table}
 use Rattle.account.specs.Classes.{row_at}
 use Rattle.coefficients.specs.Coefficients.{pair_of}
-use Rattle.coefficients.specs.declared.Pair.{Pair}
+use Rattle.coefficients.specs.FloatReport.{no_pair}
 use Rattle.coefficients.proofs.forming.class_pairs.Goals as goal
 
-listed :
-    (p : ℕ → Pair) (a b c d e f g h i : Pair) → a ≡ p 0 → b ≡ p 1 → c ≡ p 2 → d ≡ p 3 → e ≡ p 4 → f ≡ p 5 → g ≡ p 6 → h ≡ p 7 → i ≡ p 8 →
-    (a ∷ b ∷ c ∷ d ∷ e ∷ f ∷ g ∷ h ∷ i ∷ []) ≡ table p 9
-unfolding table
-listed p a b c d e f g h i e0 e1 e2 e3 e4 e5 e6 e7 e8 = rw (e0, e1, e2, e3, e4, e5, e6, e7, e8) refl
+-- what the calls of an unchanged closure gave, from the i-th on
+module _ {F B : Type 0} (g : Mut F (ℕ × Unit {0}) B) (f : F) (wanted : ℕ → B) (ys : List B)
+    (step : (k : ℕ) (y : B) (q : F) → Called g f (k, tt) y q → (q ≡ f) × (y ≡ wanted k)) where
+  given :
+      (n i : ℕ) (p : F) → p ≡ f → IsFromFnResultFrom g p ys i n → (k : ℕ) → k < n → (d : B) → get_or ys (i + k) d ≡ wanted (i + k)
+  given zero i p same e k h d = let z : ⊥ = omega arith in absurd z
+  given (suc n) i p same e zero h d =
+      let called = subst (λ z. Called g z (i, tt) e.1 e.0) same e.3 in
+      rw (N.add-zero i) (e.2.1 d ∙ (step i e.1 e.0 called).1)
+  given (suc n) i p same e (suc k) h d =
+      let called = subst (λ z. Called g z (i, tt) e.1 e.0) same e.3 in
+      let next : i + suc k ≡ i + 1 + k = omega arith in
+      rw next (given n (i + 1) e.0 (step i e.1 e.0 called).0 e.4 k (omega arith) d)
 
 pub returns : goal.returns
 returns c =
-    let n = c.args.n in
+    let e = c.from_fn.ensures.items in
     let rows = c.args.rows.now in
-    let m = c.args.spread in
-    let read : (k : ℕ) → pair_of n (r64 m) (row_at rows k) ≡ pair_of n m (row_at rows k) =
-    λ k. ap (λ v. pair_of n v (row_at rows k)) (to_z-of_z w64 m c.ranges.spread) in
-    listed (λ k. pair_of n c.args.spread (row_at rows k)) _ _ _ _ _ _ _ _ _
-    (c.class_pair.ensures ∙ read 0)
-    (c.class_pair-2.ensures ∙ read 1)
-    (c.class_pair-3.ensures ∙ read 2)
-    (c.class_pair-4.ensures ∙ read 3)
-    (c.class_pair-5.ensures ∙ read 4)
-    (c.class_pair-6.ensures ∙ read 5)
-    (c.class_pair-7.ensures ∙ read 6)
-    (c.class_pair-8.ensures ∙ read 7)
-    (c.class_pair-9.ensures ∙ read 8)
+    is_table (λ k. pair_of c.args.n c.args.spread (row_at rows k)) 9 no_pair c.from_fn.result e.long
+    (λ k h. rw (← N.zero-add k) (given _ _ (λ k. pair_of c.args.n c.args.spread (row_at rows k)) c.from_fn.result (λ k y q r. search rules) 9 0 _ refl e.each k h no_pair))

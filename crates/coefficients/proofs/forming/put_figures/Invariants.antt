@@ -1,15 +1,9 @@
 use mathlib.Core.Path.{◌≡◌}
-use Prim.Native.Nat.{ℕ, ◌-◌, ◌≤◌, ◌<◌}
-use lib.ListN.{length, get_or}
+use Prim.Native.Nat.{ℕ, ◌<◌}
+use lib.ListN.{get_or}
 use Rattle.whole.specs.Table.{at}
 use Rattle.nearest.specs.Answers.{nearest_bits}
 use Rattle.coefficients.proofs.forming.put_figures.Given as goal
 
 abbrev pub invariant-loop-i : goal.invariant-loop-i
-invariant-loop-i l =
-    (l.i ≤ length l.numerators)
-    × ((length l.figures ≡ length l.numerators)
-    × ((k : ℕ) → k < l.i → get_or l.figures k 0 ≡ nearest_bits (at l.numerators k) l.spread))
-
-abbrev pub decreases-loop-i : goal.decreases-loop-i
-decreases-loop-i l = length l.numerators - l.i
+invariant-loop-i l = (k : ℕ) → k < l.i → get_or l.figures k 0 ≡ nearest_bits (at l.numerators k) l.spread

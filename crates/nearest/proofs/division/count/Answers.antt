@@ -1,6 +1,6 @@
 -- `count` meets its contract. Assumes nothing.
 use mathlib.Core.Path.{sym, ap, ◌∙◌}
-use Prim.Native.Nat.{ℕ, ◌+◌, ◌*◌, ◌^◌, ◌≤◌, ◌<◌}
+use Prim.Native.Nat.{ℕ, ◌+◌, ◌*◌, ◌^◌, ◌≤◌}
 use native.Mathlib.Nat as N
 use native.Mathlib.Omega.{arith}
 use lib.Pow.{pow-add}
@@ -25,33 +25,15 @@ lacks c =
     let h = c.room-lacking.ensures.most 52 c.requires.whole_bound in
     omega arith
 
-counted :
-    (w r most c : ℕ) → Room w r → 0 < c → c + 11 ≤ r → c ≤ most →
-    (0 < c) × ((c ≤ most) × ((c ≤ 53) × ((w + 1) * 2 ^ c ≤ 2 ^ 53)))
-counted w r most c R P h m = (P, (m, (omega (arith, R.few), inside w r c R h)))
-
 pub overflow_sub-lacking : goal.overflow_sub-lacking
 overflow_sub-lacking c = omega (arith, lacks c)
 
-pub returns-then-lacking-most : goal.returns-then-lacking-most
-returns-then-lacking-most c =
-    let after_room_lacking = (goal.at.returns-then-lacking-most c).After-room-lacking in
-    let all = counted _ _ _ _ c.room-lacking.ensures (omega (arith, lacks after_room_lacking)) (omega (arith, lacks after_room_lacking))
-    (omega arith) in record {
-      result_nonzero = all.0;
-      upper_bound = all.1.0;
-      upper_bound_2 = all.1.1.0;
-      result_bound = all.1.1.1;
+pub returns : goal.returns
+returns c =
+    let some = lacks ((goal.at.returns c).After-room-lacking) in
+    record {
+      result_nonzero = omega (arith, some);
+      upper_bound = omega arith;
+      upper_bound_2 = omega (arith, c.room-lacking.ensures.few);
+      result_bound = inside c.args.whole c.room-lacking.result c.min.result c.room-lacking.ensures (omega (arith, some));
     }
-
-pub returns-else-lacking-most : goal.returns-else-lacking-most
-returns-else-lacking-most c = let all = counted _ _ _ _ c.room-lacking.ensures (omega arith) (omega (
-  arith,
-  lacks
-      ((goal.at.returns-else-lacking-most c).After-room-lacking),
-)) (omega arith) in record {
-  result_nonzero = all.0;
-  upper_bound = all.1.0;
-  upper_bound_2 = all.1.1.0;
-  result_bound = all.1.1.1;
-}

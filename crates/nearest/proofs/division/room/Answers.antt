@@ -1,5 +1,5 @@
 -- `room` meets its contract: the leading zeros and the digits are 64. Assumes nothing.
-use mathlib.Core.Path.{◌≡◌, sym, ap, ◌∙◌}
+use mathlib.Core.Path.{◌≡◌, sym, ap, ◌∙◌, subst}
 use Prim.Native.Nat.{ℕ, ◌+◌, ◌*◌, ◌^◌, ◌≤◌, ◌<◌}
 use native.Mathlib.Nat as N
 use native.Mathlib.Omega.{arith}
@@ -27,13 +27,8 @@ of_digits x r m F e below from = record {
     twice : (p : ℕ) → x < p → p * 2 ≤ 2 * x + 1 → ⊥
     twice p h l = omega arith
 
-pub overflow_cast-result : goal.overflow_cast-result
-overflow_cast-result c =
-    let h = leading_le 64 c.args.x in
-    omega arith
-
 pub returns : goal.returns
 returns c =
     let x = c.args.x in
     let l = leading_length 64 x c.ranges.x.fits in
-    of_digits x (count_leading_zeros 64 x) l.0 (leading_le 64 x) l.1 l.2 l.3
+    subst (Room x) (sym c.from.ensures) (of_digits x (count_leading_zeros 64 x) l.0 (leading_le 64 x) l.1 l.2 l.3)

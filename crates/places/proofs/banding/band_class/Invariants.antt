@@ -1,13 +1,8 @@
 use mathlib.Core.Path.{◌≡◌}
 use mathlib.Core.Bool.{false}
-use Prim.Native.Nat.{◌-◌, ◌≤◌}
-use lib.ListN.{length}
 use Rattle.whole.specs.Search.{some}
 use Rattle.places.specs.Bands.{within_band}
 use Rattle.places.proofs.banding.band_class.Given as goal
 
 abbrev pub invariant-loop-k : goal.invariant-loop-k
-invariant-loop-k l = (l.k ≤ length l.bands) × (some (within_band l.bands l.distance) l.k ≡ false)
-
-abbrev pub decreases-loop-k : goal.decreases-loop-k
-decreases-loop-k l = length l.bands - l.k
+invariant-loop-k l = some (within_band l.bands l.distance) l.k ≡ false

@@ -1,27 +1,41 @@
--- `any_misplaced` meets its contract: no band is neither 0 nor out of order. Assumes nothing.
-use mathlib.Core.Path.{◌≡◌, refl, sym, ◌∙◌}
-use mathlib.Core.Bool.{false}
+-- `any_misplaced` meets its contract: a band is 0, or two neighbours do not rise. Assumes nothing.
+use mathlib.Core.Path.{◌≡◌, sym, ap, ◌∙◌}
+use mathlib.Core.Bool.{Bool, true, false, not, ◌||◌}
 use mathlib.Core.List.{List}
 use Prim.Native.Nat.{ℕ}
-use lib.ListN.{length}
-use Rattle.whole.specs.Search.{some}
+use native.Mathlib.Omega.{arith}
+use borrow.Author.Tests.{tests}
+use lib.Dec.{ltb, eqb}
+use Rattle.std.specs.List.{IsAllAdjacentAnswer}
+use Rattle.std.proofs.Common.{rules}
+use Rattle.std.proofs.lemmas.List.Sorted.{answers_always}
+use Rattle.whole.proofs.Search.{none_some, some_found}
 use Rattle.places.specs.Bands.{any_empty_band, any_not_rising, any_misplaced}
+use Rattle.places.proofs.Any.{any_some}
 use Rattle.places.proofs.judging.any_misplaced.Goals as goal
 
-none_misplaced : (bands : List ℕ) → length bands ≡ 0 → any_misplaced bands ≡ false
-unfolding any_misplaced any_empty_band any_not_rising some
-none_misplaced bands e = rw e refl
+-- the bands rise strictly, or not
+not_rising : (bands : List ℕ) (r : Bool) → IsAllAdjacentAnswer (λ x y b. b ≡ ltb x y) bands r → not r ≡ any_not_rising bands
+unfolding any_not_rising
+not_rising bands true h = sym (none_some _ _ (λ k p. ap not (sym (h k 0 (omega arith)))))
+not_rising bands false h = some_found _ _ h.0 (omega (arith, h.1)) (ap not (sym (h.2 0)))
 
-pub returns-then-bands-eq0 : goal.returns-then-bands-eq0
-returns-then-bands-eq0 c = sym (none_misplaced c.args.bands.now c.if-bands-eq0.true)
-
-pub any_empty_band-requires : goal.any_empty_band-requires
-any_empty_band-requires c = tt
-
-pub returns-then-any_empty_band : goal.returns-then-any_empty_band
+-- a 0 is found, or not
+found : (bands : List ℕ) (r : Bool) → r ≡ any_empty_band bands → (r || any_not_rising bands) ≡ any_misplaced bands
 unfolding any_misplaced
-returns-then-any_empty_band c = simp (sym c.any_empty_band.ensures ∙ c.if-any_empty_band.true)
+found bands r e = ap (λ t. t || any_not_rising bands) e
 
-pub returns : goal.returns
-unfolding any_misplaced
-returns c = simp (sym c.any_empty_band.ensures ∙ c.if-any_empty_band.false) c.any_not_rising.ensures
+pub returns-then-contains : goal.returns-then-contains
+unfolding any_empty_band
+returns-then-contains c =
+    let bands = c.args.bands.now in
+    let e = found bands c.contains.result (c.contains.ensures.value ∙ any_some (λ y. eqb y 0) bands 0) in
+    c.if-contains.true ∙ (rw c.if-contains.true at e)
+
+pub returns-else-contains : goal.returns-else-contains
+unfolding any_empty_band
+returns-else-contains c =
+    let bands = c.args.bands.now in
+    let e = found bands c.contains.result (c.contains.ensures.value ∙ any_some (λ y. eqb y 0) bands 0) in
+    let k = c.is_sorted_by.ensures.cases (λ x y. ltb x y) (answers_always _ _ _ (λ f a r f' k. search (rules, tests))) in
+    not_rising bands c.is_sorted_by.result k ∙ (rw c.if-contains.false at e)
