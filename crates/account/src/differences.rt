@@ -52,8 +52,9 @@ pub(super) fn row_squares(n: usize, values: &[i32], weights: &[u8], i: usize) ->
     let first = i * n;
     let row = &weights[first..first + n];
     let mut acc: i64 = 0;
-    for (weight, other) in row.iter().zip(values) {
-        acc += i64::from(*weight) * squared_difference(own, *other);
+    // by j: a zip of the two is compiled to products of vectors, which take half as long again
+    for (j, weight) in row.iter().enumerate() {
+        acc += i64::from(*weight) * squared_difference(own, values[j]);
     }
     acc
 }
