@@ -1,7 +1,7 @@
--- A rule alone, and a section that breaks none. Assumes nothing.
-use mathlib.Core.Path.{◌≡◌, refl, sym, ◌∙◌}
-use mathlib.Core.Bool.{Bool, true, false}
-use mathlib.Core.List.{List, [], ◌∷◌}
+-- A section that breaks no rule. Assumes nothing.
+use mathlib.Core.Path.{◌≡◌}
+use mathlib.Core.Bool.{Bool, false}
+use mathlib.Core.List.{List}
 use Prim.Native.Nat.{ℕ, suc, ◌+◌, ◌*◌, ◌≤◌}
 use native.Mathlib.Omega.{arith}
 use borrow.Author.Tests.{le-ltb, ltb-false}
@@ -10,15 +10,6 @@ use lib.ListN.{length}
 use Rattle.whole.specs.Rules.{Rule, first_broken}
 use Rattle.whole.proofs.Rules.{holds}
 use Rattle.image.specs.Image.{count, section_rules}
-
--- a rule of a list alone
-pub single :
-    (broken : Bool) (number r : ℕ) → r ≡ first_broken ((broken, suc number) ∷ []) → (r ≡ 0 → ⊥) → (broken ≡ true) × (r ≡ suc number)
-single true number r e f = (refl, e)
-single false number r e f = absurd (f e)
-
-pub unbroken : (broken : Bool) (number r : ℕ) → r ≡ first_broken ((broken, suc number) ∷ []) → r ≡ 0 → broken ≡ false
-unbroken broken number r e z = (holds broken number 0 (sym e ∙ z)).0
 
 -- a section that breaks no rule is whole, its count allowed and its items without fault
 pub record Sound (size : ℕ) (broken : Bool) (of_items : List Rule) (b : List ℕ) : Type 0 where

@@ -1,8 +1,7 @@
--- Meaning: Joins, Image, Reader, Writer, RoundTrip, Numbers. Steps is what private functions ask of each other.
+-- Meaning: Joins, Image, Reader, Writer, RoundTrip, Numbers.
 pub mod Joins
 pub mod Image
 pub mod Reader
 pub mod Writer
 pub mod RoundTrip
 pub mod Numbers
-pub mod Steps

@@ -1,10 +1,9 @@
 -- What the private functions of the writer promise each other. Assumes nothing.
-use Rattle.std.specs.Prelude.{◌≡◌, false, List, [], ◌∷◌, ◌++◌, ℕ, zero, suc, ◌+◌, ◌*◌, ◌≤◌, length, ℤ}
+use Rattle.std.specs.Prelude.{◌≡◌, false, List, [], ◌∷◌, ◌++◌, ℕ, zero, suc, ◌+◌, ◌*◌, ◌≤◌, length}
 use Rattle.whole.specs.Rules.{Rule, first_broken, misfits, size_rules}
-use Rattle.whole.specs.Search.{any_beyond, any_above, any_on_diagonal}
 use Rattle.account.specs.Refusals.{sum_rules}
 use Rattle.image.specs.Joins.{joins_of}
-use Rattle.image.specs.Image.{Job, job_bytes}
+use Rattle.image.specs.Image.{job_bytes}
 use Rattle.image.specs.Reader.{Buffers, buffer_lengths}
 use Rattle.image.specs.Writer.{lent_job, part_rules}
 use Rattle.image.specs.declared.Given.{Given}

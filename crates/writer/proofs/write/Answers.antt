@@ -9,7 +9,7 @@ use Rattle.std.specs.Prelude.{Err}
 use Rattle.whole.specs.Rules.{first_broken}
 use Rattle.whole.proofs.Lists.{few}
 use Rattle.refusals.specs.declared.Refusal.TheVariants.{Output}
-use Rattle.refusals.specs.Refusals.{number_by, number_of}
+use Rattle.refusals.specs.Refusals.{number_of}
 use Rattle.image.specs.Image.{job_bytes}
 use Rattle.image.specs.Reader.{Buffers, buffers}
 use Rattle.image.specs.Writer.{lent_job, part_rules}

@@ -1,11 +1,9 @@
 -- `judge_parts` meets its contract: a part is judged where those before it break no rule, and the lists are as long as each judge asks.
 -- Assumes nothing.
 use mathlib.Core.Path.{◌≡◌, sym, ◌∙◌}
-use mathlib.Core.List.{List, ◌++◌}
-use native.Mathlib.Omega.{arith}
+use mathlib.Core.List.{List}
 use borrow.Author.Rules.{rules}
 use Rattle.whole.specs.Rules.{Rule, first_broken}
-use Rattle.whole.proofs.Lists.{few}
 use Rattle.refusals.specs.Refusals.{number_by, number_of}
 use Rattle.image.specs.Image.{Job, value_rules}
 use Rattle.image.specs.Reader.{Buffers, buffers}
@@ -16,7 +14,6 @@ use Rattle.image.proofs.Buffers.{Exact, exact}
 use Rattle.image.proofs.Parts as parts
 use Rattle.image.proofs.Parts.{weights_numbered}
 use Rattle.writer.proofs.Judged.{stops, passes}
-use Rattle.writer.proofs.Parts.{values_there, weights_there}
 use Rattle.writer.proofs.judging.judge_parts.Goals as goal
 use Rattle.writer.proofs.judging.judge_parts.Goals.{Start, In_ok-judge_values, In_ok-judge_categories, In_ok-judge_weights, In_ok-judge_places, In_ok-judge_bands}
 
