@@ -1,16 +1,16 @@
 -- The call's two ways out, and what its contract promises of each. Assumes nothing.
 use mathlib.Core.Path.{◌≡◌, sym, ap, ◌∙◌, subst}
 use mathlib.Core.List.{[], ◌∷◌}
-use Prim.Native.Nat.{ℕ}
 use lib.Ieee.{Float, binary64, round, to_bits}
 use lib.IntN.{ℤ, nat_abs}
+use Rattle.std.specs.Prelude.{Result, Ok, Err}
 use Rattle.whole.specs.Integer.{below_zero}
-use Rattle.whole.proofs.Rules.{kept_when_refused, worked_when_taken}
 use Rattle.whole.proofs.Size.{one_above, one_some}
-use Rattle.nearest.specs.Answers.{number_of, figures_of, NearestIn, nearest_refusal, nearest_float, nearest_figures}
+use Rattle.refusals.specs.Refusals.{number_by, number_of}
+use Rattle.refusals.specs.declared.Refusal.{Refusal}
+use Rattle.refusals.proofs.Refusals.{left_by, worked_by}
+use Rattle.nearest.specs.Answers.{figures_of, NearestIn, nearest_refusal, nearest_float, nearest_figures}
 use Rattle.nearest.specs.Nearest.{IsNearest}
-use Rattle.nearest.specs.declared.Answer.{Answer}
-use Rattle.nearest.specs.declared.Answer.TheVariants.{Refused, Rounded}
 use Rattle.nearest.proofs.Accepted.{accepted, under}
 use Rattle.nearest.proofs.NearestFloat.{round_nearest}
 
@@ -24,14 +24,14 @@ float_nearest p q z =
 
 module _ (p q : ℤ) where
   -- what the call promises of its answer
-  abbrev pub Promised : Answer → Type 0
+  abbrev pub Promised : Result Float Refusal → Type 0
   Promised r = (number_of r ≡ nearest_refusal p q) × ((figures_of r ≡ nearest_figures p q) × NearestIn p q r)
 
-  pub refused : (k : ℕ) → k ≡ nearest_refusal p q → (k ≡ 0 → ⊥) → Promised (Refused k)
-  unfolding number_of figures_of nearest_figures
-  refused k e f = (e, (sym (kept_when_refused (nearest_refusal p q) _ _ (λ z. f (e ∙ z))), tt))
+  pub refused : (refusal : Refusal) → number_by refusal ≡ nearest_refusal p q → Promised (Err refusal)
+  unfolding figures_of nearest_figures
+  refused refusal e = (e, (sym (left_by _ _ _ refusal e), tt))
 
-  pub rounded : (x : Float) → nearest_refusal p q ≡ 0 → x ≡ nearest_float p q → Promised (Rounded x)
-  unfolding number_of figures_of nearest_figures
+  pub rounded : (x : Float) → 0 ≡ nearest_refusal p q → x ≡ nearest_float p q → Promised (Ok x)
+  unfolding figures_of nearest_figures
   rounded x z e =
-      (sym z, (ap (λ (y : Float). y ∷ []) e ∙ sym (worked_when_taken (nearest_refusal p q) _ _ z), rw e (float_nearest p q z)))
+      (z, (ap (λ (y : Float). y ∷ []) e ∙ sym (worked_by _ _ _ z), rw e (float_nearest p q (sym z))))

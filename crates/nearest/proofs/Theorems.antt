@@ -12,15 +12,17 @@ use lib.Ieee.Scale.{round_same}
 use lib.IntN.{ℤ, pos, negsuc, nat_abs, neg_ℤ, ◌*ℤ◌}
 use lib.ListN.{length}
 use lib.Signed.{lt_z, ◌≤ℤ◌}
+use Rattle.std.specs.Prelude.{Result, Ok, Err}
 use Rattle.whole.specs.Integer.{below_zero}
 use Rattle.whole.specs.Rules.{ratio_limit}
 use Rattle.whole.proofs.Integer.{*_assoc, *_left_comm}
 use Rattle.whole.proofs.Size.{size_*, one_above, one_some, one_*, sign_*}
 use Rattle.nearest.specs.Bits.{negative}
 use Rattle.nearest.specs.Nearest.{IsNearest}
-use Rattle.nearest.specs.Answers.{number_of, figures_of, NearestIn, nearest_refusal, nearest_float, nearest_figures}
-use Rattle.nearest.specs.declared.Answer.{Answer}
-use Rattle.nearest.specs.declared.Answer.TheVariants.{Refused, Rounded}
+use Rattle.refusals.specs.Refusals.{number_of}
+use Rattle.refusals.specs.declared.Refusal.{Refusal}
+use Rattle.refusals.proofs.Refusals.{cause_unique}
+use Rattle.nearest.specs.Answers.{figures_of, NearestIn, nearest_refusal, nearest_float, nearest_figures}
 use Rattle.nearest.proofs.Accepted.{accepted, let_in}
 use Rattle.nearest.proofs.Answered.{rounded}
 use Rattle.nearest.proofs.Fields.{finite_number}
@@ -90,7 +92,7 @@ pub not_nan : (p q : ℤ) → T (not (is_nan (nearest_float p q)))
 unfolding nearest_float
 not_nan p q = round_number binary64 (below_zero p) (nat_abs p) (nat_abs q)
 
-pub answered_not_nan : (p q : ℤ) (r : Answer) (x : Float) → NearestIn p q r → r ≡ Rounded x → T (not (is_nan x))
+pub answered_not_nan : (p q : ℤ) (r : Result Float Refusal) (x : Float) → NearestIn p q r → r ≡ Ok x → T (not (is_nan x))
 answered_not_nan p q r x h e = finite_number x (subst (NearestIn p q) e h).finite
 
 pub read_back : (p q : ℤ) → of_bits binary64 (to_bits binary64 (nearest_float p q)) ≡ nearest_float p q
@@ -98,17 +100,17 @@ unfolding nearest_float
 read_back p q = of_bits-to_bits binary64 (nearest_float p q) (round-fits binary64 (below_zero p) (nat_abs p) (nat_abs q))
 
 -- ---- an answer is known by its number and its figures, so that the contract leaves no second answer open
-pub answer_unique : (a b : Answer) → number_of a ≡ number_of b → figures_of a ≡ figures_of b → a ≡ b
-unfolding number_of figures_of
-answer_unique (Refused k) (Refused l) e f = ap Refused e
-answer_unique (Refused k) (Rounded y) e f = let z : ◌≡◌ {A = ℕ} 0 1 = ap length f in absurd (omega arith)
-answer_unique (Rounded x) (Refused l) e f = let z : ◌≡◌ {A = ℕ} 1 0 = ap length f in absurd (omega arith)
-answer_unique (Rounded x) (Rounded y) e f = ap Rounded (cc)
+pub answer_unique : (a b : Result Float Refusal) → number_of a ≡ number_of b → figures_of a ≡ figures_of b → a ≡ b
+unfolding figures_of
+answer_unique (Err k) (Err l) e f = ap Err (cause_unique k l e)
+answer_unique (Err k) (Ok y) e f = let z : ◌≡◌ {A = ℕ} 0 1 = ap length f in absurd (omega arith)
+answer_unique (Ok x) (Err l) e f = let z : ◌≡◌ {A = ℕ} 1 0 = ap length f in absurd (omega arith)
+answer_unique (Ok x) (Ok y) e f = ap Ok (cc)
 
 -- so that where nothing is refused, the answer is the nearest float
 pub answer_rounded :
-    (p q : ℤ) → nearest_refusal p q ≡ 0 → (r : Answer) → number_of r ≡ nearest_refusal p q → figures_of r ≡ nearest_figures p q →
-    r ≡ Rounded (nearest_float p q)
+    (p q : ℤ) → nearest_refusal p q ≡ 0 → (r : Result Float Refusal) → number_of r ≡ nearest_refusal p q →
+    figures_of r ≡ nearest_figures p q → r ≡ Ok (nearest_float p q)
 answer_rounded p q taken r n f =
-    let s = rounded p q (nearest_float p q) taken refl in
-    answer_unique r (Rounded (nearest_float p q)) (n ∙ sym s.0) (f ∙ sym s.1.0)
+    let s = rounded p q (nearest_float p q) (sym taken) refl in
+    answer_unique r (Ok (nearest_float p q)) (n ∙ sym s.0) (f ∙ sym s.1.0)

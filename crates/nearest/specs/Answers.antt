@@ -1,30 +1,24 @@
 -- What the call answers: its refusal, and the float. Assumes nothing.
-use Rattle.std.specs.Prelude.{◌||◌, List, [], ◌∷◌, ℕ, Float, ℤ, pos, nat_abs}
+use Rattle.std.specs.Prelude.{◌||◌, List, [], ◌∷◌, ℕ, Float, ℤ, pos, nat_abs, Result, Ok, Err}
 use Rattle.std.specs.Float.{binary64}
 use Rattle.std.specs.Float.Ieee.{round, to_bits}
 use Rattle.std.specs.Int.Signed.{lt_z}
 use Rattle.whole.specs.Integer.{below_zero, beyond}
 use Rattle.whole.specs.Rules.{Rule, first_broken, unless_refused, ratio_limit}
 use Rattle.nearest.specs.Nearest.{IsNearest}
-use Rattle.nearest.specs.declared.Answer.{Answer}
-use Rattle.nearest.specs.declared.Answer.TheVariants.{Refused, Rounded}
+use Rattle.refusals.specs.declared.Refusal.{Refusal}
 
 -- ---- what an answer says, by its cases
 
--- the number of the refusal, 0 where nothing is refused
-unfoldable pub number_of : Answer → ℕ
-number_of (Refused number) = number
-number_of (Rounded x) = 0
-
 -- the float, none where the call is refused
-unfoldable pub figures_of : Answer → List Float
-figures_of (Refused number) = []
-figures_of (Rounded x) = x ∷ []
+unfoldable pub figures_of : Result Float Refusal → List Float
+figures_of (Err refusal) = []
+figures_of (Ok x) = x ∷ []
 
 -- where there is a float, its bits are those of the nearest
-abbrev pub NearestIn : ℤ → ℤ → Answer → Type 0
-NearestIn p q (Refused number) = Unit
-NearestIn p q (Rounded x) = IsNearest p q (to_bits binary64 x)
+abbrev pub NearestIn : ℤ → ℤ → Result Float Refusal → Type 0
+NearestIn p q (Err refusal) = Unit
+NearestIn p q (Ok x) = IsNearest p q (to_bits binary64 x)
 
 -- ---- what they must be
 

@@ -8,26 +8,22 @@ ghost use Rattle.std.specs.Prelude.{false, ◌≡◌};
 ghost use Prim.Native.Nat.{◌*◌, ◌^◌, ◌<◌, compare};
 ghost use Rattle.std.specs.Float.{binary64};
 ghost use Rattle.std.specs.Float.Ieee.{nearest, round};
-ghost use Rattle.nearest.specs.Answers.{number_of, figures_of, NearestIn, nearest_refusal, nearest_float, nearest_figures};
+ghost use Rattle.refusals.specs.Refusals.{number_of};
+ghost use Rattle.nearest.specs.Answers.{figures_of, NearestIn, nearest_refusal, nearest_float, nearest_figures};
 
-// The number of the refusal, or the float.
-#[derive(Clone, Copy)]
-pub enum Answer {
-    Refused(u8),
-    Rounded(f64),
-}
+use refusals::Refusal;
 
 // What p and q may be in size.
 const LIMIT: u64 = 6000000000000000000;
 
-// 18 where the divisor is below 1 or a number is too large, otherwise 0.
-fn judge(p: i64, q: i64) -> u8
-    ensures { result ≡ nearest_refusal p q }
+// 18 where the divisor is below 1 or a number is too large.
+fn judge(p: i64, q: i64) -> Result<(), Refusal>
+    ensures { number_of result ≡ nearest_refusal p q }
 {
     if q < 1 || signs::size(p) > LIMIT || signs::size(q) > LIMIT {
-        18
+        Err(Refusal::Ratio)
     } else {
-        0
+        Ok(())
     }
 }
 
@@ -71,14 +67,11 @@ fn float_of(p: i64, q: i64) -> f64
 }
 
 // The nearest float to p over q: at a tie the even one, and +0 for 0.
-pub fn nearest(p: i64, q: i64) -> Answer
+pub fn nearest(p: i64, q: i64) -> Result<f64, Refusal>
     ensures number { number_of result ≡ nearest_refusal p q }
     ensures figures { figures_of result ≡ nearest_figures p q }
     ensures nearest { NearestIn p q result }
 {
-    let refusal = judge(p, q);
-    if refusal != 0 {
-        return Answer::Refused(refusal);
-    }
-    Answer::Rounded(float_of(p, q))
+    judge(p, q)?;
+    Ok(float_of(p, q))
 }

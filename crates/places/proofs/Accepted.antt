@@ -1,8 +1,12 @@
 -- A call on places: which of its judges' numbers is the call's, and what it is like where no rule is broken. Assumes nothing.
-use mathlib.Core.Path.{◌≡◌, ◌∙◌}
-use mathlib.Core.Bool.{false}
+use mathlib.Core.Path.{◌≡◌, ap, ◌∙◌}
+use mathlib.Core.Bool.{Bool, false, not, ◌||◌, or-true}
 use mathlib.Core.List.{List, [], ◌∷◌, ◌++◌}
-use Prim.Native.Nat.{ℕ, ◌*◌, ◌≤◌}
+use Prim.Native.Nat.{ℕ, ◌*◌, ◌/◌, ◌%◌, ◌≤◌}
+use native.Mathlib.Decide.{ℕ_discrete}
+use native.Mathlib.Omega.{arith}
+use borrow.Author.Tests.{eq-eqb, ne_eqb}
+use lib.Dec.{eqb}
 use lib.IntN.{ℤ}
 use lib.ListN.{length}
 use Rattle.whole.specs.Rules.{Rule, first_broken, outside, size_rules}
@@ -22,6 +26,22 @@ pub record Fitting (n places room : ℕ) : Type 0 where
 -- the first two rules, of the two lengths
 abbrev pub sizes_of : ℕ → ℕ → ℕ → List Rule
 sizes_of n places room = size_rules n ((places, 2 * n) ∷ (room, n * n) ∷ [])
+
+-- a list of two places for each of n zones is as many pairs as zones, and no odd place
+halved : (n places : ℕ) (rest : Bool) →
+    (not (eqb (places / 2) n) || (not (eqb (places % 2) 0) || rest)) ≡ (not (eqb places (2 * n)) || rest)
+halved n places rest = go (ℕ_discrete places (2 * n)) (ℕ_discrete (places / 2) n)
+  where
+    go : Dec (places ≡ 2 * n) → Dec (places / 2 ≡ n) →
+        (not (eqb (places / 2) n) || (not (eqb (places % 2) 0) || rest)) ≡ (not (eqb places (2 * n)) || rest)
+    go (yes p) q = rw (eq-eqb places (2 * n) p, eq-eqb (places / 2) n (omega (arith, p)), eq-eqb (places % 2) 0 (omega (arith, p)))
+    go (no p) (yes q) = rw (ne_eqb places (2 * n) p, ne_eqb (places % 2) 0 (λ z. p (omega (arith, q, z)))) (or-true _)
+    go (no p) (no q) = rw (ne_eqb places (2 * n) p, ne_eqb (places / 2) n q)
+
+pub by_halves : (n places room : ℕ) →
+    first_broken (size_rules n ((places / 2, n) ∷ (places % 2, 0) ∷ (room, n * n) ∷ [])) ≡ first_broken (sizes_of n places room)
+by_halves n places room =
+    ap (λ t. first_broken ((outside 2 64 n, 1) ∷ (t, 2) ∷ [])) (halved n places (not (eqb room (n * n)) || false))
 
 -- what they tell where they hold
 pub fitting : (n places room : ℕ) → first_broken (sizes_of n places room) ≡ 0 → Fitting n places room

@@ -1,8 +1,12 @@
-// The judges: each answers the number of the first broken rule, 0 where none is broken, and stores nothing.
+// The judges: each answers the refusal of the first broken rule, and stores nothing.
 ghost use Rattle.std.specs.Prelude.{◌≡◌, [], ◌∷◌, ◌+◌, ◌*◌, ◌<◌, ◌≤◌, length};
-ghost use Rattle.whole.specs.Rules.{first_broken, size_rules};
+ghost use Rattle.whole.specs.Rules.{first_broken};
+ghost use Rattle.refusals.specs.Refusals.{number_of};
 ghost use Rattle.places.specs.Places.{coordinates, any_at_one_place, call_rules, places_in_turn};
 ghost use Rattle.places.specs.Bands.{any_misplaced, bands_broken, band_refusal};
+
+use judges::Places;
+use refusals::Refusal;
 
 // Whether two of the zones are at one place.
 pub(super) fn any_at_one_place(zones: &[[i32; 2]]) -> bool
@@ -16,57 +20,42 @@ pub(super) fn any_at_one_place(zones: &[[i32; 2]]) -> bool
     false
 }
 
-// 1 and 2: n, and the lengths of the places and of the n × n entries that are lent.
-pub(super) fn judge_sizes(n: usize, places: usize, room: usize) -> u8
-    ensures { result ≡ first_broken (size_rules n ((places, 2 * n) ∷ (room, n * n) ∷ [])) }
-{
-    if n < 2 {
-        return 1;
-    }
-    if n > 64 {
-        return 1;
-    }
-    if places != 2 * n {
-        return 2;
-    }
-    if room != n * n {
-        return 2;
-    }
-    0
-}
-
 // 1, 2, 10 and 11: the Gabriel network's refusal. What the lent entries hold is not judged, so their number is all that is asked for.
-pub(super) fn judge_places(n: usize, places: &[i32], room: usize) -> u8
-    ensures { result ≡ first_broken (call_rules n places.now room []) }
+pub(super) fn judge_places(n: usize, places: &[i32], room: usize) -> Result<(), Refusal>
+    ensures { number_of result ≡ first_broken (call_rules n places.now room []) }
 {
-    let sizes = judge_sizes(n, places.len(), room);
-    if sizes != 0 {
-        return sizes;
-    }
+    let (zones, odd) = places.as_chunks::<2>();
+    judges::judge_lent(
+        n,
+        &[
+            (zones.len(), Places::Zones),
+            (odd.len(), Places::Fixed(0)),
+            (room, Places::Pairs),
+        ],
+    )?;
     if judges::any_beyond(30000, places) {
-        return 10;
+        return Err(Refusal::Coordinate);
     }
-    let (zones, _) = places.as_chunks::<2>();
     if any_at_one_place(zones) {
-        return 11;
+        return Err(Refusal::Place);
     }
-    0
+    Ok(())
 }
 
 // 10 and 11 zone by zone: at each its coordinates, then the earlier places.
-pub fn judge_in_turn(places: &[i32]) -> u8
-    ensures { result ≡ first_broken (places_in_turn places.now) }
+pub fn judge_in_turn(places: &[i32]) -> Result<(), Refusal>
+    ensures { number_of result ≡ first_broken (places_in_turn places.now) }
 {
     let (zones, _) = places.as_chunks::<2>();
     for (a, zone) in zones.iter().enumerate() {
         if judges::any_beyond(30000, zone) {
-            return 10;
+            return Err(Refusal::Coordinate);
         }
         if zones[..a].contains(zone) {
-            return 11;
+            return Err(Refusal::Place);
         }
     }
-    0
+    Ok(())
 }
 
 // Whether a band is 0, or the bands do not rise strictly. Of no bands neither is so.
@@ -88,15 +77,17 @@ pub(super) fn bands_broken(bands: &[u32]) -> bool
 }
 
 // 1, 2, 10, 11, then 12: the bands' refusal.
-pub(super) fn judge_bands(n: usize, places: &[i32], bands: &[u32], room: usize) -> u8
-    ensures { result ≡ band_refusal n places.now bands.now room }
+pub(super) fn judge_bands(
+    n: usize,
+    places: &[i32],
+    bands: &[u32],
+    room: usize,
+) -> Result<(), Refusal>
+    ensures { number_of result ≡ band_refusal n places.now bands.now room }
 {
-    let number = judge_places(n, places, room);
-    if number != 0 {
-        return number;
-    }
+    judge_places(n, places, room)?;
     if bands_broken(bands) {
-        return 12;
+        return Err(Refusal::Bands);
     }
-    0
+    Ok(())
 }

@@ -8,37 +8,33 @@ mod judging;
 
 // What the reader and the writer of the job image judge by too.
 ghost use Rattle.std.specs.Prelude.{◌≡◌, length};
+ghost use Rattle.refusals.specs.Refusals.{number_of};
 ghost use Rattle.places.specs.Gabriel.{gabriel_refusal, gabriel_left};
 ghost use Rattle.places.specs.Bands.{band_refusal, bands_left};
 
 pub use judging::{any_misplaced, judge_in_turn};
+use refusals::Refusal;
 
 // Makes the Gabriel network of the places, two coordinates for each zone: `weights` is lent n × n places, a row for each zone, and is left
-// as it was where the call is refused. Answers the number of the refusal, 0 where nothing is refused.
-pub fn gabriel(n: usize, places: &[i32], weights: &mut [u8]) -> u8
-    ensures number { result ≡ gabriel_refusal n places.now (length weights.old) }
+// as it was where the call is refused.
+pub fn gabriel(n: usize, places: &[i32], weights: &mut [u8]) -> Result<(), Refusal>
+    ensures number { number_of result ≡ gabriel_refusal n places.now (length weights.old) }
     ensures lent { weights.new ≡ gabriel_left n places.now weights.old }
 {
-    let number = judging::judge_places(n, places, weights.len());
-    if number != 0 {
-        return number;
-    }
+    judging::judge_places(n, places, weights.len())?;
     let (zones, _) = places.as_chunks::<2>();
     joining::join_pairs(zones, weights);
-    0
+    Ok(())
 }
 
 // Puts each pair of zones into the class of the first band that its squared distance does not exceed: `classes` is lent n × n places, a
-// row for each zone, and is left as it was where the call is refused. Answers the number of the refusal, 0 where nothing is refused.
-pub fn bands(n: usize, places: &[i32], bands: &[u32], classes: &mut [u8]) -> u8
-    ensures number { result ≡ band_refusal n places.now bands.now (length classes.old) }
+// row for each zone, and is left as it was where the call is refused.
+pub fn bands(n: usize, places: &[i32], bands: &[u32], classes: &mut [u8]) -> Result<(), Refusal>
+    ensures number { number_of result ≡ band_refusal n places.now bands.now (length classes.old) }
     ensures lent { classes.new ≡ bands_left n places.now bands.now classes.old }
 {
-    let number = judging::judge_bands(n, places, bands, classes.len());
-    if number != 0 {
-        return number;
-    }
+    judging::judge_bands(n, places, bands, classes.len())?;
     let (zones, _) = places.as_chunks::<2>();
     banding::class_pairs(zones, bands, classes);
-    0
+    Ok(())
 }

@@ -5,40 +5,33 @@ use Prim.Native.Nat.{◌*◌}
 use native.Mathlib.Omega.{arith}
 use lib.IntN.{ℤ}
 use lib.ListN.{length}
+use Rattle.std.proofs.lemmas.Result.{err_from_is_err_and}
 use Rattle.whole.specs.Search.{any_beyond}
-use Rattle.whole.proofs.Rules.{kept_when_refused, worked_when_taken}
+use Rattle.refusals.proofs.Refusals.{left_by, worked_by}
 use Rattle.places.specs.Places.{coordinates}
 use Rattle.places.specs.Bands.{band_classes, band_refusal, bands_left}
 use Rattle.places.proofs.Accepted.{Banded, bands_accepted}
 use Rattle.places.proofs.Coordinates.{taken_count, taken_all}
 use Rattle.places.proofs.bands.Goals as goal
-use Rattle.places.proofs.bands.Goals.{Else-number-ne0, After-as_chunks}
+use Rattle.places.proofs.bands.Goals.{After-as_chunks}
 
--- nothing is refused
-taken :
-    (c : Else-number-ne0) →
-    let a = c.args in
-    band_refusal a.n a.places.now a.bands.now (length a.classes.now) ≡ 0
-taken c = sym c.judge_bands-number.ensures ∙ c.if-number-ne0.false
-
-pub judge_bands-number-requires : goal.judge_bands-number-requires
-judge_bands-number-requires c = tt
-
-pub returns-then-number-ne0 : goal.returns-then-number-ne0
+pub returns-in_err-judge_bands : goal.returns-in_err-judge_bands
 unfolding bands_left
-returns-then-number-ne0 c = let e = c.judge_bands-number.ensures in
-    record {
-      number = e;
-      lent = sym (kept_when_refused _ _ _ (λ z. c.if-number-ne0.true (e ∙ z)));
-    }
+returns-in_err-judge_bands c =
+    let p = err_from_is_err_and c.from_residual.result c.from_residual.ensures.1 in
+    let e = c.in_err-judge_bands.ensures in
+    rw (p.1, p.2) (record { number = e; lent = sym (left_by _ _ _ _ e) })
 
--- the zones whose pairs are classed are those of the places
+-- nothing is refused, and the zones whose pairs are classed are those of the places
 module _ (c : After-as_chunks) where
+  none : 0 ≡ band_refusal c.args.n c.args.places.now c.args.bands.now (length c.args.classes.now)
+  none = c.in_ok-judge_bands.ensures
+
   abbrev zones : List (List ℤ)
   zones = c.as_chunks.result.0.now
 
   good : Banded c.args.n c.args.places.now c.args.bands.now (length c.args.classes.now)
-  good = bands_accepted _ _ _ _ (taken ((goal.at.After-as_chunks c).Else-number-ne0))
+  good = bands_accepted _ _ _ _ (sym none)
 
   count : length zones ≡ c.args.n
   count = taken_count zones c.args.places.now c.as_chunks.ensures.front c.args.n good.good.sizes.places_fit
@@ -62,12 +55,11 @@ unfolding bands_left
 returns c =
     let t = (goal.at.returns c).After-as_chunks in
     let bands = c.args.bands.now in
-    let z = taken ((goal.at.returns c).Else-number-ne0) in
     record {
-      number = sym z;
+      number = none t;
       lent =
           c.class_pairs.ensures
           ∙ ap (λ k. band_classes k (coordinates (zones t)) bands) (count t)
           ∙ ap (λ p. band_classes c.args.n p bands) (all t)
-          ∙ sym (worked_when_taken _ _ _ z);
+          ∙ sym (worked_by _ _ _ (none t));
     }

@@ -1,46 +1,51 @@
 -- `judge_places` meets its contract: the sizes' number where there is one, else 10, 11 or none. Assumes nothing.
 use mathlib.Core.Path.{◌≡◌, refl, sym, ap, ◌∙◌}
 use mathlib.Core.Bool.{false}
-use mathlib.Core.List.{[]}
+use mathlib.Core.List.{[], ◌∷◌}
+use Prim.Native.Nat.{◌*◌}
 use lib.ListN.{length}
-use Rattle.whole.specs.Rules.{first_broken}
+use Rattle.std.proofs.lemmas.Result.{err_from_is_err_and}
+use Rattle.whole.specs.Rules.{first_broken, size_rules}
 use Rattle.whole.specs.Search.{any_beyond}
+use Rattle.refusals.proofs.Refusals.{not_refused}
 use Rattle.places.specs.Places.{coordinates, any_at_one_place, place_rules}
-use Rattle.places.proofs.Accepted.{sizes_of, fitting, by_sizes, then_places}
+use Rattle.places.proofs.Accepted.{sizes_of, fitting, by_sizes, by_halves, then_places}
 use Rattle.places.proofs.Coordinates.{taken_count, taken_all}
 use Rattle.places.proofs.judging.judge_places.Goals as goal
-use Rattle.places.proofs.judging.judge_places.Goals.{After-any_at_one_place, Else-any_beyond, Else-sizes-ne0}
+use Rattle.places.proofs.judging.judge_places.Goals.{After-as_chunks, After-any_at_one_place, Else-any_beyond, In_ok-judge_lent}
+
+-- the sizes that were judged are those of the call
+sizes : (c : After-as_chunks) →
+    first_broken (size_rules c.args.n
+    ((length c.as_chunks.result.0.now, c.args.n) ∷ (length c.as_chunks.result.1.now, 0) ∷ (c.args.room, c.args.n * c.args.n) ∷ []))
+    ≡ first_broken (sizes_of c.args.n (length c.args.places.now) c.args.room)
+sizes c = rw (c.as_chunks.ensures.front_len, c.as_chunks.ensures.back_len) (by_halves c.args.n (length c.args.places.now) c.args.room)
 
 -- the sizes are good, and then no coordinate is too far out
-sizes_good :
-    (c : Else-sizes-ne0) → let a = c.args in first_broken (sizes_of a.n (length a.places.now) a.room) ≡ 0
-sizes_good c = sym c.judge_sizes-sizes.ensures ∙ c.if-sizes-ne0.false
+sizes_good : (c : In_ok-judge_lent) → first_broken (sizes_of c.args.n (length c.args.places.now) c.args.room) ≡ 0
+sizes_good c = sym (c.in_ok-judge_lent.ensures ∙ sizes ((goal.at.In_ok-judge_lent c).After-as_chunks))
 
-near : (c : Else-any_beyond) → let a = c.args in any_beyond 30000 a.places.now ≡ false
+near : (c : Else-any_beyond) → any_beyond 30000 c.args.places.now ≡ false
 near c = sym c.any_beyond.ensures ∙ c.if-any_beyond.false
 
-pub judge_sizes-sizes-requires : goal.judge_sizes-sizes-requires
-judge_sizes-sizes-requires c = tt
-
-pub returns-then-sizes-ne0 : goal.returns-then-sizes-ne0
-returns-then-sizes-ne0 c = by_sizes _ _ _ [] _ c.judge_sizes-sizes.ensures c.if-sizes-ne0.true
-
-pub any_beyond-requires : goal.any_beyond-requires
-any_beyond-requires c = tt
+pub returns-in_err-judge_lent : goal.returns-in_err-judge_lent
+returns-in_err-judge_lent c =
+    let p = err_from_is_err_and c.from_residual.result c.from_residual.ensures.1 in
+    let t = (goal.at.returns-in_err-judge_lent c).After-as_chunks in
+    rw (p.1, p.2) (by_sizes _ _ _ [] _ (c.in_err-judge_lent.ensures ∙ sizes t) (not_refused _))
 
 pub returns-then-any_beyond : goal.returns-then-any_beyond
 unfolding place_rules
 returns-then-any_beyond c =
-    let t = (goal.at.returns-then-any_beyond c).Else-sizes-ne0 in
+    let t = (goal.at.returns-then-any_beyond c).In_ok-judge_lent in
     then_places _ _ _ [] _ (sizes_good t) (rw (sym c.any_beyond.ensures ∙ c.if-any_beyond.true) refl)
 
 -- what is answered of the zones is that of the places
-placed :
-    (c : After-any_at_one_place) → c.judge_sizes-sizes.result ≡ 0 → c.any_at_one_place.result ≡ any_at_one_place c.args.n c.args.places.now
-placed c zero =
+placed : (c : After-any_at_one_place) → c.any_at_one_place.result ≡ any_at_one_place c.args.n c.args.places.now
+placed c =
     let places = c.args.places.now in
     let zones = c.as_chunks.result.0.now in
-    let fit = (fitting c.args.n (length places) c.args.room (sym c.judge_sizes-sizes.ensures ∙ zero)).places_fit in
+    let fit = (fitting c.args.n (length places) c.args.room (sizes_good ((goal.at.After-any_at_one_place c).In_ok-judge_lent))).places_fit in
     let front = c.as_chunks.ensures.front in
     c.any_at_one_place.ensures
     ∙ ap (λ k. any_at_one_place k (coordinates zones)) (taken_count zones places front c.args.n fit)
@@ -50,12 +55,12 @@ pub returns-then-any_at_one_place : goal.returns-then-any_at_one_place
 unfolding place_rules
 returns-then-any_at_one_place c =
     let t = goal.at.returns-then-any_at_one_place c in
-    then_places _ _ _ [] _ (sizes_good t.Else-sizes-ne0)
-    (rw (near t.Else-any_beyond, sym (placed t.After-any_at_one_place c.if-sizes-ne0.false) ∙ c.if-any_at_one_place.true) refl)
+    then_places _ _ _ [] _ (sizes_good t.In_ok-judge_lent)
+    (rw (near t.Else-any_beyond, sym (placed t.After-any_at_one_place) ∙ c.if-any_at_one_place.true) refl)
 
 pub returns : goal.returns
 unfolding place_rules
 returns c =
     let t = goal.at.returns c in
-    then_places _ _ _ [] _ (sizes_good t.Else-sizes-ne0)
-    (rw (near t.Else-any_beyond, sym (placed t.After-any_at_one_place c.if-sizes-ne0.false) ∙ c.if-any_at_one_place.false) refl)
+    then_places _ _ _ [] _ (sizes_good t.In_ok-judge_lent)
+    (rw (near t.Else-any_beyond, sym (placed t.After-any_at_one_place) ∙ c.if-any_at_one_place.false) refl)
