@@ -12,7 +12,6 @@ use Rattle.whole.specs.Search.{any_above}
 use Rattle.whole.proofs.Rules.{beside, fits, sizes_hold, sizes_first}
 use Rattle.account.specs.Refusals.{job_rules, job_lengths, call_rules}
 use Rattle.account.specs.Classes.{class_rules, class_refusal}
-use Rattle.account.proofs.ClassTheorems.{lent_fits}
 use Rattle.class_rows.specs.ClassRows.{rows_refusal}
 
 -- of five tests, some are passed where some of these three are
@@ -54,8 +53,3 @@ module _ (n : ℕ) (values : List ℤ) (weights classes : List ℕ) (rows : ℕ)
       class_refusal n values weights classes sums locals own ≡ rows_refusal n values weights classes rows (length locals)
   unfolding class_refusal rows_refusal class_rules call_rules
   by_account sums locals own s o e = rw (eq-eqb (length sums) 27 s, eq-eqb (length own) n o, eq-eqb rows 9 e) refl
-
-  -- a call that is not refused is lent nine rows
-  pub nine_lent : (locals : ℕ) → rows_refusal n values weights classes rows locals ≡ 0 → rows ≡ 9
-  unfolding rows_refusal
-  nine_lent locals e = (fits rows 9 ((locals, 9 * n) ∷ []) (lent_fits n values weights classes ((rows, 9) ∷ (locals, 9 * n) ∷ []) e)).0

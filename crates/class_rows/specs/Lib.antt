@@ -1,3 +1,2 @@
--- Meaning: ClassRows. What private functions ask of each other: Steps.
+-- Meaning: ClassRows.
 pub mod ClassRows
-pub mod Steps

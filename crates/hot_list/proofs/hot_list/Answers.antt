@@ -3,44 +3,43 @@
 use mathlib.Core.Path.{◌≡◌, sym, ◌∙◌}
 use Prim.Native.Nat.{◌≤◌}
 use lib.Seq.{length-take-le}
+use Rattle.std.proofs.lemmas.Result.{err_from_is_err_and}
+use Rattle.refusals.proofs.Refusals.{not_refused, left_by}
 use Rattle.account.proofs.Theorems.{sizes_refusal, refusal_by_sizes, sizes_fit}
-use Rattle.hot_list.proofs.Answered.{refused, by_refusal, by_sums}
+use Rattle.hot_list.specs.HotList.{hot_zones}
+use Rattle.hot_list.proofs.Answered.{same, number_put, zones_put}
 use Rattle.hot_list.proofs.hot_list.Goals as goal
-use Rattle.hot_list.proofs.hot_list.Goals.{Else-sizes-ne0}
-
-pub returns-then-sizes-ne0 : goal.returns-then-sizes-ne0
-returns-then-sizes-ne0 c =
-    let a = c.args in let all = refused _ _ _ _ _
-    (refusal_by_sizes a.n a.values.now a.weights.now a.zones.now _ c.judge_sizes-sizes.ensures c.if-sizes-ne0.true)
-    c.if-sizes-ne0.true in record { number = all.0; lent = all.1 }
+use Rattle.hot_list.proofs.hot_list.Goals.{In_ok-judge_lent}
 
 -- the sizes are good, so that there are at most 64 zones
-good :
-    (c : Else-sizes-ne0) →
-    let a = c.args in sizes_refusal a.n a.values.now a.weights.now a.zones.now ≡ 0
-good c = sym c.judge_sizes-sizes.ensures ∙ c.if-sizes-ne0.false
+module _ (c : In_ok-judge_lent) where
+  good : sizes_refusal c.args.n c.args.values.now c.args.weights.now c.args.zones.now ≡ 0
+  good = sym c.in_ok-judge_lent.ensures
 
-fit : (c : Else-sizes-ne0) → c.args.n ≤ 64
-fit c = let a = c.args in (sizes_fit a.n a.values.now a.weights.now a.zones.now (good c)).0
+  fit : c.args.n ≤ 64
+  fit = (sizes_fit c.args.n c.args.values.now c.args.weights.now c.args.zones.now good).0
 
-pub slice_bounds-space-end : goal.slice_bounds-space-end
-slice_bounds-space-end c = fit c
+pub returns-in_err-judge_lent : goal.returns-in_err-judge_lent
+unfolding hot_zones
+returns-in_err-judge_lent c =
+    let a = c.args in
+    let p = err_from_is_err_and c.from_residual.result c.from_residual.ensures.1 in
+    let e = refusal_by_sizes a.n a.values.now a.weights.now a.zones.now _ c.in_err-judge_lent.ensures (not_refused _) in
+    rw (p.1, p.2) (record { number = e; lent = sym (left_by _ _ _ _ e) })
 
-pub slice_bounds-locals-end : goal.slice_bounds-locals-end
-slice_bounds-locals-end c = sym (length-take-le _ _ (fit ((goal.at.slice_bounds-locals-end c).Else-sizes-ne0)))
+pub returns-in_err-account : goal.returns-in_err-account
+unfolding hot_zones
+returns-in_err-account c =
+    let g = (goal.at.returns-in_err-account c).In_ok-judge_lent in
+    let p = err_from_is_err_and c.from_residual-in_err-account.result c.from_residual-in_err-account.ensures.1 in
+    let e = c.in_err-account.ensures.number ∙ same _ _ _ _ (good g) _ (length-take-le _ _ (fit g)) in
+    rw (p.1, p.2) (record { number = e; lent = sym (left_by _ _ _ _ e) })
 
-pub returns-in-Refused : goal.returns-in-Refused
-returns-in-Refused c =
-    let e = (goal.at.returns-in-Refused c).Else-sizes-ne0 in
-    let told = c.account.ensures in
-    let all = by_refusal _ _ _ _ (good e) _ (length-take-le _ _ (fit e)) _ told.number told.figures _ c.in-Refused.is in
-    record { number = all.0; lent = all.1 }
-
-pub returns-in-Accounted : goal.returns-in-Accounted
-returns-in-Accounted c =
-    let e = (goal.at.returns-in-Accounted c).Else-sizes-ne0 in
-    let told = c.account.ensures in
-    let put = c.order.ensures in
-    let by = by_sums _ _ _ _ (good e) _ (length-take-le _ _ (fit e)) _ told.number told.figures in
-    let all = by _ _ _ _ c.in-Accounted.is told.lent put.number put.lent in
-    record { number = all.0; lent = all.1 }
+pub returns : goal.returns
+returns c =
+    let g = (goal.at.returns c).In_ok-judge_lent in
+    let own = c.in_ok-account.ensures in
+    let put = c.order.ensures in record {
+      number = put.number ∙ number_put _ _ _ _ (good g) _ (length-take-le _ _ (fit g)) _ own.number own.lent;
+      lent = put.lent ∙ zones_put _ _ _ _ (good g) _ (length-take-le _ _ (fit g)) _ own.number own.lent;
+    }
