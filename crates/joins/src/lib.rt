@@ -5,19 +5,23 @@ mod counting;
 mod judging;
 
 ghost use Rattle.std.specs.Prelude.{◌≡◌, length};
+ghost use Rattle.refusals.specs.Refusals.{number_of};
 ghost use Rattle.joins.specs.Joins.{join_refusal, joins_left};
 
-// Works the join table: `table` is lent 64 places for T(0,0), T(0,1), .., T(7,7) and is left as it was where the call is refused. Answers
-// the number of the refusal, 0 where nothing is refused.
-pub fn join_table(n: usize, categories: &[u8], weights: &[u8], table: &mut [i64]) -> u8
-    ensures number { result ≡ join_refusal n categories.now weights.now (length table.old) }
+use refusals::Refusal;
+
+// Works the join table: `table` is lent 64 places for T(0,0), T(0,1), .., T(7,7) and is left as it was where the call is refused.
+pub fn join_table(
+    n: usize,
+    categories: &[u8],
+    weights: &[u8],
+    table: &mut [i64],
+) -> Result<(), Refusal>
+    ensures number { number_of result ≡ join_refusal n categories.now weights.now (length table.old) }
     ensures lent { table.new ≡ joins_left n categories.now weights.now table.old }
 {
-    let number = judging::judge_joins(n, categories, weights, table.len());
-    if number != 0 {
-        return number;
-    }
+    judging::judge_joins(n, categories, weights, table.len())?;
     table.fill(0);
     counting::count_joins(n, categories, weights, table);
-    0
+    Ok(())
 }
