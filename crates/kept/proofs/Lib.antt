@@ -1,6 +1,6 @@
 -- Laws of the kept zones: Passing (the numbers that pass a test), KeptZones (their lists), KeptShuffle (a shuffle of them), KeptFirst (an
 -- order), Marks (what the code marks), Sized (a call whose lists fit). Of values not returned: Missing (what the code tests of one), Reduced
--- (the weights that then count), SizedValues (a call whose lists fit, values among them).
+-- (the weights that then count).
 pub mod Passing
 pub mod KeptZones
 pub mod KeptShuffle
@@ -9,4 +9,3 @@ pub mod Marks
 pub mod Sized
 pub mod Missing
 pub mod Reduced
-pub mod SizedValues
