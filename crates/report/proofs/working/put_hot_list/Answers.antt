@@ -14,6 +14,7 @@ use Rattle.hot_list.specs.HotList.{in_order, order_left}
 use Rattle.hot_list.proofs.Ordered.{order_taken, in_order_length, in_order_below}
 use Rattle.report.specs.Steps.{Listed, zone_line}
 use Rattle.report.proofs.Puts.{put_as, put_most}
+use Rattle.report.proofs.Unrefused.{unrefused}
 use Rattle.report.proofs.working.put_hot_list.Goals as goal
 use Rattle.report.proofs.working.put_hot_list.Goals.{After-order, Start}
 
@@ -69,13 +70,15 @@ module _ (c : After-order) where
   abbrev zones : List ℕ
   zones = c.order.new.zones
 
+  taken : order_refusal n weights locals (length (take n s.room-space.result)) ≡ 0
+  taken = let z = s.requires.zoned in order_taken n _ _ _ z.least z.most z.weights_fit refl (length-take-le _ _ z.most)
+
   zones_left : zones ≡ in_order n weights locals
   unfolding order_left
-  zones_left =
-      let z = s.requires.zoned in
-      c.order.ensures.lent
-      ∙ worked_when_taken _ _ _
-      (order_taken n _ _ _ z.least z.most z.weights_fit refl (length-take-le _ _ z.most))
+  zones_left = c.order.ensures.lent ∙ worked_when_taken _ _ _ taken
+
+pub unwrap-requires : goal.unwrap-requires
+unwrap-requires c = unrefused _ (c.order.ensures.number ∙ taken ((goal.at.unwrap-requires c).After-order))
 
 pub put_zones-requires-clause-listed : goal.put_zones-requires-clause-listed
 put_zones-requires-clause-listed c =
