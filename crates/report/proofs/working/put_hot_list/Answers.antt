@@ -8,6 +8,7 @@ use lib.ListN.{length, get_or, take}
 use lib.Seq.{length-take-le, take-append-le, get_or-take}
 use mir.Syntax.{w64}
 use mir.ValLaws.{to_z-of_z}
+use Rattle.std.specs.Result.{IsOk}
 use Rattle.whole.specs.Table.{each}
 use Rattle.whole.proofs.Rules.{worked_when_taken}
 use Rattle.hot_list.specs.HotList.{in_order, order_left}
@@ -70,15 +71,21 @@ module _ (c : After-order) where
   abbrev zones : List ℕ
   zones = c.order.new.zones
 
-  taken : order_refusal n weights locals (length (take n s.room-space.result)) ≡ 0
-  taken = let z = s.requires.zoned in order_taken n _ _ _ z.least z.most z.weights_fit refl (length-take-le _ _ z.most)
-
   zones_left : zones ≡ in_order n weights locals
   unfolding order_left
-  zones_left = c.order.ensures.lent ∙ worked_when_taken _ _ _ taken
+  zones_left =
+      let z = s.requires.zoned in
+      c.order.ensures.lent
+      ∙ worked_when_taken _ _ _
+      (order_taken n _ _ _ z.least z.most z.weights_fit refl (length-take-le _ _ z.most))
+
+  ordered : IsOk c.order.result
+  ordered =
+      let z = s.requires.zoned in
+      unrefused _ (c.order.ensures.number ∙ order_taken n _ _ _ z.least z.most z.weights_fit refl (length-take-le _ _ z.most))
 
 pub unwrap-requires : goal.unwrap-requires
-unwrap-requires c = unrefused _ (c.order.ensures.number ∙ taken ((goal.at.unwrap-requires c).After-order))
+unwrap-requires c = ordered ((goal.at.unwrap-requires c).After-order)
 
 pub put_zones-requires-clause-listed : goal.put_zones-requires-clause-listed
 put_zones-requires-clause-listed c =
