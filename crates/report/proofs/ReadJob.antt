@@ -137,10 +137,10 @@ module _ {image : List ℕ} {lent held : Buffers} {counts : Counts} (told : Told
 
 -- a refusal leaves the page
 pub refused_prints :
-    {image : List ℕ} {lent : Buffers} {old : List ℕ} (e : Refusal) → number_by e ≡ read_refusal image lent →
+    (image : List ℕ) (lent : Buffers) {old : List ℕ} (e : Refusal) → number_by e ≡ read_refusal image lent →
     misfits (buffer_lengths lent) ≡ false → Prints image old old (Err e)
 unfolding length_in
-refused_prints {image} {lent} e told fits =
+refused_prints image lent e told fits =
     let same : number_by e ≡ image_refusal image = told ∙ image_decides image lent fits in record {
       number = same;
       long = sym (left_by _ _ _ e same);

@@ -23,7 +23,7 @@ module _ (c : In_ok-counts) where
 pub returns-in_err-counts : goal.returns-in_err-counts
 returns-in_err-counts c =
     let p = err_from_is_err_and c.from_residual.result c.from_residual.ensures.1 in
-    rw (p.1, p.2) (refused_prints _ c.in_err-counts.ensures.number c.requires.exact)
+    rw (p.1, p.2) (refused_prints _ _ _ c.in_err-counts.ensures.number c.requires.exact)
 
 pub put_read-requires-clause-held : goal.put_read-requires-clause-held
 put_read-requires-clause-held c = read_held (told ((goal.at.put_read-requires-clause-held c).In_ok-counts))
