@@ -75,11 +75,6 @@ returns-in_err-judge c =
     let kept = A.kept (given s) (lent s) (out s) e.field-0.0 number in
     record { number = ap number_of same ∙ number; length = ap length_of same ∙ kept.length; lent = kept.left }
 
-pub invariant_of-job : goal.invariant_of-job
-invariant_of-job c =
-    let s = (goal.at.invariant_of-job c).Start in
-    record { sized = A.sized (given s) (lent s) (sound c) }
-
 pub image_length-length-requires : goal.image_length-length-requires
 image_length-length-requires c = (parts ((goal.at.image_length-length-requires c).After-count_joins-joins)).counted
 

@@ -10,7 +10,6 @@ use Rattle.image.specs.Reader.{Buffers}
 use Rattle.image.specs.Writer.{listed, lent_job, part_rules}
 use Rattle.image.specs.declared.Given.{Given}
 use Rattle.image.proofs.Accepted.{places_numbered}
-use Rattle.image.proofs.Buffers.{Exact, exact}
 use Rattle.image.proofs.Parts as parts
 use Rattle.image.proofs.Parts.{weights_numbered}
 use Rattle.writer.proofs.Judged.{stops, passes}
@@ -30,9 +29,6 @@ module _ (s : Start) where
 
   abbrev rules_of : (Given → Job → List Rule) → List Rule
   rules_of part = part given job
-
-  lengths : Exact lent
-  lengths = exact lent s.args.job.now.sized.fits
 
 -- the rules after a part decide where it breaks none
 past_values :
