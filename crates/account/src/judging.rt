@@ -70,13 +70,12 @@ pub(super) fn judge_job(
     n: usize,
     values: &[i32],
     weights: &[u8],
-    zones: &mut [u8],
+    zones: &mut [u8; 64],
 ) -> Result<usize, Refusal>
     requires le_n { 2 ≤ n }
     requires n_bound { n ≤ 64 }
     requires values_len { length values.now ≡ n }
     requires weights_len { length weights.now ≡ n * n }
-    requires zones_len { length zones.old ≡ 64 }
     ensures { Finds n weights.now (first_broken (job_rules n values.now weights.now))
         zones.new result }
 {
@@ -92,9 +91,8 @@ pub(super) fn judge_account(
     values: &[i32],
     weights: &[u8],
     places: usize,
-    zones: &mut [u8],
+    zones: &mut [u8; 64],
 ) -> Result<usize, Refusal>
-    requires { length zones.old ≡ 64 }
     ensures { Finds n weights.now
         (first_broken (call_rules n values.now weights.now ((places, n) ∷ []) [])) zones.new result }
 {
@@ -127,9 +125,8 @@ pub(super) fn judge_classes(
     rows: usize,
     class_locals: usize,
     locals: usize,
-    zones: &mut [u8],
+    zones: &mut [u8; 64],
 ) -> Result<usize, Refusal>
-    requires { length zones.old ≡ 64 }
     ensures { Finds n weights.now
         (first_broken (class_rules n values.now weights.now classes.now
         (class_lengths n rows class_locals locals))) zones.new result }
@@ -158,9 +155,8 @@ pub(super) fn judge_rank(
     values: &[i32],
     weights: &[u8],
     shuffles: &[u8],
-    zones: &mut [u8],
+    zones: &mut [u8; 64],
 ) -> Result<usize, Refusal>
-    requires { length zones.old ≡ 64 }
     ensures { Finds n weights.now
         (rank_refusal n values.now weights.now shuffles.now) zones.new result }
 {

@@ -1,8 +1,7 @@
 -- `judge_job` meets its contract: the lists' number where there is one; else `keep` finds the zones, refusing nothing, and the
 -- number of the sums is the job's. Assumes nothing.
-use Rattle.std.proofs.Common.{◌≡◌, sym, List, ℕ, ℤ, Ok, Err}
+use Rattle.std.proofs.Common.{◌≡◌, sym, arith, List, ℕ, ℤ, Ok, Err}
 use Rattle.std.proofs.lemmas.Result.{err_from_is_err_and}
-use lib.Seq.{length-take-le}
 use Rattle.refusals.proofs.Refusals.{not_refused}
 use Rattle.refusals.specs.declared.Refusal.{Refusal}
 use Rattle.account.proofs.Accepted.{Lawful, lawful}
@@ -34,12 +33,12 @@ module _ (c : After-keep) where
 
   never : (refusal : Refusal) → c.keep.result ≡ Err refusal → ⊥
   never =
-      never_refused n weights a.args.zones.now a.requires.le_n a.requires.n_bound a.requires.weights_len a.requires.zones_len _
+      never_refused n weights a.args.zones.now a.requires.le_n a.requires.n_bound a.requires.weights_len a.told-zones _
       c.keep.ensures.many
 
   kept : (many : ℕ) → c.keep.result ≡ Ok many → Left n weights left many
   kept many q =
-      zones_left n weights a.args.zones.now a.requires.le_n a.requires.n_bound a.requires.weights_len a.requires.zones_len _ c.keep.ensures.many
+      zones_left n weights a.args.zones.now a.requires.le_n a.requires.n_bound a.requires.weights_len a.told-zones _ c.keep.ensures.many
       left many c.keep.ensures.lent q
 
 -- the zones that the sums are judged of
@@ -59,11 +58,10 @@ returns-in_err-judge_lists c =
 pub returns-in_err-many : goal.returns-in_err-many
 returns-in_err-many c = absurd (never ((goal.at.returns-in_err-many c).After-keep) _ c.in_err-many.was)
 
-pub slice_bounds-judge_sums-end : goal.slice_bounds-judge_sums-end
-slice_bounds-judge_sums-end c = (lying c).room
-
-pub slice_bounds-judge_sums-end-2 : goal.slice_bounds-judge_sums-end-2
-slice_bounds-judge_sums-end-2 c = sym (length-take-le _ _ (lying c).room)
+pub shared_ref_as_front-judge_sums : goal.shared_ref_as_front-judge_sums
+shared_ref_as_front-judge_sums c =
+    let o = (goal.at.shared_ref_as_front-judge_sums c).In_ok-many in
+    let k = asked o in omega (arith, (lying o).room, k.keep.auto.zones, (a k).told-zones)
 
 pub judge_sums-requires : goal.judge_sums-requires
 judge_sums-requires c =
