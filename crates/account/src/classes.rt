@@ -6,10 +6,11 @@ ghost use Rattle.account.specs.Measures.{total_of, deviation_of};
 ghost use Rattle.account.specs.Answers.{listed, zones_figures};
 ghost use Rattle.account.specs.Steps.{Sized, zones_locals, zones_class_sums, zones_class_locals, row_added, zone_part, Zoned, Owned};
 
-use crate::lists::ClassLists;
+use crate::lists::{ClassLists, ZoneValues};
 use crate::{Sums, deviations, differences};
 
-// Adds to W, P and G of class k. A local numerator is the largest number that is added, and 64 of them fit.
+// Adds to W, P and G of class k. A local numerator is the largest number that is added, and 64 of them fit. The sums are found by place, as
+// the caller lends them: in rows of three every clause here would be on a list of lists.
 pub(super) fn add_row(rows: &mut [i64], k: usize, weight: i64, cross: i64, squares: i64)
     requires sized { Sized 6039797760000000000 rows.old 27 }
     requires k_bound { k < 9 }
@@ -106,7 +107,7 @@ pub(super) fn add_zones(
 {
     let ClassLists { n, values, .. } = *lists;
     let mut d: [i64; 64] = [0; 64];
-    deviations::deviations(n, values, total, &mut d[..n]);
+    deviations::deviations(&ZoneValues { n, values }, total, &mut d[..n]);
     rows.fill(0);
     for i in 0..n {
         add_zone(lists, &d[..n], i, rows, class_locals, locals);
@@ -144,8 +145,9 @@ pub(super) fn zone_classes(
     ensures locals_after { locals.new ≡ zones_locals lists.now.n lists.now.values.now lists.now.weights.now }
 {
     let ClassLists { n, values, .. } = *lists;
-    let total = deviations::total(n, values);
-    let spread = differences::spread(n, values, total);
+    let list = ZoneValues { n, values };
+    let total = deviations::total(&list);
+    let spread = differences::spread(&list, total);
     add_zones(lists, total, rows, class_locals, locals);
     let weight = nine_together(rows, 0);
     let cross = deviations::sum_of(n, locals);

@@ -3,29 +3,28 @@ ghost use Rattle.std.specs.Prelude.{◌≡◌, ◌≤◌, ◌<◌, length};
 ghost use Rattle.whole.specs.Sum.{sum};
 ghost use Rattle.whole.specs.Table.{table, at, pair_at};
 ghost use Rattle.account.specs.Measures.{total_of, deviation_of, row_of, local_of};
-ghost use Rattle.account.specs.Steps.{Sized, Valued};
+ghost use Rattle.account.specs.Steps.{Sized};
 
-use crate::lists::Weighed;
+use crate::lists::{Weighed, ZoneValues};
 
 // S.
-pub(super) fn total(n: usize, values: &[i32]) -> i64
-    requires { Valued values.now n }
-    ensures { result ≡ total_of (at values.now) n }
+pub(super) fn total(list: &ZoneValues) -> i64
+    ensures { result ≡ total_of (at list.now.values.now) list.now.n }
 {
     let mut acc: i64 = 0;
-    for x in values {
+    for x in list.values {
         acc += i64::from(*x);
     }
     acc
 }
 
 // The deviations d(i), with their sign, from S.
-pub(super) fn deviations(n: usize, values: &[i32], total: i64, d: &mut [i64])
-    requires valued { Valued values.now n }
-    requires total_value { total ≡ total_of (at values.now) n }
-    requires d_len { length d.old ≡ n }
-    ensures { d.new ≡ table (deviation_of (at values.now) n) n }
+pub(super) fn deviations(list: &ZoneValues, total: i64, d: &mut [i64])
+    requires total_value { total ≡ total_of (at list.now.values.now) list.now.n }
+    requires d_len { length d.old ≡ list.now.n }
+    ensures { d.new ≡ table (deviation_of (at list.now.values.now) list.now.n) list.now.n }
 {
+    let ZoneValues { n, values } = *list;
     // no From leads here from a usize
     let count = n as i64;
     for (i, deviation) in d.iter_mut().enumerate() {
@@ -33,7 +32,8 @@ pub(super) fn deviations(n: usize, values: &[i32], total: i64, d: &mut [i64])
     }
 }
 
-// The weighted neighbours of zone i: the sum over j of w(i,j) d(j).
+// The weighted neighbours of zone i: the sum over j of w(i,j) d(j). A zone is below n by a clause, here and where a walk over the zones
+// calls: a type for that would belong to one job.
 pub(super) fn neighbour_sum(weighed: &Weighed, i: usize) -> i64
     requires { i < weighed.now.n }
     ensures { result ≡ row_of (pair_at weighed.now.weights.now weighed.now.n) (λ i j. at weighed.now.d.now j) i weighed.now.n }

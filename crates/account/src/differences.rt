@@ -4,9 +4,8 @@ ghost use Rattle.whole.specs.Integer.{square};
 ghost use Rattle.whole.specs.Sum.{sum};
 ghost use Rattle.whole.specs.Table.{at, pair_at};
 ghost use Rattle.account.specs.Measures.{total_of, spread_of, row_of, squares_of};
-ghost use Rattle.account.specs.Steps.{Valued};
 
-use crate::lists::JobLists;
+use crate::lists::{JobLists, ZoneValues};
 
 // The squared difference of two values.
 pub(super) fn squared_difference(a: i32, b: i32) -> i64
@@ -19,12 +18,11 @@ pub(super) fn squared_difference(a: i32, b: i32) -> i64
 }
 
 // The sum of the squares of the values.
-pub(super) fn square_sum(n: usize, values: &[i32]) -> i64
-    requires { Valued values.now n }
-    ensures { result ≡ sum (λ i. square (at values.now i)) n }
+pub(super) fn square_sum(list: &ZoneValues) -> i64
+    ensures { result ≡ sum (λ i. square (at list.now.values.now i)) list.now.n }
 {
     let mut acc: i64 = 0;
-    for value in values {
+    for value in list.values {
         let x = i64::from(*value);
         acc += x * x;
     }
@@ -32,14 +30,13 @@ pub(super) fn square_sum(n: usize, values: &[i32]) -> i64
 }
 
 // M from S, without a walk over the pairs: n times the sum of the squares, less the square of the sum.
-pub(super) fn spread(n: usize, values: &[i32], total: i64) -> i64
-    requires valued { Valued values.now n }
-    requires total_value { total ≡ total_of (at values.now) n }
-    ensures { result ≡ spread_of (at values.now) n }
+pub(super) fn spread(list: &ZoneValues, total: i64) -> i64
+    requires { total ≡ total_of (at list.now.values.now) list.now.n }
+    ensures { result ≡ spread_of (at list.now.values.now) list.now.n }
 {
-    let squares = square_sum(n, values);
+    let squares = square_sum(list);
     // no From leads here from a usize
-    let count = n as i64;
+    let count = list.n as i64;
     count * squares - total * total
 }
 

@@ -9,8 +9,9 @@ ghost use Rattle.account.specs.Measures.{spread_of};
 ghost use Rattle.account.specs.Refusals.{list_rules, job_rules, call_rules, job_refusal};
 ghost use Rattle.account.specs.Classes.{class_rules, class_lengths};
 ghost use Rattle.account.specs.Rank.{rank_refusal};
-ghost use Rattle.account.specs.Steps.{Valued, Zones, gathered, Finds};
+ghost use Rattle.account.specs.Steps.{Zones, gathered, Finds};
 
+use crate::lists::ZoneValues;
 use crate::{deviations, differences, keeping};
 use judges::Places;
 use refusals::Refusal;
@@ -32,37 +33,38 @@ pub(super) fn judge_lists(n: usize, values: &[i32], weights: &[u8]) -> Result<()
 }
 
 // 7 where these values do not vary.
-pub(super) fn judge_spread(values: &[i32]) -> Result<(), Refusal>
-    requires { Valued values.now (length values.now) }
+pub(super) fn judge_spread(list: &ZoneValues) -> Result<(), Refusal>
     ensures { number_of result ≡ first_broken
-        ((is_zero (spread_of (at values.now) (length values.now)), 7) ∷ []) }
+        ((is_zero (spread_of (at list.now.values.now) list.now.n), 7) ∷ []) }
 {
-    let many = values.len();
-    let total = deviations::total(many, values);
-    if differences::spread(many, values, total) == 0 {
+    let total = deviations::total(list);
+    if differences::spread(list, total) == 0 {
         return Err(Refusal::Spreadless);
     }
     Ok(())
 }
 
 // 6 where no zone is kept, 7 where the values of those kept do not vary. Where all are kept these are the values lent, and need no copy.
-pub(super) fn judge_sums(values: &[i32], zones: &[u8]) -> Result<(), Refusal>
-    requires valued { Valued values.now (length values.now) }
-    requires zones { Zones zones.now (length values.now) }
+pub(super) fn judge_sums(list: &ZoneValues, zones: &[u8]) -> Result<(), Refusal>
+    requires { Zones zones.now list.now.n }
     ensures { number_of result ≡ first_broken ((eqb (length zones.now) 0, 6)
-        ∷ (is_zero (spread_of (at (gathered values.now zones.now)) (length zones.now)), 7) ∷ []) }
+        ∷ (is_zero (spread_of (at (gathered list.now.values.now zones.now)) (length zones.now)), 7)
+        ∷ []) }
 {
     let many = zones.len();
     if many == 0 {
         return Err(Refusal::Weightless);
     }
-    if many == values.len() {
-        return judge_spread(values);
+    if many == list.n {
+        return judge_spread(list);
     }
     let mut space: [i32; 64] = [0; 64];
     let kept_values = &mut space[..many];
-    keeping::gather_values(values, zones, kept_values);
-    judge_spread(kept_values)
+    keeping::gather_values(list.values, zones, kept_values);
+    judge_spread(&ZoneValues {
+        n: many,
+        values: kept_values,
+    })
 }
 
 // 3 to 7, of a job whose sizes are good.
@@ -81,7 +83,7 @@ pub(super) fn judge_job(
 {
     judge_lists(n, values, weights)?;
     let many = kept::keep(n, weights, zones)?;
-    judge_sums(values, &zones[..many])?;
+    judge_sums(&ZoneValues { n, values }, &zones[..many])?;
     Ok(many)
 }
 

@@ -52,7 +52,8 @@ fn gather<'a>(
     }
 }
 
-// The sums of a job, with its local numerators in `locals`.
+// The sums of a job, with its local numerators in `locals`. That a lent list has room is a clause here and below: its length is the
+// caller's, as C lends it.
 pub(super) fn job_sums(kept: &KeptLists, locals: &mut [i64]) -> Sums
     requires { length locals.old ≡ kept.now.job.n }
     ensures result_value { listed result

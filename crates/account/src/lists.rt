@@ -1,7 +1,16 @@
-// What was judged, with the facts that the judges found: the work takes these, and no loose lists.
+// What was judged, with the facts that the judges found: the work takes these, and no loose lists. Each has n beside its lists, as the
+// caller gives it: the weights have n rows of n.
 ghost use Rattle.std.specs.Prelude.{◌≡◌};
 ghost use Rattle.kept.specs.Kept.{kept_zones};
-ghost use Rattle.account.specs.Steps.{Sized, Weighted, Job, ClassJob};
+ghost use Rattle.account.specs.Steps.{Sized, Valued, Weighted, Job, ClassJob};
+
+// The values of n zones.
+#[derive(Clone, Copy)]
+pub(super) struct ZoneValues<'a> {
+    pub(super) n: usize,
+    pub(super) values: &'a [i32],
+    ghost valued: { Valued values.now n },
+}
 
 // A job of n zones. Its lists are lent by a caller, who names no lifetime for both.
 #[derive(Clone, Copy)]

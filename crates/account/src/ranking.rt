@@ -4,7 +4,7 @@ ghost use Rattle.shuffles.specs.Steps.{Shuffle, Shuffles};
 ghost use Rattle.account.specs.Rank.{compared, zones_rank, three};
 ghost use Rattle.account.specs.Steps.{cross_held, cross_moved};
 
-use crate::lists::{JobLists, Weighed};
+use crate::lists::{JobLists, Weighed, ZoneValues};
 use crate::{Counts, deviations, shuffling};
 use std::cmp::Ordering;
 
@@ -67,9 +67,10 @@ pub(super) fn zone_rank(job: &JobLists, shuffles: &[u8], rows: usize) -> Counts
     ensures { three result ≡ zones_rank rows job.now.n job.now.values.now job.now.weights.now shuffles.now }
 {
     let JobLists { n, values, weights } = *job;
-    let total = deviations::total(n, values);
+    let list = ZoneValues { n, values };
+    let total = deviations::total(&list);
     let mut d: [i64; 64] = [0; 64];
-    deviations::deviations(n, values, total, &mut d[..n]);
+    deviations::deviations(&list, total, &mut d[..n]);
     let weighed = Weighed {
         n,
         weights,

@@ -5,7 +5,7 @@ ghost use Rattle.account.specs.Measures.{weight_of};
 ghost use Rattle.account.specs.Answers.{listed, zones_figures};
 ghost use Rattle.account.specs.Steps.{Weighted, zones_locals};
 
-use crate::lists::{JobLists, Weighed};
+use crate::lists::{JobLists, Weighed, ZoneValues};
 use crate::{Sums, deviations, differences};
 
 // W, in 32 bits, so that the compiler can add several weights at a time.
@@ -27,10 +27,11 @@ pub(super) fn zone_sums(job: &JobLists, locals: &mut [i64]) -> Sums
     ensures locals_after { locals.new ≡ zones_locals job.now.n job.now.values.now job.now.weights.now }
 {
     let JobLists { n, values, weights } = *job;
-    let total = deviations::total(n, values);
-    let spread = differences::spread(n, values, total);
+    let list = ZoneValues { n, values };
+    let total = deviations::total(&list);
+    let spread = differences::spread(&list, total);
     let mut d: [i64; 64] = [0; 64];
-    deviations::deviations(n, values, total, &mut d[..n]);
+    deviations::deviations(&list, total, &mut d[..n]);
     let weighed = Weighed {
         n,
         weights,

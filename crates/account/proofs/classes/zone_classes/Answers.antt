@@ -53,11 +53,11 @@ module _ (c : After-add_zones) where
   abbrev start : Start
   start = ((goal.at.After-spread-spread summing).Start)
 
-pub total-total-requires : goal.total-total-requires
-total-total-requires c = c.args.lists.now.good.job.valued
+pub invariant_of-list : goal.invariant_of-list
+invariant_of-list c = record { valued = c.args.lists.now.good.job.valued }
 
 pub spread-spread-requires : goal.spread-spread-requires
-spread-spread-requires c = record { valued = c.args.lists.now.good.job.valued; total_value = summed c }
+spread-spread-requires c = summed ((goal.at.spread-spread-requires c).After-total-total)
 
 pub add_zones-requires : goal.add_zones-requires
 add_zones-requires c =

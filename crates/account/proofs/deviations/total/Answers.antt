@@ -17,10 +17,10 @@ use Rattle.account.proofs.deviations.total.Goals.{After-from-acc}
 -- a turn adds one value more
 turn :
     (c : After-from-acc) →
-    Is (to_z w64 c.loop-x.acc-bits +ℤ r64 c.from-acc.result) (sum (at c.args.values.now) (c.loop-x.x-index + 1)) 6400000
+    Is (to_z w64 c.loop-x.acc-bits +ℤ r64 c.from-acc.result) (sum (at c.args.list.now.values.now) (c.loop-x.x-index + 1)) 6400000
 turn c =
-    running_more (total_runs _ _ c.requires) c.loop-x.x-index (to_z w64 c.loop-x.acc-bits) (omega arith) c.loop-x.invariant
-    (rd w64 (value_told _ _ c.requires c.loop-x.x-index (omega arith) c.from-acc.ensures) tt)
+    running_more (total_runs _ _ c.args.list.now.valued) c.loop-x.x-index (to_z w64 c.loop-x.acc-bits) (omega arith) c.loop-x.invariant
+    (rd w64 (value_told _ _ c.args.list.now.valued c.loop-x.x-index (omega arith) c.from-acc.ensures) tt)
 
 pub loop-x-init : goal.loop-x-init
 loop-x-init c = running_none _

@@ -20,15 +20,15 @@ module _ (c : After-from-x) where
   abbrev i : ℕ
   i = c.loop-value.value-index
 
-  product : Is (r64 c.from-x.result *ℤ r64 c.from-x.result) (square (at c.args.values.now i)) 10000000000
+  product : Is (r64 c.from-x.result *ℤ r64 c.from-x.result) (square (at c.args.list.now.values.now i)) 10000000000
   product =
-      let value = rd w64 (value_told _ _ c.requires i (omega arith) c.from-x.ensures) tt in
+      let value = rd w64 (value_told _ _ c.args.list.now.valued i (omega arith) c.from-x.ensures) tt in
       is_* value value
 
   turn :
       Is (to_z w64 c.loop-value.acc-bits +ℤ r64 (r64 c.from-x.result *ℤ r64 c.from-x.result))
-      (sum (λ i. square (at c.args.values.now i)) (i + 1)) 640000000000
-  turn = running_more (square_runs _ _ c.requires) i (to_z w64 c.loop-value.acc-bits) (omega arith) c.loop-value.invariant (rd w64 product tt)
+      (sum (λ i. square (at c.args.list.now.values.now i)) (i + 1)) 640000000000
+  turn = running_more (square_runs _ _ c.args.list.now.valued) i (to_z w64 c.loop-value.acc-bits) (omega arith) c.loop-value.invariant (rd w64 product tt)
 
 pub loop-value-init : goal.loop-value-init
 loop-value-init c = running_none _

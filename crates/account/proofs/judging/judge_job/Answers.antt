@@ -68,7 +68,14 @@ judge_sums-requires c =
     let q = (goal.at.judge_sums-requires c).In_ok-many in
     let k = asked q in
     let all = sums_asked (n k) (values k) (weights k) (good k) _ (lying q).zones (a k).requires.values_len in
-    record { valued = all.0; zones = all.1 }
+    rw (sym (a k).requires.values_len) all.1
+
+pub invariant_of-judge_sums : goal.invariant_of-judge_sums
+invariant_of-judge_sums c =
+    let q = (goal.at.invariant_of-judge_sums c).In_ok-many in
+    let k = asked q in
+    let all = sums_asked (n k) (values k) (weights k) (good k) _ (lying q).zones (a k).requires.values_len in
+    record { valued = rw (sym (a k).requires.values_len) all.0 }
 
 pub returns-in_err-judge_sums : goal.returns-in_err-judge_sums
 returns-in_err-judge_sums c =

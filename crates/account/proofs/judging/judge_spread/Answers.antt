@@ -1,6 +1,5 @@
 -- `judge_spread` meets its contract. Assumes nothing.
 use mathlib.Core.Path.{◌≡◌, refl}
-use lib.ListN.{length}
 use mir.Syntax.{w64}
 use Rattle.whole.specs.Table.{at}
 use Rattle.whole.proofs.Machine.{rd, zero_yes, zero_no, r64}
@@ -12,18 +11,15 @@ use Rattle.account.proofs.judging.judge_spread.Goals.{After-total-total}
 -- S as it is handed on
 summed :
     (c : After-total-total) →
-    let values = c.args.values.now in r64 c.total-total.result ≡ total_of (at values) (length values)
-summed c = (rd w64 (total_told _ _ c.requires c.total-total.ensures) tt).same
-
-pub total-total-requires : goal.total-total-requires
-total-total-requires c = c.requires
+    let list = c.args.list.now in r64 c.total-total.result ≡ total_of (at list.values.now) list.n
+summed c = (rd w64 (total_told _ _ c.args.list.now.valued c.total-total.ensures) tt).same
 
 pub spread-requires : goal.spread-requires
-spread-requires c = record { valued = c.requires; total_value = summed c }
+spread-requires c = summed c
 
 pub returns-then-spread-eq0 : goal.returns-then-spread-eq0
 returns-then-spread-eq0 c =
-    rw (zero_yes w64 (spread_told _ _ c.requires c.spread.ensures) tt c.if-spread-eq0.true) refl
+    rw (zero_yes w64 (spread_told _ _ c.args.list.now.valued c.spread.ensures) tt c.if-spread-eq0.true) refl
 
 pub returns : goal.returns
 returns c = rw (zero_no w64 c.spread.ensures c.if-spread-eq0.false) refl

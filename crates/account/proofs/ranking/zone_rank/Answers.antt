@@ -43,8 +43,8 @@ module _ (c : After-deviations) where
       (λ r h. its_cross g.job.now.values.now g.job.now.weights.now g.job.now.n d e g.shuffles.now r (a.requires.full r h))
       (own_cross g.job.now.values.now g.job.now.weights.now g.job.now.n d e)
 
-pub total-total-requires : goal.total-total-requires
-total-total-requires c = c.args.job.now.good.valued
+pub invariant_of-list : goal.invariant_of-list
+invariant_of-list c = record { valued = c.args.job.now.good.valued }
 
 pub slice_bounds-d-end : goal.slice_bounds-d-end
 slice_bounds-d-end c = c.args.job.now.good.valued.zones
@@ -55,7 +55,6 @@ slice_bounds-deviations-end c = sym (length-take-le _ _ c.args.job.now.good.valu
 pub deviations-requires : goal.deviations-requires
 deviations-requires c =
     let v = c.args.job.now.good.valued in record {
-      valued = v;
       total_value = (rd w64 (total_told _ _ v c.total-total.ensures) tt).same;
       d_len = length-take-le _ _ v.zones;
     }

@@ -34,11 +34,11 @@ module _ (c : After-deviations) where
   as_long : length expected ≡ a.args.job.now.n
   as_long = table_length (deviation_of (at a.args.job.now.values.now) a.args.job.now.n) a.args.job.now.n
 
-pub total-total-requires : goal.total-total-requires
-total-total-requires c = c.args.job.now.good.valued
+pub invariant_of-list : goal.invariant_of-list
+invariant_of-list c = record { valued = c.args.job.now.good.valued }
 
 pub spread-spread-requires : goal.spread-spread-requires
-spread-spread-requires c = record { valued = c.args.job.now.good.valued; total_value = summed c }
+spread-spread-requires c = summed ((goal.at.spread-spread-requires c).After-total-total)
 
 pub slice_bounds-d-end : goal.slice_bounds-d-end
 slice_bounds-d-end c = c.args.job.now.good.valued.zones
@@ -49,7 +49,6 @@ slice_bounds-deviations-end c = sym (length-take-le _ _ c.args.job.now.good.valu
 pub deviations-requires : goal.deviations-requires
 deviations-requires c =
     let v = c.args.job.now.good.valued in record {
-      valued = v;
       total_value = summed ((goal.at.deviations-requires c).After-total-total);
       d_len = length-take-le _ _ v.zones;
     }
