@@ -1,10 +1,14 @@
 -- The two ways out of the call, and all that it promises of each. Assumes nothing.
 use mathlib.Core.Path.{◌≡◌, refl, sym, ap, ◌∙◌}
-use mathlib.Core.List.{List}
+use mathlib.Core.List.{List, [], ◌∷◌}
 use Prim.Native.Nat.{ℕ}
 use lib.IntN.{ℤ}
-use Rattle.whole.proofs.Rules.{worked_when_taken, kept_when_refused}
-use Rattle.agreement.specs.EveryFigure.{Lent, lists, lent_lengths, job_answers, refused_answers, job_lists}
+use Rattle.std.proofs.Common.{Result, Ok, Err}
+use Rattle.std.specs.Result.{IsOkAnd}
+use Rattle.refusals.specs.declared.Refusal.{Refusal}
+use Rattle.refusals.specs.Refusals.{number_by, number_of}
+use Rattle.refusals.proofs.Refusals.{not_refused, left_by, worked_by}
+use Rattle.agreement.specs.EveryFigure.{Lent, lists, lent_lengths, answer_in, job_answers, job_lists}
 use Rattle.agreement.specs.EveryFigure.{every_refusal, every_answer, every_left}
 use Rattle.agreement.specs.Demand3.{Demand3}
 use Rattle.agreement.specs.declared.Every.{Every}
@@ -22,30 +26,30 @@ module _ (n : ℕ) (values : List ℤ) (weights classes : List ℕ) (lent : Lent
   refusal = every_refusal n values weights classes lent
 
   -- what the contract says of the answer r and of the lists after the call
-  abbrev Promised : Every → Lent → Type 0
-  Promised r after =
-      (r ≡ every_answer n values weights classes lent)
-      × ((after ≡ every_left n values weights classes lent) × (refusal ≡ 0 → Demand3 n r after))
+  pub record Promised (r : Result Every Refusal) (after : Lent) : Type 0 where
+    pub number : number_of r ≡ refusal
+    pub answer : answer_in r ≡ every_answer n values weights classes lent
+    pub left : after ≡ every_left n values weights classes lent
+    pub demand3 : refusal ≡ 0 → IsOkAnd r (λ out. Demand3 n out after)
 
   -- a refusal, and the lists as they were
-  pub refused :
-      (k : ℕ) (r : Every) (after : Lent) → k ≡ refusal → (k ≡ 0 → ⊥) → r ≡ refused_answers k → after ≡ lent → Promised r after
-  unfolding every_answer every_left
-  refused k r after e f g h =
-      let some : refusal ≡ 0 → ⊥ = λ z. f (e ∙ z) in (
-        g ∙ ap refused_answers e ∙ sym (kept_when_refused _ _ _ some),
-        (h ∙ sym (kept_when_refused _ _ _ some), λ z. absurd (some z)),
-      )
+  pub refused : (k : Refusal) (after : Lent) → number_by k ≡ refusal → after ≡ lent → Promised (Err k) after
+  unfolding answer_in every_answer every_left
+  refused k after e h = record {
+    number = e;
+    answer = sym (left_by _ _ _ k e);
+    left = h ∙ sym (left_by _ _ _ k e);
+    demand3 = λ z. absurd (not_refused k (e ∙ z));
+  }
 
   -- the figures of a job that is accepted
   pub worked :
-      (r : Every) (after : Lent) → refusal ≡ 0 → r ≡ job_answers n values weights classes → after ≡ job_lists n values weights classes →
-      Promised r after
-  unfolding every_answer every_left every_refusal
-  worked r after z g h = (
-    g ∙ sym (worked_when_taken _ _ _ z),
-    (
-      h ∙ sym (worked_when_taken _ _ _ z),
-      λ _. rw (g, h) (demand_3 n values weights classes (lent_lengths n lent) z),
-    ),
-  )
+      (r : Every) (after : Lent) → 0 ≡ refusal → r ≡ job_answers n values weights classes → after ≡ job_lists n values weights classes →
+      Promised (Ok r) after
+  unfolding answer_in every_answer every_left every_refusal
+  worked r after z g h = record {
+    number = z;
+    answer = ap (λ v. v ∷ []) g ∙ sym (worked_by _ _ _ z);
+    left = h ∙ sym (worked_by _ _ _ z);
+    demand3 = λ _. rw (g, h) (demand_3 n values weights classes (lent_lengths n lent) (sym z));
+  }

@@ -16,8 +16,8 @@ use Rattle.coefficients.specs.FloatReport.{report_refusal, report_sums, report_w
 use Rattle.coefficients.specs.FloatReport.{plain_refusal, plain_sums, plain_whole, plain_classes, plain_rows, plain_locals, plain_figures}
 use Rattle.agreement.specs.EveryFigure.{Lent, lent_lengths, every_refusal}
 use Rattle.agreement.proofs.Fitting.{fit_alike}
--- stated where it is proved: an answer of the report is known by its number, its sums and its pair, so that its contract leaves no second
--- answer open
+-- stated where it is proved: an answer of the report is known by its number, its sums, its pair and those of its classes, so that its
+-- contract leaves no second answer open
 pub use Rattle.agreement.proofs.Answered.{answer_unique}
 
 -- ---- every job that the account accepts, under every assignment of classes 0 to 8, is accepted by all four calls together

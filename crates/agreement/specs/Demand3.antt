@@ -7,11 +7,9 @@ use Rattle.whole.specs.Sum.{sum}
 use Rattle.whole.specs.Table.{at}
 use Rattle.nearest.specs.Nearest.{IsNearest}
 use Rattle.account.specs.Classes.{row_at}
-use Rattle.account.specs.declared.Answer.TheVariants.{Accounted}
 use Rattle.account.specs.declared.ClassRow.{ClassRow}
 use Rattle.account.specs.declared.Sums.{Sums}
 use Rattle.coefficients.specs.FloatReport.{no_pair}
-use Rattle.coefficients.specs.declared.Answer.TheVariants.{Reported}
 use Rattle.coefficients.specs.declared.Coefficient.{Coefficient}
 use Rattle.coefficients.specs.declared.Coefficient.TheVariants.{Figure, Weightless}
 use Rattle.coefficients.specs.declared.Pair.{Pair}
@@ -34,13 +32,13 @@ abbrev pub LocalFigure : ℤ → ℤ → List ℕ → ℕ → Type 0
 LocalFigure numerator spread figures i = IsNearest numerator spread (get_or figures i 0)
 
 pub record Demand3 (n : ℕ) (out : Every) (after : Lent) : Type 0 where
-  -- nothing is refused: the account answers its sums, the class account the same, and the report the same with their pair; two zones at
-  -- least are kept, and their number is the n of the ratios
+  -- the account answers its sums, the class account the same, and the report the same with their pair; two zones at least are kept, and
+  -- their number is the n of the ratios
   pub sums : Sums
   pub pair : Pair
-  pub accounted : out.account ≡ Accounted sums
-  pub classed : out.classes ≡ Accounted sums
-  pub reported : out.report.whole ≡ Reported (record { sums = sums; pair = pair })
+  pub accounted : out.account ≡ sums
+  pub classed : out.classes ≡ sums
+  pub reported : out.report.whole ≡ record { sums = sums; pair = pair }
   pub kept : (2 ≤ sums.kept) × (sums.kept ≤ n)
   -- the whole job has weight and its pair; each zone its local figure
   pub weight : pos 1 ≤ℤ sums.weight

@@ -1,15 +1,13 @@
 -- What the four calls on one job answer together, and what they leave in the nine lists that they are lent. Assumes nothing.
-use Rattle.std.specs.Prelude.{List, [], ◌∷◌, ℕ, ◌*◌, ℤ, length}
+use Rattle.std.specs.Prelude.{List, [], ◌∷◌, ℕ, ◌*◌, ℤ, length, Result, Ok, Err}
 use Rattle.whole.specs.Rules.{first_broken, unless_refused}
 use Rattle.whole.specs.Table.{table, at}
+use Rattle.refusals.specs.declared.Refusal.{Refusal}
 use Rattle.account.specs.Refusals.{job_spread}
 use Rattle.account.specs.Answers.{job_kept, job_figures, job_locals}
 use Rattle.account.specs.Classes.{class_sums, class_locals_of, class_rules}
-use Rattle.account.specs.declared.Answer.TheVariants as account
 use Rattle.account.specs.declared.Sums.{Sums}
 use Rattle.coefficients.specs.Coefficients.{job_pair, class_pair, local_figures}
-use Rattle.coefficients.specs.FloatReport.{no_pair}
-use Rattle.coefficients.specs.declared.Answer.TheVariants.{Refused, Reported}
 use Rattle.coefficients.specs.declared.Report.{Report}
 use Rattle.agreement.specs.declared.Every.{Every}
 
@@ -74,31 +72,20 @@ job_sums n values weights =
       kept = job_kept n values weights;
     }
 
--- the float report of a job, and one that is refused, in which no class has a coefficient
+-- the float report of a job
 unfoldable pub job_report : ℕ → List ℤ → List ℕ → List ℕ → Report
 job_report n values weights classes = record {
-  whole = Reported (record { sums = job_sums n values weights; pair = job_pair n values weights });
+  whole = record { sums = job_sums n values weights; pair = job_pair n values weights };
   classes = table (class_pair n values weights classes) 9;
 }
 
-unfoldable pub refused_report : ℕ → Report
-refused_report number = record { whole = Refused number; classes = table (λ k. no_pair) 9 }
-
--- the four answers of a job, and those to a refusal
+-- the four answers of a job
 unfoldable pub job_answers : ℕ → List ℤ → List ℕ → List ℕ → Every
 job_answers n values weights classes = record {
-  account = account.Accounted (job_sums n values weights);
-  classes = account.Accounted (job_sums n values weights);
+  account = job_sums n values weights;
+  classes = job_sums n values weights;
   report = job_report n values weights classes;
   plain = job_report n values weights classes;
-}
-
-unfoldable pub refused_answers : ℕ → Every
-refused_answers number = record {
-  account = account.Refused number;
-  classes = account.Refused number;
-  report = refused_report number;
-  plain = refused_report number;
 }
 
 -- what the lists hold of a job
@@ -116,14 +103,20 @@ job_lists n values weights classes = record {
 }
 
 -- ---- the call
+
+-- the four answers, none where the calls are refused
+unfoldable pub answer_in : Result Every Refusal → List Every
+answer_in (Ok every) = every ∷ []
+answer_in (Err refusal) = []
+
 module _ (n : ℕ) (values : List ℤ) (weights classes : List ℕ) (lent : Lent) where
   -- its refusal, 0 where no rule is broken: 1 to 7, then 9, with the lengths of the nine lent lists
   unfoldable pub every_refusal : ℕ
   every_refusal = first_broken (class_rules n values weights classes (lent_lengths n lent))
 
   -- what it answers
-  unfoldable pub every_answer : Every
-  every_answer = unless_refused every_refusal (job_answers n values weights classes) (refused_answers every_refusal)
+  unfoldable pub every_answer : List Every
+  every_answer = unless_refused every_refusal (job_answers n values weights classes ∷ []) []
 
   -- what the lent lists hold after it
   unfoldable pub every_left : Lent

@@ -1,6 +1,10 @@
 // The judge of the lent lists.
 ghost use Rattle.std.specs.Prelude.{◌≡◌, [], ◌∷◌, ◌*◌};
 ghost use Rattle.whole.specs.Rules.{first_broken, size_rules};
+ghost use Rattle.refusals.specs.Refusals.{number_of};
+
+use judges::Places;
+use refusals::Refusal;
 
 // 1 and 2, of n and the lengths of the nine lent lists. What else there is to judge the class account judges.
 pub(super) fn judge_lent(
@@ -14,43 +18,23 @@ pub(super) fn judge_lent(
     plain_rows: usize,
     plain_locals: usize,
     plain_figures: usize,
-) -> u8
-    ensures { result ≡ first_broken (size_rules n (
+) -> Result<(), Refusal>
+    ensures { number_of result ≡ first_broken (size_rules n (
         (locals, n) ∷ (rows, 27) ∷ (class_locals, 9 * n) ∷ (own, n) ∷ (figures, n) ∷ (parts, 9 * n)
         ∷ (plain_rows, 27) ∷ (plain_locals, n) ∷ (plain_figures, n) ∷ [])) }
 {
-    if n < 2 {
-        return 1;
-    }
-    if n > 64 {
-        return 1;
-    }
-    if locals != n {
-        return 2;
-    }
-    if rows != 27 {
-        return 2;
-    }
-    if class_locals != 9 * n {
-        return 2;
-    }
-    if own != n {
-        return 2;
-    }
-    if figures != n {
-        return 2;
-    }
-    if parts != 9 * n {
-        return 2;
-    }
-    if plain_rows != 27 {
-        return 2;
-    }
-    if plain_locals != n {
-        return 2;
-    }
-    if plain_figures != n {
-        return 2;
-    }
-    0
+    judges::judge_lent(
+        n,
+        &[
+            (locals, Places::Zones),
+            (rows, Places::Fixed(27)),
+            (class_locals, Places::ClassZones),
+            (own, Places::Zones),
+            (figures, Places::Zones),
+            (parts, Places::ClassZones),
+            (plain_rows, Places::Fixed(27)),
+            (plain_locals, Places::Zones),
+            (plain_figures, Places::Zones),
+        ],
+    )
 }

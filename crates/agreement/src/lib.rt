@@ -6,24 +6,29 @@ mod judging;
 mod working;
 
 ghost use Rattle.std.specs.Prelude.{◌≡◌};
-ghost use Rattle.agreement.specs.EveryFigure.{lists, every_refusal, every_answer, every_left};
+ghost use Rattle.std.specs.Result.{IsOkAnd};
+ghost use Rattle.refusals.specs.Refusals.{number_of};
+ghost use Rattle.agreement.specs.EveryFigure.{lists, answer_in};
+ghost use Rattle.agreement.specs.EveryFigure.{every_refusal, every_answer, every_left};
 ghost use Rattle.agreement.specs.Demand3.{Demand3};
 
+use account::Sums;
 use coefficients::Report;
+use refusals::Refusal;
 
-// What the four calls answer of one job: the account, the class account, the float report and the plain report.
+// What the four calls answer of an accepted job: the account, the class account, the float report and the plain report.
 #[derive(Clone, Copy)]
 pub struct Every {
-    pub account: account::Answer,
-    pub classes: account::Answer,
+    pub account: Sums,
+    pub classes: Sums,
     pub report: Report,
     pub plain: Report,
 }
 
 // Makes the four calls on the job, whose pairs have the classes lent. `locals` is lent to the account; `rows`, `class_locals` and `own` to
 // the class account; `figures` and `parts` to the float report; and `plain_rows`, `plain_locals` and `plain_figures` to the plain report.
-// Where one of the calls would refuse the job or its classes, or a list is not of its length, all four answers are the refusal, and every
-// list is left as it was.
+// Where one of the calls would refuse the job or its classes, or a list is not of its length, all four are refused, and every list is left
+// as it was.
 pub fn every_figure(
     n: usize,
     values: &[i32],
@@ -38,8 +43,12 @@ pub fn every_figure(
     plain_rows: &mut [i64],
     plain_locals: &mut [i64],
     plain_figures: &mut [u64],
-) -> Every
-    ensures answer { result ≡ every_answer n values.now weights.now classes.now
+) -> Result<Every, Refusal>
+    ensures number { number_of result ≡ every_refusal n values.now weights.now classes.now
+        (lists locals.old rows.old class_locals.old own.old
+        figures.old parts.old
+        plain_rows.old plain_locals.old plain_figures.old) }
+    ensures answer { answer_in result ≡ every_answer n values.now weights.now classes.now
         (lists locals.old rows.old class_locals.old own.old
         figures.old parts.old
         plain_rows.old plain_locals.old plain_figures.old) }
@@ -54,12 +63,12 @@ pub fn every_figure(
         (lists locals.old rows.old class_locals.old own.old
         figures.old parts.old
         plain_rows.old plain_locals.old plain_figures.old) ≡ 0 →
-        Demand3 n result
+        IsOkAnd result (λ out. Demand3 n out
         (lists locals.new rows.new class_locals.new own.new
         figures.new parts.new
-        plain_rows.new plain_locals.new plain_figures.new) }
+        plain_rows.new plain_locals.new plain_figures.new)) }
 {
-    let lent = judging::judge_lent(
+    judging::judge_lent(
         n,
         locals.len(),
         rows.len(),
@@ -70,24 +79,19 @@ pub fn every_figure(
         plain_rows.len(),
         plain_locals.len(),
         plain_figures.len(),
-    );
-    if lent != 0 {
-        return working::refused(lent);
-    }
-    match account::class_account(n, values, weights, classes, rows, class_locals, own) {
-        account::Answer::Refused(number) => working::refused(number),
-        account::Answer::Accounted(sums) => working::work_others(
-            n,
-            values,
-            weights,
-            classes,
-            sums,
-            locals,
-            figures,
-            parts,
-            plain_rows,
-            plain_locals,
-            plain_figures,
-        ),
-    }
+    )?;
+    let sums = account::class_account(n, values, weights, classes, rows, class_locals, own)?;
+    Ok(working::work_others(
+        n,
+        values,
+        weights,
+        classes,
+        sums,
+        locals,
+        figures,
+        parts,
+        plain_rows,
+        plain_locals,
+        plain_figures,
+    ))
 }

@@ -16,7 +16,8 @@ use Rattle.whole.specs.Search.{some, any_beyond}
 use Rattle.whole.specs.Table.{at}
 use Rattle.whole.proofs.Compare.{equal_same, equal_true}
 use Rattle.whole.proofs.Search.{some_none, none_some, some_cong}
-use Rattle.places.specs.Places.{across, up, coordinates, squared_distance, squared_between, at_one_place}
+use Rattle.places.specs.Places.{across, up, squared_distance, at_one_place}
+use Rattle.places.specs.Steps.{coordinates, squared_between}
 use Rattle.places.proofs.Any.{any_front}
 
 -- a zone of the list, and no zone past its end

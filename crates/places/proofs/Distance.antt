@@ -14,7 +14,8 @@ use Rattle.whole.proofs.Machine.{Is, told, rd, r64}
 use Rattle.whole.proofs.Search.{none_beyond}
 use Rattle.whole.proofs.Size.{size_+_le, size___le, size_*_le, +_above, square_above}
 use Rattle.whole.specs.Table.{at}
-use Rattle.places.specs.Places.{across, up, squared_distance, squared_between}
+use Rattle.places.specs.Places.{across, up, squared_distance}
+use Rattle.places.specs.Steps.{squared_between}
 
 -- ---- the size
 

@@ -16,15 +16,6 @@ up places a = at places (2 * a + 1)
 unfoldable pub squared_distance : List ℤ → ℕ → ℕ → ℤ
 squared_distance places a b = square (across places a -ℤ across places b) +ℤ square (up places a -ℤ up places b)
 
--- zones that are given each by its two coordinates, and the list of the coordinates
-unfoldable pub coordinates : List (List ℤ) → List ℤ
-coordinates [] = []
-coordinates (zone ∷ zones) = at zone 0 ∷ at zone 1 ∷ coordinates zones
-
--- the squared distance of two such zones
-unfoldable pub squared_between : List ℤ → List ℤ → ℤ
-squared_between a b = square (at a 0 -ℤ at b 0) +ℤ square (at a 1 -ℤ at b 1)
-
 -- zones a and b are at one place
 unfoldable pub at_one_place : List ℤ → ℕ → ℕ → Bool
 at_one_place places a b = equal (across places a) (across places b) && equal (up places a) (up places b)

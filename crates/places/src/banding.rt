@@ -1,7 +1,7 @@
 // The classes of pairs of zones, by bands that were judged and accepted.
 ghost use Rattle.std.specs.Prelude.{◌≡◌, false, ◌*◌, ◌≤◌, length};
 ghost use Rattle.whole.specs.Search.{any_beyond};
-ghost use Rattle.places.specs.Places.{coordinates};
+ghost use Rattle.places.specs.Steps.{coordinates};
 ghost use Rattle.places.specs.Bands.{band_class, band_classes};
 
 use crate::distances;

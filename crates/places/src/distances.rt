@@ -1,7 +1,7 @@
 // The squared distance of two zones, which can exceed 32 bits.
 ghost use Rattle.std.specs.Prelude.{◌≡◌, false};
 ghost use Rattle.whole.specs.Search.{any_beyond};
-ghost use Rattle.places.specs.Places.{squared_between};
+ghost use Rattle.places.specs.Steps.{squared_between};
 
 // The squared distance of zones a and b, at most 7,200,000,000.
 pub(super) fn squared_distance(a: [i32; 2], b: [i32; 2]) -> i64

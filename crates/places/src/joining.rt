@@ -2,7 +2,7 @@
 ghost use Rattle.std.specs.Prelude.{◌≡◌, false, not, ◌*◌, ◌≤◌, ◌+ℤ◌, length};
 ghost use Rattle.std.specs.Int.Signed.{lt_z};
 ghost use Rattle.whole.specs.Search.{any_beyond};
-ghost use Rattle.places.specs.Places.{squared_between, coordinates};
+ghost use Rattle.places.specs.Steps.{squared_between, coordinates};
 ghost use Rattle.places.specs.Gabriel.{gabriel_network};
 
 use crate::distances;

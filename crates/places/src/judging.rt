@@ -2,7 +2,8 @@
 ghost use Rattle.std.specs.Prelude.{◌≡◌, [], ◌∷◌, ◌+◌, ◌*◌, ◌<◌, ◌≤◌, length};
 ghost use Rattle.whole.specs.Rules.{first_broken};
 ghost use Rattle.refusals.specs.Refusals.{number_of};
-ghost use Rattle.places.specs.Places.{coordinates, any_at_one_place, call_rules, places_in_turn};
+ghost use Rattle.places.specs.Places.{any_at_one_place, call_rules, places_in_turn};
+ghost use Rattle.places.specs.Steps.{coordinates};
 ghost use Rattle.places.specs.Bands.{any_misplaced, bands_broken, band_refusal};
 
 use judges::Places;

@@ -8,7 +8,7 @@ use lib.ListN.{length}
 use Rattle.std.proofs.lemmas.Result.{err_from_is_err_and}
 use Rattle.whole.specs.Search.{any_beyond}
 use Rattle.refusals.proofs.Refusals.{left_by, worked_by}
-use Rattle.places.specs.Places.{coordinates}
+use Rattle.places.specs.Steps.{coordinates}
 use Rattle.places.specs.Bands.{band_classes, band_refusal, bands_left}
 use Rattle.places.proofs.Accepted.{Banded, bands_accepted}
 use Rattle.places.proofs.Coordinates.{taken_count, taken_all}

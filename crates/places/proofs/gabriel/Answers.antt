@@ -8,7 +8,7 @@ use lib.ListN.{length}
 use Rattle.std.proofs.lemmas.Result.{err_from_is_err_and}
 use Rattle.whole.specs.Search.{any_beyond}
 use Rattle.refusals.proofs.Refusals.{left_by, worked_by}
-use Rattle.places.specs.Places.{coordinates}
+use Rattle.places.specs.Steps.{coordinates}
 use Rattle.places.specs.Gabriel.{gabriel_network, gabriel_refusal, gabriel_left}
 use Rattle.places.proofs.Accepted.{Placed, gabriel_accepted}
 use Rattle.places.proofs.Coordinates.{taken_count, taken_all}

@@ -8,7 +8,8 @@ use lib.ListN.{length, set}
 use Rattle.whole.specs.Search.{any_beyond}
 use Rattle.whole.proofs.Machine.{r64}
 use Rattle.whole.proofs.TableRows.{Split, split, Filled, filled_next, filled_all}
-use Rattle.places.specs.Places.{coordinates, squared_distance, squared_between}
+use Rattle.places.specs.Places.{squared_distance}
+use Rattle.places.specs.Steps.{coordinates, squared_between}
 use Rattle.places.specs.Bands.{band_class, pair_class, band_classes}
 use Rattle.places.proofs.Classes.{pair_itself, pair_apart}
 use Rattle.places.proofs.Coordinates.{zone_at, zone_near, distance_is}

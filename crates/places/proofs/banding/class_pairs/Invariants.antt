@@ -1,6 +1,7 @@
 use lib.ListN.{length}
 use Rattle.whole.proofs.TableRows.{Filled}
-use Rattle.places.specs.Places.{coordinates, squared_distance}
+use Rattle.places.specs.Places.{squared_distance}
+use Rattle.places.specs.Steps.{coordinates}
 use Rattle.places.specs.Bands.{pair_class}
 use Rattle.places.proofs.banding.class_pairs.Given as goal
 

@@ -12,7 +12,7 @@ use Rattle.whole.specs.Search.{any_beyond}
 use Rattle.whole.specs.Table.{at}
 use Rattle.whole.proofs.Machine.{Is, val, told, rd, is_+, is__, is_*, fit, r32, r64}
 use Rattle.whole.proofs.Search.{none_beyond}
-use Rattle.places.specs.Places.{squared_between}
+use Rattle.places.specs.Steps.{squared_between}
 use Rattle.places.proofs.distances.squared_distance.Goals as goal
 use Rattle.places.proofs.distances.squared_distance.Goals.{After-from-4}
 

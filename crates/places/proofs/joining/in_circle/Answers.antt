@@ -6,7 +6,7 @@ use lib.Signed.{le_z}
 use mir.Syntax.{w64}
 use Rattle.whole.proofs.Compare.{at_most}
 use Rattle.whole.proofs.Machine.{Is, rd, is_+, fit, r64}
-use Rattle.places.specs.Places.{squared_between}
+use Rattle.places.specs.Steps.{squared_between}
 use Rattle.places.proofs.Distance.{between_read}
 use Rattle.places.proofs.joining.in_circle.Goals as goal
 use Rattle.places.proofs.joining.in_circle.Goals.{After-squared_distance-2}

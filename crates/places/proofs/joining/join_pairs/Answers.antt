@@ -14,7 +14,8 @@ use lib.Signed.{lt_z}
 use Rattle.whole.specs.Search.{some, any_beyond}
 use Rattle.whole.proofs.Search.{some_zero, some_more}
 use Rattle.whole.proofs.TableRows.{Split, split, Filled, filled_next, filled_all}
-use Rattle.places.specs.Places.{coordinates, squared_distance, squared_between}
+use Rattle.places.specs.Places.{squared_distance}
+use Rattle.places.specs.Steps.{coordinates, squared_between}
 use Rattle.places.specs.Gabriel.{in_circle, gabriel_weight, gabriel_network}
 use Rattle.places.proofs.Circles.{third_in, first_passed, second_passed, outside_passed}
 use Rattle.places.proofs.Circles.{weight_none, weight_found, weight_free}

@@ -3,7 +3,8 @@ use mathlib.Core.Bool.{false}
 use lib.ListN.{length}
 use Rattle.whole.specs.Search.{some}
 use Rattle.whole.proofs.TableRows.{Filled}
-use Rattle.places.specs.Places.{coordinates, squared_distance}
+use Rattle.places.specs.Places.{squared_distance}
+use Rattle.places.specs.Steps.{coordinates}
 use Rattle.places.specs.Gabriel.{gabriel_weight}
 use Rattle.places.proofs.Circles.{third_in}
 use Rattle.places.proofs.joining.join_pairs.Given as goal

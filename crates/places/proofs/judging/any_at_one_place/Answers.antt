@@ -3,7 +3,8 @@ use mathlib.Core.Path.{◌≡◌, sym, ◌∙◌}
 use native.Mathlib.Omega.{arith}
 use Rattle.whole.specs.Search.{some}
 use Rattle.whole.proofs.Search.{some_zero, some_more, some_found, some_done}
-use Rattle.places.specs.Places.{coordinates, at_one_place, any_at_one_place}
+use Rattle.places.specs.Places.{at_one_place, any_at_one_place}
+use Rattle.places.specs.Steps.{coordinates}
 use Rattle.places.proofs.Coordinates.{zones_given, earlier_is}
 use Rattle.places.proofs.judging.any_at_one_place.Goals as goal
 use Rattle.places.proofs.judging.any_at_one_place.Goals.{After-contains}

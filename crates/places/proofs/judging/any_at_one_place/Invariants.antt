@@ -1,7 +1,8 @@
 use mathlib.Core.Path.{◌≡◌}
 use mathlib.Core.Bool.{false}
 use Rattle.whole.specs.Search.{some}
-use Rattle.places.specs.Places.{coordinates, at_one_place}
+use Rattle.places.specs.Places.{at_one_place}
+use Rattle.places.specs.Steps.{coordinates}
 use Rattle.places.proofs.judging.any_at_one_place.Given as goal
 
 abbrev pub invariant-loop-a : goal.invariant-loop-a

@@ -8,7 +8,8 @@ use Rattle.std.proofs.lemmas.Result.{err_from_is_err_and}
 use Rattle.whole.specs.Rules.{first_broken, size_rules}
 use Rattle.whole.specs.Search.{any_beyond}
 use Rattle.refusals.proofs.Refusals.{not_refused}
-use Rattle.places.specs.Places.{coordinates, any_at_one_place, place_rules}
+use Rattle.places.specs.Places.{any_at_one_place, place_rules}
+use Rattle.places.specs.Steps.{coordinates}
 use Rattle.places.proofs.Accepted.{sizes_of, fitting, by_sizes, by_halves, then_places}
 use Rattle.places.proofs.Coordinates.{taken_count, taken_all}
 use Rattle.places.proofs.judging.judge_places.Goals as goal
