@@ -16,7 +16,7 @@ use Rattle.coefficients.specs.FloatReport.{sums_in, pair_in, pairs_in}
 use Rattle.coefficients.specs.declared.Pair.{Pair}
 use Rattle.coefficients.specs.declared.Report.{Report}
 use Rattle.coefficients.specs.declared.Whole.{Whole}
-use Rattle.agreement.specs.EveryFigure.{job_sums, job_report, job_answers}
+use Rattle.agreement.specs.EveryFigure.{answer_in, job_sums, job_report, job_answers}
 use Rattle.agreement.specs.declared.Every.{Every}
 
 -- ---- sums are known by their list
@@ -48,6 +48,14 @@ answer_unique (Err k) (Err l) e f g h = ap Err (cause_unique k l e)
 answer_unique (Err k) (Ok w) e f g h = absurd (not_refused k e)
 answer_unique (Ok v) (Err l) e f g h = absurd (not_refused l (sym e))
 answer_unique (Ok v) (Ok w) e f g h = ap Ok (report_same (whole_same (sums_same v.whole.sums w.whole.sums f) (cc)) h)
+
+-- ---- and the four answers by their number and their value
+pub every_unique : (a b : Result Every Refusal) → number_of a ≡ number_of b → answer_in a ≡ answer_in b → a ≡ b
+unfolding answer_in
+every_unique (Err k) (Err l) e f = ap Err (cause_unique k l e)
+every_unique (Err k) (Ok w) e f = absurd (not_refused k e)
+every_unique (Ok v) (Err l) e f = absurd (not_refused l (sym e))
+every_unique (Ok v) (Ok w) e f = ap Ok (cc)
 
 -- ---- of an accepted job
 module _ (n : ℕ) (values : List ℤ) (weights classes : List ℕ) where
