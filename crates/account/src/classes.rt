@@ -17,13 +17,11 @@ pub(super) fn add_row(rows: &mut [i64], k: usize, weight: i64, cross: i64, squar
     requires squares_bound { nat_abs squares ≤ 94371840000000000 }
     ensures { rows.new ≡ row_added rows.old k weight cross squares }
 {
+    // by places: of what as_chunks_mut has lent a proof knows nothing afterwards
     let place = k * 3;
-    let weighed = rows[place];
-    let crossed = rows[place + 1];
-    let squared = rows[place + 2];
-    rows[place] = weighed + weight;
-    rows[place + 1] = crossed + cross;
-    rows[place + 2] = squared + squares;
+    rows[place] += weight;
+    rows[place + 1] += cross;
+    rows[place + 2] += squares;
 }
 
 // Adds the pairs of zone i to the three sums of their classes: the weight of each, the weight times d(j), and the weight times

@@ -5,6 +5,7 @@ ghost use Rattle.account.specs.Rank.{compared, zones_rank, three};
 ghost use Rattle.account.specs.Steps.{Sized, Weighted, Job, cross_held, cross_moved};
 
 use crate::{Counts, deviations, shuffling};
+use std::cmp::Ordering;
 
 // The P of the deviations d: each row's weighted neighbours are added up first, and multiplied by the row's d once.
 pub(super) fn cross_sum(n: usize, weights: &[u8], d: &[i64]) -> i64
@@ -46,12 +47,10 @@ pub(super) fn tally(n: usize, weights: &[u8], d: &[i64], shuffles: &[u8], rows: 
     let mut greater: usize = 0;
     for r in 0..rows {
         let cross = shuffle_cross(n, weights, d, shuffles, r);
-        if cross < own {
-            less += 1;
-        } else if own < cross {
-            greater += 1;
-        } else {
-            equal += 1;
+        match cross.cmp(&own) {
+            Ordering::Less => less += 1,
+            Ordering::Equal => equal += 1,
+            Ordering::Greater => greater += 1,
         }
     }
     Counts {

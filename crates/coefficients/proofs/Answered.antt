@@ -7,11 +7,15 @@ use borrow.Author.Tests.{eq-eqb}
 use lib.Dec.{eqb}
 use lib.IntN.{ℤ}
 use lib.ListN.{length, take}
+use Rattle.std.proofs.Common.{Result, Ok, Err}
 use Rattle.whole.specs.Rules.{first_broken, misfits, size_rules}
 use Rattle.whole.specs.Search.{any_above}
 use Rattle.whole.specs.Table.{table}
 use Rattle.whole.proofs.Table.{table_cong}
-use Rattle.whole.proofs.Rules.{kept_when_refused, worked_when_taken, beside, sizes_first}
+use Rattle.whole.proofs.Rules.{worked_when_taken, beside, sizes_first}
+use Rattle.refusals.specs.declared.Refusal.{Refusal}
+use Rattle.refusals.specs.Refusals.{number_by}
+use Rattle.refusals.proofs.Refusals.{left_by}
 use Rattle.account.specs.Answers.{listed, job_kept, job_figures, job_row, job_locals}
 use Rattle.account.specs.Classes.{row_at, class_sums, class_locals_of, class_rules, class_lengths, class_refusal}
 use Rattle.account.specs.Refusals.{job_spread, job_rules, job_lengths, call_rules}
@@ -19,9 +23,8 @@ use Rattle.account.specs.declared.ClassRow.{ClassRow}
 use Rattle.account.specs.declared.Sums.{Sums}
 use Rattle.account.proofs.ClassTheorems.{class_sums_row}
 use Rattle.coefficients.specs.Coefficients.{pair_of, job_pair, class_pair, local_figures}
-use Rattle.coefficients.specs.FloatReport.{number_of, sums_in, pair_in, no_pair}
+use Rattle.coefficients.specs.FloatReport.{sums_in, pair_in, pairs_in, no_pair}
 use Rattle.coefficients.specs.Steps.{whole_row, rest_refusal, Reports}
-use Rattle.coefficients.specs.declared.Answer.TheVariants.{Refused, Reported}
 use Rattle.coefficients.specs.declared.Report.{Report}
 use Rattle.coefficients.proofs.Job.{spread_in, kept_in, row_in}
 
@@ -47,22 +50,19 @@ module _ (n : ℕ) (values : List ℤ) (weights classes : List ℕ) {kept : ℕ}
 module _ (refusal n : ℕ) (values : List ℤ) (weights classes : List ℕ) (rows locals : List ℤ) (figures parts : List ℕ) where
   -- a refusal, and the lists as they were
   pub refused :
-      (k : ℕ) (r : Report) (rows_left locals_left : List ℤ) →
-      r ≡ record { whole = Refused k; classes = table (λ i. no_pair) 9 } → k ≡ refusal → (k ≡ 0 → ⊥) →
-      rows_left ≡ rows → locals_left ≡ locals →
-      Reports refusal n values weights classes rows locals figures parts r rows_left locals_left figures parts
-  unfolding number_of sums_in pair_in
-  refused k r rows_left locals_left e f g in_rows in_locals =
-      let some : refusal ≡ 0 → ⊥ = λ z. g (f ∙ z) in record {
-        number = ap (λ (v : Report). number_of v.whole) e ∙ f;
-        sums = ap (λ (v : Report). sums_in v.whole) e ∙ sym (kept_when_refused _ _ _ some);
-        whole = ap (λ (v : Report). pair_in v.whole) e ∙ sym (kept_when_refused _ _ _ some);
-        pairs = ap (λ (v : Report). v.classes) e ∙ sym (kept_when_refused _ _ _ some);
-        in_rows = in_rows ∙ sym (kept_when_refused _ _ _ some);
-        in_locals = in_locals ∙ sym (kept_when_refused _ _ _ some);
-        in_figures = sym (kept_when_refused _ _ _ some);
-        in_parts = sym (kept_when_refused _ _ _ some);
-      }
+      (k : Refusal) (rows_left locals_left : List ℤ) → number_by k ≡ refusal → rows_left ≡ rows → locals_left ≡ locals →
+      Reports refusal n values weights classes rows locals figures parts (Err k) rows_left locals_left figures parts
+  unfolding sums_in pair_in pairs_in
+  refused k rows_left locals_left e in_rows in_locals = record {
+    number = e;
+    sums = sym (left_by _ _ _ k e);
+    whole = sym (left_by _ _ _ k e);
+    pairs = sym (left_by _ _ _ k e);
+    in_rows = in_rows ∙ sym (left_by _ _ _ k e);
+    in_locals = in_locals ∙ sym (left_by _ _ _ k e);
+    in_figures = sym (left_by _ _ _ k e);
+    in_parts = sym (left_by _ _ _ k e);
+  }
 
   -- the sums, the pairs and the figures that are formed of what the class account answered and left
   pub reported :
@@ -72,19 +72,19 @@ module _ (refusal n : ℕ) (values : List ℤ) (weights classes : List ℕ) (row
       locals_left ≡ job_locals n values weights →
       r
       ≡ record {
-        whole = Reported (record { sums = sums; pair = pair_of sums.kept sums.spread (whole_row sums) });
+        whole = record { sums = sums; pair = pair_of sums.kept sums.spread (whole_row sums) };
         classes = table (λ k. pair_of sums.kept sums.spread (row_at rows_left k)) 9;
       } →
       figures_left ≡ local_figures sums.spread locals_left →
       parts_left ≡ local_figures sums.spread (take (length parts) of_classes) →
-      Reports refusal n values weights classes rows locals figures parts r rows_left locals_left figures_left parts_left
-  unfolding number_of sums_in pair_in
+      Reports refusal n values weights classes rows locals figures parts (Ok r) rows_left locals_left figures_left parts_left
+  unfolding sums_in pair_in pairs_in
   reported r sums rows_left of_classes locals_left figures_left parts_left z s in_rows in_classes in_locals e f g =
       let k = kept_in n values weights sums s in
       let m = spread_in n values weights sums s in record {
-        number = ap (λ (v : Report). number_of v.whole) e ∙ sym z;
-        sums = ap (λ (v : Report). sums_in v.whole) e ∙ s ∙ sym (worked_when_taken _ _ _ z);
-        whole = ap (λ (v : Report). pair_in v.whole) e ∙ ap (λ v. v ∷ []) (pair_is n values weights classes k m (row_in n values weights sums s)) ∙ sym (worked_when_taken _ _ _ z);
+        number = sym z;
+        sums = ap (λ (v : Report). listed v.whole.sums) e ∙ s ∙ sym (worked_when_taken _ _ _ z);
+        whole = ap (λ (v : Report). v.whole.pair ∷ []) e ∙ ap (λ v. v ∷ []) (pair_is n values weights classes k m (row_in n values weights sums s)) ∙ sym (worked_when_taken _ _ _ z);
         pairs = ap (λ (v : Report). v.classes) e ∙ pairs_are n values weights classes k m in_rows ∙ sym (worked_when_taken _ _ _ z);
         in_rows = in_rows ∙ sym (worked_when_taken _ _ _ z);
         in_locals = in_locals ∙ sym (worked_when_taken _ _ _ z);
@@ -94,7 +94,7 @@ module _ (refusal n : ℕ) (values : List ℤ) (weights classes : List ℕ) (row
 
 -- the same by another name of the number
 pub reports_same :
-    {refusal other n : ℕ} {values : List ℤ} {weights classes : List ℕ} {rows locals : List ℤ} {figures parts : List ℕ} {r : Report}
+    {refusal other n : ℕ} {values : List ℤ} {weights classes : List ℕ} {rows locals : List ℤ} {figures parts : List ℕ} {r : Result Report Refusal}
     {rows_left locals_left : List ℤ} {figures_left parts_left : List ℕ} → refusal ≡ other →
     Reports refusal n values weights classes rows locals figures parts r rows_left locals_left figures_left parts_left →
     Reports other n values weights classes rows locals figures parts r rows_left locals_left figures_left parts_left

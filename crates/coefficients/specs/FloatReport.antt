@@ -1,37 +1,37 @@
 -- What the float report answers, with the local figures of the classes or without them, and what it leaves in its lent lists. Lists of
 -- floats hold their bits. Assumes nothing.
-use Rattle.std.specs.Prelude.{List, [], ◌∷◌, ℕ, ◌*◌, ℤ, length}
+use Rattle.std.specs.Prelude.{List, [], ◌∷◌, ℕ, ◌*◌, ℤ, length, Result, Ok, Err}
 use Rattle.whole.specs.Rules.{first_broken, unless_refused}
 use Rattle.whole.specs.Table.{table}
+use Rattle.refusals.specs.declared.Refusal.{Refusal}
 use Rattle.account.specs.Refusals.{job_spread}
 use Rattle.account.specs.Answers.{listed, job_figures, job_locals}
 use Rattle.account.specs.Classes.{class_sums, class_locals_of, class_rules}
 use Rattle.coefficients.specs.Coefficients.{job_pair, class_pair, local_figures}
-use Rattle.coefficients.specs.declared.Answer.{Answer}
-use Rattle.coefficients.specs.declared.Answer.TheVariants.{Refused, Reported}
 use Rattle.coefficients.specs.declared.Coefficient.TheVariants.{Weightless}
 use Rattle.coefficients.specs.declared.Pair.{Pair}
+use Rattle.coefficients.specs.declared.Report.{Report}
 
 -- ---- what an answer says, by its cases
 
--- the number of the refusal, 0 where nothing is refused
-unfoldable pub number_of : Answer → ℕ
-number_of (Refused number) = number
-number_of (Reported whole) = 0
-
 -- S, M, W, P, G of the whole job and the number of zones kept, none where the call is refused
-unfoldable pub sums_in : Answer → List ℤ
-sums_in (Refused number) = []
-sums_in (Reported whole) = listed whole.sums
+unfoldable pub sums_in : Result Report Refusal → List ℤ
+sums_in (Ok report) = listed report.whole.sums
+sums_in (Err refusal) = []
 
 -- the pair of the whole job, none where the call is refused
-unfoldable pub pair_in : Answer → List Pair
-pair_in (Refused number) = []
-pair_in (Reported whole) = whole.pair ∷ []
+unfoldable pub pair_in : Result Report Refusal → List Pair
+pair_in (Ok report) = report.whole.pair ∷ []
+pair_in (Err refusal) = []
 
 -- a class that has no coefficient
 abbrev pub no_pair : Pair
 no_pair = record { moran = Weightless; geary = Weightless }
+
+-- the pairs of the nine classes, of which none has a coefficient where the call is refused
+unfoldable pub pairs_in : Result Report Refusal → List Pair
+pairs_in (Ok report) = report.classes
+pairs_in (Err refusal) = table (λ k. no_pair) 9
 
 -- ---- what they must be, by the number of the refusal
 

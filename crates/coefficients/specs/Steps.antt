@@ -1,15 +1,17 @@
 -- What the private functions ask of each other; no part of the public promise. Assumes nothing.
-use Rattle.std.specs.Prelude.{◌≡◌, not, List, [], ℕ, ◌*◌, ◌-◌, ◌≤◌, ◌<◌, T, ℤ, pos, nat_abs, ◌*ℤ◌, length, get_or, take, ◌≤ℤ◌}
+use Rattle.std.specs.Prelude.{◌≡◌, not, List, [], ℕ, ◌*◌, ◌-◌, ◌≤◌, ◌<◌, T, ℤ, pos, nat_abs, ◌*ℤ◌, length, get_or, take, ◌≤ℤ◌, Result}
 use Rattle.std.specs.Float.Ieee.{is_nan}
 use Rattle.whole.specs.Rules.{first_broken, unless_refused, ratio_limit}
 use Rattle.whole.specs.Table.{at}
+use Rattle.refusals.specs.declared.Refusal.{Refusal}
+use Rattle.refusals.specs.Refusals.{number_of}
 use Rattle.account.specs.Refusals.{job_spread}
 use Rattle.account.specs.Answers.{job_locals}
 use Rattle.account.specs.Classes.{row_at, class_sums, class_locals_of, class_rules}
 use Rattle.account.specs.declared.ClassRow.{ClassRow}
 use Rattle.account.specs.declared.Sums.{Sums}
 use Rattle.coefficients.specs.Coefficients.{local_figures}
-use Rattle.coefficients.specs.FloatReport.{number_of, sums_in, pair_in, no_pair}
+use Rattle.coefficients.specs.FloatReport.{sums_in, pair_in, pairs_in, no_pair}
 use Rattle.coefficients.specs.FloatReport.{sums_unless, whole_unless, pairs_unless, figures_unless}
 use Rattle.coefficients.specs.declared.Coefficient.{Coefficient}
 use Rattle.coefficients.specs.declared.Coefficient.TheVariants.{Figure, Weightless}
@@ -74,11 +76,11 @@ rest_refusal n values weights classes = first_broken (class_rules n values weigh
 -- what a call whose refusal has this number promises of its answer r, and of the lists that it leaves of those that it was lent: `parts` for
 -- the local figures of the classes, as many as it has places
 pub record Reports (refusal n : ℕ) (values : List ℤ) (weights classes : List ℕ) (rows locals : List ℤ) (figures parts : List ℕ)
-    (r : Report) (rows_left locals_left : List ℤ) (figures_left parts_left : List ℕ) : Type 0 where
-  pub number : number_of r.whole ≡ refusal
-  pub sums : sums_in r.whole ≡ sums_unless refusal n values weights
-  pub whole : pair_in r.whole ≡ whole_unless refusal n values weights
-  pub pairs : r.classes ≡ pairs_unless refusal n values weights classes
+    (r : Result Report Refusal) (rows_left locals_left : List ℤ) (figures_left parts_left : List ℕ) : Type 0 where
+  pub number : number_of r ≡ refusal
+  pub sums : sums_in r ≡ sums_unless refusal n values weights
+  pub whole : pair_in r ≡ whole_unless refusal n values weights
+  pub pairs : pairs_in r ≡ pairs_unless refusal n values weights classes
   pub in_rows : rows_left ≡ unless_refused refusal (class_sums n values weights classes) rows
   pub in_locals : locals_left ≡ unless_refused refusal (job_locals n values weights) locals
   pub in_figures : figures_left ≡ figures_unless refusal n values weights figures

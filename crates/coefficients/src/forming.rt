@@ -8,18 +8,14 @@ ghost use Rattle.coefficients.specs.Steps.{Ratio, Formable, FormableRows, Numera
 
 use crate::{Coefficient, Pair};
 use account::ClassRow;
-use nearest::Answer;
 use std::array;
 
-// The nearest float to p over q. No refusal can come, so its arm gives a float that nobody meets.
+// The nearest float to p over q, which part 2 does not refuse.
 pub(super) fn ratio(p: i64, q: i64) -> f64
     requires { Ratio p q }
     ensures { result ≡ nearest_float p q }
 {
-    match nearest::nearest(p, q) {
-        Answer::Rounded(x) => x,
-        Answer::Refused(_) => 0.0,
-    }
+    nearest::nearest(p, q).unwrap()
 }
 
 // Moran and Geary of the sums of a job or of a class.

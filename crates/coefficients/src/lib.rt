@@ -5,12 +5,14 @@ mod forming;
 mod working;
 
 ghost use Rattle.std.specs.Prelude.{◌≡◌};
-ghost use Rattle.coefficients.specs.FloatReport.{number_of, sums_in, pair_in, report_refusal};
+ghost use Rattle.refusals.specs.Refusals.{number_of};
+ghost use Rattle.coefficients.specs.FloatReport.{sums_in, pair_in, pairs_in, report_refusal};
 ghost use Rattle.coefficients.specs.FloatReport.{report_sums, report_whole, report_classes, report_figures, report_parts};
 ghost use Rattle.coefficients.specs.FloatReport.{plain_refusal, plain_sums, plain_whole, plain_classes};
 ghost use Rattle.coefficients.specs.FloatReport.{plain_rows, plain_locals, plain_figures};
 
 use account::Sums;
+use refusals::Refusal;
 
 // A coefficient: the nearest float to its exact ratio. A class without weight has none, and says so.
 #[derive(Clone, Copy)]
@@ -33,17 +35,10 @@ pub struct Whole {
     pub pair: Pair,
 }
 
-// The number of the refusal, or the whole job's figures.
-#[derive(Clone, Copy)]
-pub enum Answer {
-    Refused(u8),
-    Reported(Whole),
-}
-
-// The answer, and the pairs of the nine classes; where the call is refused, no class has a coefficient.
+// The whole job, and the pairs of the nine classes.
 #[derive(Clone, Copy)]
 pub struct Report {
-    pub whole: Answer,
+    pub whole: Whole,
     pub classes: [Pair; 9],
 }
 
@@ -56,24 +51,21 @@ pub fn float_report(
     classes: &[u8],
     figures: &mut [u64],
     parts: &mut [u64],
-) -> Report
-    ensures number { number_of result.whole ≡ report_refusal n
+) -> Result<Report, Refusal>
+    ensures number { number_of result ≡ report_refusal n
         values.now weights.now classes.now figures.old parts.old }
-    ensures sums { sums_in result.whole ≡ report_sums n
+    ensures sums { sums_in result ≡ report_sums n
         values.now weights.now classes.now figures.old parts.old }
-    ensures whole { pair_in result.whole ≡ report_whole n
+    ensures whole { pair_in result ≡ report_whole n
         values.now weights.now classes.now figures.old parts.old }
-    ensures pairs { result.classes ≡ report_classes n
+    ensures pairs { pairs_in result ≡ report_classes n
         values.now weights.now classes.now figures.old parts.old }
     ensures figures { figures.new ≡ report_figures n
         values.now weights.now classes.now figures.old parts.old }
     ensures parts { parts.new ≡ report_parts n
         values.now weights.now classes.now figures.old parts.old }
 {
-    let lent = working::judge_lent(n, figures.len(), parts.len());
-    if lent != 0 {
-        return working::refused(lent);
-    }
+    working::judge_lent(n, figures.len(), parts.len())?;
     let places = 9 * n;
     let mut rows: [i64; 27] = [0; 27];
     let mut class_locals: [i64; 576] = [0; 576];
@@ -102,14 +94,14 @@ pub fn plain_report(
     rows: &mut [i64],
     locals: &mut [i64],
     figures: &mut [u64],
-) -> Report
-    ensures number { number_of result.whole ≡ plain_refusal n values.now weights.now classes.now
+) -> Result<Report, Refusal>
+    ensures number { number_of result ≡ plain_refusal n values.now weights.now classes.now
         rows.old locals.old figures.old }
-    ensures sums { sums_in result.whole ≡ plain_sums n values.now weights.now classes.now
+    ensures sums { sums_in result ≡ plain_sums n values.now weights.now classes.now
         rows.old locals.old figures.old }
-    ensures whole { pair_in result.whole ≡ plain_whole n values.now weights.now classes.now
+    ensures whole { pair_in result ≡ plain_whole n values.now weights.now classes.now
         rows.old locals.old figures.old }
-    ensures pairs { result.classes ≡ plain_classes n values.now weights.now classes.now
+    ensures pairs { pairs_in result ≡ plain_classes n values.now weights.now classes.now
         rows.old locals.old figures.old }
     ensures rows { rows.new ≡ plain_rows n values.now weights.now classes.now
         rows.old locals.old figures.old }
@@ -118,10 +110,7 @@ pub fn plain_report(
     ensures figures { figures.new ≡ plain_figures n values.now weights.now classes.now
         rows.old locals.old figures.old }
 {
-    let lent = working::judge_plain(n, rows.len(), locals.len(), figures.len());
-    if lent != 0 {
-        return working::refused(lent);
-    }
+    working::judge_plain(n, rows.len(), locals.len(), figures.len())?;
     let places = 9 * n;
     let mut class_locals: [i64; 576] = [0; 576];
     // The local figures of the classes get no place.

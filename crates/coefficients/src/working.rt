@@ -1,69 +1,42 @@
-// The report's own judges, what it answers to a refusal, and its work on a job that was accepted.
+// The report's own judges, and its work on a job that was accepted.
 ghost use Rattle.std.specs.Prelude.{◌≡◌, [], ◌∷◌, ◌*◌, ◌≤◌, length, take};
 ghost use Rattle.whole.specs.Rules.{first_broken, size_rules};
 ghost use Rattle.whole.specs.Table.{table};
+ghost use Rattle.refusals.specs.Refusals.{number_of};
 ghost use Rattle.account.specs.Classes.{row_at};
 ghost use Rattle.coefficients.specs.Coefficients.{pair_of, local_figures};
-ghost use Rattle.coefficients.specs.FloatReport.{no_pair};
 ghost use Rattle.coefficients.specs.Steps.{whole_row, Reportable, Lists, rest_refusal, Reports};
-ghost use Rattle.coefficients.specs.declared.Answer.TheVariants.{Refused, Reported};
 
-use crate::{Answer, Coefficient, Pair, Report, Whole, forming};
+use crate::{Report, Whole, forming};
 use account::{ClassRow, Sums};
+use judges::Places;
+use refusals::Refusal;
 
 // 1 and 2, of n and the two lists of floats.
-pub(super) fn judge_lent(n: usize, figures: usize, parts: usize) -> u8
-    ensures { result ≡ first_broken (size_rules n ((figures, n) ∷ (parts, 9 * n) ∷ [])) }
+pub(super) fn judge_lent(n: usize, figures: usize, parts: usize) -> Result<(), Refusal>
+    ensures { number_of result ≡ first_broken (size_rules n ((figures, n) ∷ (parts, 9 * n) ∷ [])) }
 {
-    if n < 2 {
-        return 1;
-    }
-    if n > 64 {
-        return 1;
-    }
-    if figures != n {
-        return 2;
-    }
-    if parts != 9 * n {
-        return 2;
-    }
-    0
+    judges::judge_lent(n, &[(figures, Places::Zones), (parts, Places::ClassZones)])
 }
 
 // 1 and 2, of n and the lists of the plain report.
-pub(super) fn judge_plain(n: usize, rows: usize, locals: usize, figures: usize) -> u8
-    ensures { result ≡ first_broken (size_rules n ((rows, 27) ∷ (locals, n) ∷ (figures, n) ∷ [])) }
+pub(super) fn judge_plain(
+    n: usize,
+    rows: usize,
+    locals: usize,
+    figures: usize,
+) -> Result<(), Refusal>
+    ensures { number_of result ≡ first_broken
+        (size_rules n ((rows, 27) ∷ (locals, n) ∷ (figures, n) ∷ [])) }
 {
-    if n < 2 {
-        return 1;
-    }
-    if n > 64 {
-        return 1;
-    }
-    if rows != 27 {
-        return 2;
-    }
-    if locals != n {
-        return 2;
-    }
-    if figures != n {
-        return 2;
-    }
-    0
-}
-
-// A refusal: no class has a coefficient.
-pub(super) fn refused(number: u8) -> Report
-    ensures { result ≡ record { whole = Refused number; classes = table (λ k. no_pair) 9 } }
-{
-    let none = Pair {
-        moran: Coefficient::Weightless,
-        geary: Coefficient::Weightless,
-    };
-    Report {
-        whole: Answer::Refused(number),
-        classes: [none; 9],
-    }
+    judges::judge_lent(
+        n,
+        &[
+            (rows, Places::Fixed(27)),
+            (locals, Places::Zones),
+            (figures, Places::Zones),
+        ],
+    )
 }
 
 // The report of an accepted job, from what its class account answered and left. `parts` has places for the figures of the first of the
@@ -80,7 +53,7 @@ pub(super) fn report_job(
     requires figures_len { length figures.old ≡ length locals.now }
     requires parts_in_bounds { length parts.old ≤ length class_locals.now }
     ensures value { result ≡ record {
-      whole = Reported (record { sums = sums; pair = pair_of sums.kept sums.spread (whole_row sums) });
+      whole = record { sums = sums; pair = pair_of sums.kept sums.spread (whole_row sums) };
       classes = table (λ k. pair_of sums.kept sums.spread (row_at rows.now k)) 9;
     } }
     ensures figures_after { figures.new ≡ local_figures sums.spread locals.now }
@@ -99,7 +72,7 @@ pub(super) fn report_job(
     forming::put_figures(spread, &class_locals[..wanted], parts);
     let pair = forming::pair(kept, spread, row);
     Report {
-        whole: Answer::Reported(Whole { sums, pair }),
+        whole: Whole { sums, pair },
         classes: forming::class_pairs(kept, spread, rows),
     }
 }
@@ -116,22 +89,13 @@ pub(super) fn report_sized(
     locals: &mut [i64],
     figures: &mut [u64],
     parts: &mut [u64],
-) -> Report
+) -> Result<Report, Refusal>
     requires { Lists n rows.old class_locals.old locals.old figures.old parts.old }
     ensures { Reports (rest_refusal n values.now weights.now classes.now) n
         values.now weights.now classes.now
         rows.old locals.old figures.old parts.old result
         rows.new locals.new figures.new parts.new }
 {
-    match account::class_account(n, values, weights, classes, rows, class_locals, locals) {
-        account::Answer::Refused(number) => refused(number),
-        account::Answer::Accounted(sums) => report_job(
-            sums,
-            rows,
-            class_locals,
-            locals,
-            figures,
-            parts,
-        ),
-    }
+    let sums = account::class_account(n, values, weights, classes, rows, class_locals, locals)?;
+    Ok(report_job(sums, rows, class_locals, locals, figures, parts))
 }

@@ -1,26 +1,20 @@
 // The judge of a grid.
-ghost use Rattle.std.specs.Prelude.{◌≡◌};
+ghost use Rattle.std.specs.Prelude.{◌≡◌, ◌*◌, IfOk};
+ghost use Rattle.refusals.specs.Refusals.{number_of};
 ghost use Rattle.grid.specs.Grid.{grid_refusal};
 
-// 1 and 2. The product is taken only where it cannot wrap: with more than 64 rows or columns it is 0 or above 64.
-pub(super) fn judge_grid(rows: usize, columns: usize, room: usize) -> u8
-    ensures { result ≡ grid_refusal rows columns room }
+use crate::walking::Shape;
+use judges::Places;
+use refusals::Refusal;
+
+// 1 and 2: too many zones to be counted are too many.
+#[tactic(auto, unfolding(crate::specs::Grid::grid_refusal))]
+pub(super) fn judge_grid(rows: usize, columns: usize, room: usize) -> Result<Shape, Refusal>
+    ensures number { number_of result ≡ grid_refusal rows columns room }
+    ensures shape { IfOk result (λ shape. (shape.rows ≡ rows) × (shape.columns ≡ columns)) }
+    ensures room { IfOk result (λ shape. room ≡ (rows * columns) * (rows * columns)) }
 {
-    if rows > 64 {
-        return 1;
-    }
-    if columns > 64 {
-        return 1;
-    }
-    let n = rows * columns;
-    if n < 2 {
-        return 1;
-    }
-    if n > 64 {
-        return 1;
-    }
-    if room != n * n {
-        return 2;
-    }
-    0
+    let zones = rows.checked_mul(columns).ok_or(Refusal::Zones)?;
+    judges::judge_lent(zones, &[(room, Places::Pairs)])?;
+    Ok(Shape { rows, columns })
 }

@@ -13,6 +13,7 @@ ghost use Rattle.kept.specs.Answers.{reduce_refusal, reduce_left};
 
 // Of values not returned, which no other call here looks at yet: whether one that is returned is beyond the limit, and how many there are.
 use judges::Places;
+use marking::Weights;
 use refusals::Refusal;
 pub use returned::{any_value_beyond, count_missing};
 
@@ -30,7 +31,7 @@ pub fn keep(n: usize, weights: &[u8], zones: &mut [u8]) -> Result<usize, Refusal
             (zones.len(), Places::Fixed(64)),
         ],
     )?;
-    Ok(keeping::put_kept(n, weights, zones))
+    Ok(keeping::put_kept(&Weights { n, rows: weights }, zones))
 }
 
 // Puts a 1 for each zone that is kept and a 0 for each that is left out into `marks`, which has n places. Where n is outside 2 to 64 or a
@@ -43,7 +44,7 @@ pub fn mark(n: usize, weights: &[u8], marks: &mut [u8]) -> Result<(), Refusal>
         n,
         &[(weights.len(), Places::Pairs), (marks.len(), Places::Zones)],
     )?;
-    keeping::put_marks(n, weights, marks);
+    keeping::put_marks(&Weights { n, rows: weights }, marks);
     Ok(())
 }
 
@@ -61,6 +62,6 @@ pub fn reduce(n: usize, values: &[i32], weights: &[u8], counting: &mut [u8]) -> 
             (counting.len(), Places::Pairs),
         ],
     )?;
-    returned::reduce_rows(n, values, weights, counting);
+    returned::reduce_rows(values, &Weights { n, rows: weights }, counting);
     Ok(())
 }

@@ -4,16 +4,44 @@ ghost use Rattle.whole.specs.Table.{table};
 ghost use Rattle.kept.specs.Kept.{keeps};
 ghost use Rattle.kept.specs.Steps.{column_mark};
 
-// The weights in the row of zone i.
-pub(super) fn row_of(n: usize, weights: &[u8], i: usize) -> &[u8]
-    requires n_bound { n ≤ 64 }
-    requires weights_len { length weights.now ≡ n * n }
-    requires i_lt_n { i < n }
-    ensures { result.now ≡ take n (drop (i * n) weights.now) }
-{
-    let first = i * n;
-    let end = first + n;
-    &weights[first..end]
+// The weights between n zones, a row of n for each zone.
+#[derive(Clone, Copy)]
+pub(super) struct Weights<'a> {
+    pub(super) n: usize,
+    pub(super) rows: &'a [u8],
+    ghost few: { n ≤ 64 },
+    ghost square: { length rows.now ≡ n * n },
+}
+
+impl Weights<'_> {
+    // The weights in the row of zone i.
+    pub(super) fn row(&self, i: usize) -> &[u8]
+        requires { i < self.now.n }
+        ensures { result.now ≡ take self.now.n (drop (i * self.now.n) self.now.rows.now) }
+    {
+        let first = i * self.n;
+        let end = first + self.n;
+        &self.rows[first..end]
+    }
+
+    // Marks each zone whose column holds weight.
+    pub(super) fn mark_columns(&self, marks: &mut [u8])
+        requires { marks.old ≡ table (λ j. 0) self.now.n }
+        ensures { marks.new ≡ table (column_mark self.now.n self.now.rows.now self.now.n) self.now.n }
+    {
+        for i in 0..self.n {
+            mark_row(self.row(i), marks);
+        }
+    }
+
+    // Whether zone i is kept: its column is marked, or its row holds weight.
+    pub(super) fn touches(&self, marks: &[u8], i: usize) -> bool
+        requires i_lt_n { i < self.now.n }
+        requires marks_value { marks.now ≡ table (column_mark self.now.n self.now.rows.now self.now.n) self.now.n }
+        ensures { result ≡ keeps self.now.n self.now.rows.now i }
+    {
+        marks[i] > 0 || judges::any_above(0, self.row(i))
+    }
 }
 
 // Marks each zone whose column holds weight in the row, and leaves the other marks. Without a branch on what is stored, so that the
@@ -27,27 +55,4 @@ fn mark_row(row: &[u8], marks: &mut [u8])
     for (j, mark) in marks.iter_mut().enumerate() {
         *mark = if row[j] > 0 { 1 } else { *mark };
     }
-}
-
-// Marks each zone whose column holds weight.
-pub(super) fn mark_columns(n: usize, weights: &[u8], marks: &mut [u8])
-    requires n_bound { n ≤ 64 }
-    requires weights_len { length weights.now ≡ n * n }
-    requires marks_value { marks.old ≡ table (λ j. 0) n }
-    ensures { marks.new ≡ table (column_mark n weights.now n) n }
-{
-    for i in 0..n {
-        mark_row(row_of(n, weights, i), marks);
-    }
-}
-
-// Whether zone i is kept: its column is marked, or its row holds weight.
-pub(super) fn touches(n: usize, weights: &[u8], marks: &[u8], i: usize) -> bool
-    requires n_bound { n ≤ 64 }
-    requires weights_len { length weights.now ≡ n * n }
-    requires i_lt_n { i < n }
-    requires marks_value { marks.now ≡ table (column_mark n weights.now n) n }
-    ensures { result ≡ keeps n weights.now i }
-{
-    marks[i] > 0 || judges::any_above(0, row_of(n, weights, i))
 }

@@ -4,7 +4,7 @@ ghost use Rattle.whole.specs.Integer.{beyond, equal};
 ghost use Rattle.whole.specs.Table.{table};
 ghost use Rattle.kept.specs.Returned.{not_returned, missing, missing_count, reduced, any_value_beyond};
 
-use crate::marking;
+use crate::marking::Weights;
 
 // The value that marks a value not returned.
 const NOT_RETURNED: i32 = -2147483648;
@@ -77,21 +77,14 @@ fn reduce_row(own: i32, values: &[i32], weights: &[u8], row: &mut [u8])
 }
 
 // The weights that count.
-pub(super) fn reduce_rows(n: usize, values: &[i32], weights: &[u8], counting: &mut [u8])
-    requires n_bound { n ≤ 64 }
-    requires values_len { length values.now ≡ n }
-    requires weights_len { length weights.now ≡ n * n }
-    requires counting_len { length counting.old ≡ n * n }
-    ensures { counting.new ≡ reduced n values.now weights.now }
+pub(super) fn reduce_rows(values: &[i32], weights: &Weights, counting: &mut [u8])
+    requires values_len { length values.now ≡ weights.now.n }
+    requires counting_len { length counting.old ≡ weights.now.n * weights.now.n }
+    ensures { counting.new ≡ reduced weights.now.n values.now weights.now.rows.now }
 {
     for (i, own) in values.iter().enumerate() {
-        let first = i * n;
-        let end = first + n;
-        reduce_row(
-            *own,
-            values,
-            marking::row_of(n, weights, i),
-            &mut counting[first..end],
-        );
+        let first = i * weights.n;
+        let end = first + weights.n;
+        reduce_row(*own, values, weights.row(i), &mut counting[first..end]);
     }
 }

@@ -5,14 +5,13 @@
 // of its own.
 #![tactic(auto)]
 
-use nearest::Answer;
 use std::io;
 use std::io::Print;
 
 fn print_answer(rt: &impl Print, p: i64, q: i64) -> io::Result<()> {
     match nearest::nearest(p, q) {
-        Answer::Refused(number) => println!(rt; "refused {number}"),
-        Answer::Rounded(x) => println!(rt; "{:016X}", f64::to_bits(x)),
+        Ok(x) => println!(rt; "{:016X}", x.to_bits()),
+        Err(refusal) => println!(rt; "refused {}", refusals::number_by(refusal)),
     }
 }
 

@@ -42,12 +42,15 @@ use Rattle.image.specs.Image.{
   in_joins,
   at_the_end,
 }
+use Rattle.refusals.specs.declared.Refusal.{Refusal}
+use Rattle.refusals.specs.Refusals.{number_by}
+use Rattle.refusals.proofs.Refusals.{not_refused}
 use Rattle.image.specs.Reader.{counts_in}
 use Rattle.image.proofs.Accepted.{accepted, counted}
 use Rattle.image.proofs.Items.{bytes_front}
 use Rattle.image.proofs.Sections as sections
 use Rattle.image.proofs.Sections.{Sound}
-use Rattle.reader.specs.Steps.{Refuses, Held, Joins, Summable, LaidOut, join_at, job_in, sizes}
+use Rattle.reader.specs.Steps.{Held, Joins, Summable, LaidOut, join_at, job_in, sizes}
 use Rattle.reader.specs.declared.judging.Sections.{Sections}
 use Rattle.reader.specs.declared.sections.Section.{Section}
 use Rattle.reader.proofs.Items.{words_front, signed_words_front}
@@ -62,13 +65,13 @@ module _ (image : List ℕ) where
   module _
       (section : ℕ → List ℕ → List Rule) (m : ℕ) (at : List ℕ) (more : List Rule) (left : Left (section m at ++ more))
       {n : ℕ} {b : List ℕ} (same : n ≡ m) (begins : b ≡ at) where
-    pub stopped : {e : ℕ} → Refuses (section n b) e → Refuses (image_rules image) e
-    stopped {e} f =
-        let g : e ≡ first_broken (section m at) = f.0 ∙ rw (same, begins) refl in
-        (g ∙ sym (first_decides more (section m at) (λ z. f.1 (g ∙ z))) ∙ sym left.same, f.1)
+    pub stopped : (e : Refusal) → number_by e ≡ first_broken (section n b) → number_by e ≡ first_broken (image_rules image)
+    stopped e f =
+        let g : number_by e ≡ first_broken (section m at) = f ∙ rw (same, begins) refl in
+        g ∙ sym (first_decides more (section m at) (λ z. not_refused e (g ∙ z))) ∙ sym left.same
 
-    pub passed : Numbered (section m at) → first_broken (section n b) ≡ 0 → Left more
-    passed numbered e = record { same = left.same ∙ second_decides more (section m at) numbered (rw (sym same, sym begins) e) }
+    pub passed : Numbered (section m at) → 0 ≡ first_broken (section n b) → Left more
+    passed numbered e = record { same = left.same ∙ second_decides more (section m at) numbered (rw (sym same, sym begins) (sym e)) }
 
 -- ---- the items of a section, so many bytes
 module _ {size : ℕ} {b : List ℕ} {s : Section} (h : Held size b s) where
@@ -114,10 +117,10 @@ module _
       held_bytes shuffles (count (from_shuffles image) * count image) (omega arith) in
       rw (v, k, w, p, b, f) refl
 
-  pub laid : first_broken (image_rules image) ≡ 0 → LaidOut image s
+  pub laid : 0 ≡ first_broken (image_rules image) → LaidOut image s
   unfolding image_refusal
   laid z =
-      let a = accepted image z in
+      let a = accepted image (sym z) in
       let few = counted image a in record {
         counts = counts_same;
         job = job_same;
@@ -139,10 +142,10 @@ module _
 
 -- ---- the values and the joins that were taken, and the end
 module _ (image : List ℕ) (v : Section) (joins : List (List ℕ)) (values : Held 4 image v) where
-  module _ (sound : first_broken (in_values image) ≡ 0) where
+  module _ (sound : 0 ≡ first_broken (in_values image)) where
     valued : Sound 4 (outside 2 64 (count image)) (value_rules (values_in image)) image
     unfolding in_values
-    valued = sections.sound 4 _ 0 _ image sound
+    valued = sections.sound 4 _ 0 _ image (sym sound)
 
     pub zones : (2 ≤ v.count) × (v.count ≤ 64)
     zones = let range = in_range 2 64 (count image) valued.counted in (omega (arith, values.counted), omega (arith, values.counted))
@@ -156,14 +159,14 @@ module _ (image : List ℕ) (v : Section) (joins : List (List ℕ)) (values : He
       of_joins = rw (values.counted, joins_listed (from_joins image) joins seen) refl
 
       -- they can be summed
-      pub summable : first_broken (in_joins v.count (from_joins image)) ≡ 0 → Summable v.count v.items.now joins
+      pub summable : 0 ≡ first_broken (in_joins v.count (from_joins image)) → Summable v.count v.items.now joins
       unfolding in_joins
       summable e =
           let listed :
           Sound 3 (ltb 4032 (count (from_joins image)))
           (in_turn (join_rules v.count (join_in (items (from_joins image)))) (count (from_joins image)))
           (from_joins image) =
-          sections.sound 3 _ 14 _ (from_joins image) e in
+          sections.sound 3 _ 14 _ (from_joins image) (sym e) in
           record {
             two = zones.0;
             near = ap (any_beyond 100000) of_values ∙ (holds (any_beyond 100000 (values_in image)) 2 0 valued.listed).0;
@@ -175,10 +178,10 @@ module _ (image : List ℕ) (v : Section) (joins : List (List ℕ)) (values : He
           }
 
       module _ (left : Left image (at_the_end image)) (more : List ℕ) (begins : more ≡ rest image) where
-        pub trailing : 0 < length more → Refuses (image_rules image) 17
+        pub trailing : 0 < length more → 17 ≡ first_broken (image_rules image)
         trailing h =
             let long : ltb 0 (length (rest image)) ≡ true = lt-ltb 0 (length (rest image)) (omega (arith, ap length begins)) in
-            (sym (left.same ∙ rw long refl), λ z. omega arith)
+            sym (left.same ∙ rw long refl)
 
         -- the sums decide
         pub by_sums :

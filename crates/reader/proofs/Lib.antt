@@ -1,5 +1,4 @@
 -- The theorems of the reader, and the laws that they and the functions rest on.
-pub mod Answered
 pub mod Chain
 pub mod Fronts
 pub mod Items

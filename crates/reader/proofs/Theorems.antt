@@ -7,10 +7,12 @@ use native.Mathlib.Omega.{arith}
 use lib.ListN.{length}
 use Rattle.whole.proofs.Rules.{worked_when_taken}
 use Rattle.image.specs.Reader.{Buffers, counts_in, read_refusal, read_counts}
-use Rattle.reader.specs.Answers.{six, number_of, counts_of}
+use Rattle.std.proofs.Common.{Result, Ok, Err}
+use Rattle.refusals.specs.declared.Refusal.{Refusal}
+use Rattle.refusals.specs.Refusals.{number_of}
+use Rattle.refusals.proofs.Refusals.{cause_unique}
+use Rattle.reader.specs.Answers.{six, counts_of}
 use Rattle.reader.specs.declared.Counts.{Counts}
-use Rattle.reader.specs.declared.Answer.{Answer}
-use Rattle.reader.specs.declared.Answer.TheVariants.{Refused, Read}
 
 -- ---- an answer is known by its number and its counts, so that the contract leaves no second answer open
 made : (v c j p b s : ℕ) → Counts
@@ -21,24 +23,24 @@ same :
     made v c j p b s ≡ made v' c' j' p' b' s'
 same e1 e2 e3 e4 e5 e6 = cc
 
-pub answer_unique : (a b : Answer) → number_of a ≡ number_of b → counts_of a ≡ counts_of b → a ≡ b
-unfolding number_of counts_of made
-answer_unique (Refused k) (Refused l) e f = ap Refused e
-answer_unique (Refused k) (Read t) e f = let z : ◌≡◌ {A = ℕ} 0 6 = ap length f in absurd (omega arith)
-answer_unique (Read s) (Refused l) e f = let z : ◌≡◌ {A = ℕ} 6 0 = ap length f in absurd (omega arith)
-answer_unique (Read s) (Read t) e f = ap Read (same (cc) (cc) (cc) (cc) (cc) (cc))
+pub answer_unique : (a b : Result Counts Refusal) → number_of a ≡ number_of b → counts_of a ≡ counts_of b → a ≡ b
+unfolding counts_of made
+answer_unique (Err k) (Err l) e f = ap Err (cause_unique k l e)
+answer_unique (Err k) (Ok t) e f = let z : ◌≡◌ {A = ℕ} 0 6 = ap length f in absurd (omega arith)
+answer_unique (Ok s) (Err l) e f = let z : ◌≡◌ {A = ℕ} 6 0 = ap length f in absurd (omega arith)
+answer_unique (Ok s) (Ok t) e f = ap Ok (same (cc) (cc) (cc) (cc) (cc) (cc))
 
 -- ---- where nothing is refused, the answer is the counts of the image
-module _ (image : List ℕ) (lent : Buffers) (taken : read_refusal image lent ≡ 0) (r : Answer)
+module _ (image : List ℕ) (lent : Buffers) (taken : read_refusal image lent ≡ 0) (r : Result Counts Refusal)
     (told : counts_of r ≡ read_counts image lent) where
   answered : counts_of r ≡ counts_in image
   unfolding read_counts
   answered = told ∙ worked_when_taken _ _ _ taken
 
-  pub read_answers : (counts : Counts) → r ≡ Read counts → six counts ≡ counts_in image
+  pub read_answers : (counts : Counts) → r ≡ Ok counts → six counts ≡ counts_in image
   unfolding counts_of
   read_answers counts g = sym (ap counts_of g) ∙ answered
 
-  pub never_refused : (k : ℕ) → r ≡ Refused k → ⊥
+  pub never_refused : (k : Refusal) → r ≡ Err k → ⊥
   unfolding counts_of counts_in
   never_refused k g = let z : ◌≡◌ {A = ℕ} 0 6 = ap length (sym (ap counts_of g) ∙ answered) in omega arith

@@ -1,5 +1,5 @@
 -- What the private functions of the reader promise each other. Assumes nothing.
-use Rattle.std.specs.Prelude.{◌≡◌, false, not, ◌&&◌, List, [], ◌∷◌, ℕ, ◌+◌, ◌*◌, ◌≤◌, ◌<◌, eqb, ltb, length, take, get_or, Result, MatchResult}
+use Rattle.std.specs.Prelude.{◌≡◌, false, not, ◌&&◌, List, [], ◌∷◌, ℕ, ◌+◌, ◌*◌, ◌≤◌, ◌<◌, eqb, ltb, length, take, get_or}
 use Rattle.whole.specs.Rules.{Rule, first_broken, in_turn, outside}
 use Rattle.whole.specs.Search.{any_beyond}
 use Rattle.whole.specs.Table.{table}
@@ -8,14 +8,6 @@ use Rattle.image.specs.Image.{Job, count, items, signed_words, words, join_in, j
 use Rattle.image.specs.Reader.{counts_in}
 use Rattle.reader.specs.declared.sections.Section.{Section}
 use Rattle.reader.specs.declared.judging.Sections.{Sections}
-
--- a refusal: it is the number of the first broken rule
-abbrev pub Refuses : List Rule → ℕ → Type 0
-Refuses rules e = (e ≡ first_broken rules) × (e ≡ 0 → ⊥)
-
--- a judge's answer: the refusal, or that no rule is broken
-abbrev pub Decides : {A : Type 0} → Result A ℕ → List Rule → Type 0
-Decides result rules = MatchResult result (λ _. first_broken rules ≡ 0) (Refuses rules)
 
 -- ---- joins
 

@@ -3,32 +3,35 @@ ghost use Rattle.std.specs.Prelude.{◌≡◌, ◌*◌, ◌≤◌, ◌<◌, leng
 ghost use Rattle.whole.specs.Rules.{first_broken, in_turn};
 ghost use Rattle.whole.specs.Table.{table};
 ghost use Rattle.image.specs.Joins.{weights_of, join_rules};
-ghost use Rattle.reader.specs.Steps.{Decides, Joinable, join_at, rules_by_place};
+ghost use Rattle.refusals.specs.Refusals.{number_of};
+ghost use Rattle.reader.specs.Steps.{Joinable, join_at, rules_by_place};
+
+use refusals::Refusal;
 
 // 16, 5, 16 and 4 of one join; `next` is the first place after those of the joins before it.
-fn judge_join(n: usize, next: usize, from: usize, to: usize, weight: u8) -> Result<(), u8>
+fn judge_join(n: usize, next: usize, from: usize, to: usize, weight: u8) -> Result<(), Refusal>
     requires { n ≤ 64 }
-    ensures { Decides result (rules_by_place n next from to weight) }
+    ensures { number_of result ≡ first_broken (rules_by_place n next from to weight) }
 {
     if from >= n || to >= n {
-        return Err(16);
+        return Err(Refusal::Joins);
     }
     if from == to {
-        return Err(5);
+        return Err(Refusal::Diagonal);
     }
     if from * n + to < next {
-        return Err(16);
+        return Err(Refusal::Joins);
     }
     if weight < 1 || weight > 9 {
-        return Err(4);
+        return Err(Refusal::Weight);
     }
     Ok(())
 }
 
 // 16, 5, 16 and 4 of each join in turn.
-pub(super) fn judge_joins(n: usize, joins: &[[u8; 3]]) -> Result<(), u8>
+pub(super) fn judge_joins(n: usize, joins: &[[u8; 3]]) -> Result<(), Refusal>
     requires { n ≤ 64 }
-    ensures { Decides result (in_turn (join_rules n (join_at joins.now)) (length joins.now)) }
+    ensures { number_of result ≡ first_broken (in_turn (join_rules n (join_at joins.now)) (length joins.now)) }
 {
     let mut next = 0;
     for &[from, to, weight] in joins {

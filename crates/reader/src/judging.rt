@@ -1,17 +1,20 @@
 // The judge of an image: section after section, then 17, 6 and 7. It stores nothing.
 ghost use Rattle.std.specs.Prelude.{◌≡◌, IfOk, length};
+ghost use Rattle.whole.specs.Rules.{first_broken};
 ghost use Rattle.whole.specs.Table.{table};
 ghost use Rattle.account.specs.Refusals.{sum_rules};
 ghost use Rattle.image.specs.Joins.{weights_of};
 ghost use Rattle.image.specs.Image.{signed_words, image_rules};
 ghost use Rattle.image.specs.Reader.{counts_in};
 ghost use Rattle.reader.specs.Answers.{six};
-ghost use Rattle.reader.specs.Steps.{Decides, Summable, LaidOut, join_at, sizes};
+ghost use Rattle.refusals.specs.Refusals.{number_of};
+ghost use Rattle.reader.specs.Steps.{Summable, LaidOut, join_at, sizes};
 
 use crate::sections::{
-    Section, in_bands, in_categories, in_joins, in_places, in_shuffles, in_values, passed,
+    Section, in_bands, in_categories, in_joins, in_places, in_shuffles, in_values,
 };
 use crate::{Counts, joining};
+use refusals::Refusal;
 
 // The six sections of an image that is not refused.
 #[derive(Clone, Copy)]
@@ -41,22 +44,23 @@ impl Sections<'_> {
 }
 
 // 6 and 7 of n values and the joins, from copies of their own.
-fn judge_sums(n: usize, items: &[u8], joins: &[[u8; 3]]) -> Result<(), u8>
+fn judge_sums(n: usize, items: &[u8], joins: &[[u8; 3]]) -> Result<(), Refusal>
     requires { Summable n items.now joins.now }
-    ensures { Decides result (sum_rules n (signed_words n items.now) (weights_of n (table (join_at joins.now) (length joins.now)))) }
+    ensures { number_of result ≡ first_broken (sum_rules n (signed_words n items.now)
+        (weights_of n (table (join_at joins.now) (length joins.now)))) }
 {
     let mut space = [0; 64];
     let values = &mut space[..n];
-    words::signed_words_in(items, values);
+    words::entries_in(items, values);
     let mut table = [0; 4096];
     let weights = &mut table[..n * n];
     joining::put_joins(n, joins, weights);
-    passed(account::judge(n, values, weights))
+    account::judge(n, values, weights)
 }
 
 // Judges an image from its first byte to its last.
-pub(super) fn judge(image: &[u8]) -> Result<Sections<'_>, u8>
-    ensures decides { Decides result (image_rules image.now) }
+pub(super) fn judge(image: &[u8]) -> Result<Sections<'_>, Refusal>
+    ensures number { number_of result ≡ first_broken (image_rules image.now) }
     ensures laid { IfOk result (LaidOut image.now) }
 {
     let (values, rest) = in_values(image)?;
@@ -67,7 +71,7 @@ pub(super) fn judge(image: &[u8]) -> Result<Sections<'_>, u8>
     let (bands, rest) = in_bands(places.count, rest)?;
     let (shuffles, rest) = in_shuffles(n, rest)?;
     if !rest.is_empty() {
-        return Err(17);
+        return Err(Refusal::Trailing);
     }
     judge_sums(n, values.items, joins)?;
     Ok(Sections {

@@ -9,7 +9,10 @@ mod storing;
 
 ghost use Rattle.std.specs.Prelude.{◌≡◌};
 ghost use Rattle.image.specs.Reader.{buffers, read_refusal, read_counts, read_left};
-ghost use Rattle.reader.specs.Answers.{number_of, counts_of};
+ghost use Rattle.refusals.specs.Refusals.{number_of};
+ghost use Rattle.reader.specs.Answers.{counts_of};
+
+use refusals::Refusal;
 
 // How many there are of each in an image.
 #[derive(Clone, Copy)]
@@ -22,15 +25,9 @@ pub struct Counts {
     pub shuffles: usize,
 }
 
-// The number of the refusal, or the six counts.
-#[derive(Clone, Copy)]
-pub enum Answer {
-    Refused(u8),
-    Read(Counts),
-}
-
 // Reads an image into the buffers, which have 64, 64, 4,096, 128, 8 and 31,936 entries: the first of each are the job's, a weight with no
 // join among them 0, and the others keep what they held. Where it is refused all are left as they were.
+#[tactic(auto, unfolding(image::specs::Reader::read_refusal, image::specs::Reader::read_rules, image::specs::Reader::read_counts, image::specs::Reader::read_left, crate::specs::Answers::counts_of))]
 pub fn read(
     image: &[u8],
     values: &mut [i32],
@@ -39,7 +36,7 @@ pub fn read(
     places: &mut [i32],
     bands: &mut [u32],
     shuffles: &mut [u8],
-) -> Answer
+) -> Result<Counts, Refusal>
     ensures number { number_of result ≡ read_refusal image.now
         (buffers values.old categories.old weights.old
         places.old bands.old shuffles.old) }
@@ -52,22 +49,15 @@ pub fn read(
         (buffers values.old categories.old weights.old
         places.old bands.old shuffles.old) }
 {
-    let lengths = image::judge_lengths(
+    image::judge_lengths(
         values.len(),
         categories.len(),
         weights.len(),
         places.len(),
         bands.len(),
         shuffles.len(),
-    );
-    if lengths != 0 {
-        return Answer::Refused(lengths);
-    }
-    match judging::judge(image) {
-        Err(number) => Answer::Refused(number),
-        Ok(job) => {
-            storing::store(&job, values, categories, weights, places, bands, shuffles);
-            Answer::Read(job.counts())
-        }
-    }
+    )?;
+    let job = judging::judge(image)?;
+    storing::store(&job, values, categories, weights, places, bands, shuffles);
+    Ok(job.counts())
 }

@@ -4,9 +4,11 @@ ghost use Rattle.whole.specs.Rules.{first_broken};
 ghost use Rattle.places.specs.Places.{places_in_turn};
 ghost use Rattle.image.specs.Image.{count, items, after, signed_words, words, value_rules, category_rules, band_rules, shuffle_rules};
 ghost use Rattle.image.specs.Image.{in_values, in_categories, in_joins, in_places, in_bands, in_shuffles};
-ghost use Rattle.reader.specs.Steps.{Decides, Held, Joins};
+ghost use Rattle.refusals.specs.Refusals.{number_by, number_of};
+ghost use Rattle.reader.specs.Steps.{Held, Joins};
 
 use crate::joining;
+use refusals::Refusal;
 
 // A section: the count of its items, and their bytes.
 #[derive(Clone, Copy)]
@@ -15,84 +17,77 @@ pub(super) struct Section<'a> {
     pub(super) items: &'a [u8],
 }
 
-// The refusal of a number, where it is one.
-pub(super) fn passed(number: u8) -> Result<(), u8>
-    ensures { MatchResult result (λ _. number ≡ 0) (λ e. (e ≡ number) × (e ≡ 0 → ⊥)) }
-{
-    if number == 0 { Ok(()) } else { Err(number) }
-}
-
 // The count at the front of some bytes, and what follows it: 14 if it is cut.
 #[tactic(auto, unfolding(words::specs::Words::two_at))]
-fn count_of(bytes: &[u8]) -> Result<(usize, &[u8]), u8>
+fn count_of(bytes: &[u8]) -> Result<(usize, &[u8]), Refusal>
     ensures { MatchResult result
         (λ p. (ltb (length bytes.now) 2 ≡ false) × (p.0 ≡ count bytes.now) × (p.0 < 65536) × (p.1.now ≡ items bytes.now))
-        (λ e. (ltb (length bytes.now) 2 ≡ true) × (e ≡ 14)) }
+        (λ e. (ltb (length bytes.now) 2 ≡ true) × (number_by e ≡ 14)) }
 {
-    let (count, rest) = bytes.split_first_chunk::<2>().ok_or(14)?;
+    let (count, rest) = bytes.split_first_chunk::<2>().ok_or(Refusal::Cut)?;
     Ok((usize::from(u16::from_le_bytes(*count)), rest))
 }
 
 // So many items of a size, and what follows them: 14 if they are cut.
-fn cut_off(count: usize, size: usize, bytes: &[u8]) -> Result<(Section<'_>, &[u8]), u8>
+fn cut_off(count: usize, size: usize, bytes: &[u8]) -> Result<(Section<'_>, &[u8]), Refusal>
     requires count_bound { count < 65536 }
     requires size_bound { size ≤ 64 }
     ensures { MatchResult result
         (λ p. (size * count ≤ length bytes.now) × (p.0.count ≡ count) × (p.0.items.now ≡ take (size * count) bytes.now)
         × (p.1.now ≡ drop (size * count) bytes.now))
-        (λ e. (length bytes.now < size * count) × (e ≡ 14)) }
+        (λ e. (length bytes.now < size * count) × (number_by e ≡ 14)) }
 {
-    let (items, rest) = bytes.split_at_checked(size * count).ok_or(14)?;
+    let (items, rest) = bytes.split_at_checked(size * count).ok_or(Refusal::Cut)?;
     Ok((Section { count, items }, rest))
 }
 
 // 3: a value too far from 0.
-fn judge_values(count: usize, items: &[u8]) -> Result<(), u8>
+fn judge_values(count: usize, items: &[u8]) -> Result<(), Refusal>
     requires { count ≤ 64 }
-    ensures { Decides result (value_rules (signed_words count items.now)) }
+    ensures { number_of result ≡ first_broken (value_rules (signed_words count items.now)) }
 {
     let mut space = [0; 64];
     let values = &mut space[..count];
-    words::signed_words_in(items, values);
+    words::entries_in(items, values);
     if judges::any_beyond(100000, values) {
-        Err(3)
+        Err(Refusal::Value)
     } else {
         Ok(())
     }
 }
 
 // 8: a category above 7.
-fn judge_categories(categories: &[u8]) -> Result<(), u8>
-    ensures { Decides result (category_rules categories.now) }
+fn judge_categories(categories: &[u8]) -> Result<(), Refusal>
+    ensures { number_of result ≡ first_broken (category_rules categories.now) }
 {
     if judges::any_above(7, categories) {
-        Err(8)
+        Err(Refusal::Category)
     } else {
         Ok(())
     }
 }
 
 // 10 and 11: a place too far off, or that of an earlier zone.
-fn judge_places(count: usize, items: &[u8]) -> Result<(), u8>
+fn judge_places(count: usize, items: &[u8]) -> Result<(), Refusal>
     requires { count ≤ 64 }
-    ensures { Decides result (places_in_turn (signed_words (2 * count) items.now)) }
+    ensures { number_of result ≡ first_broken (places_in_turn (signed_words (2 * count) items.now)) }
 {
     let mut space = [0; 128];
     let places = &mut space[..2 * count];
-    words::signed_words_in(items, places);
-    passed(places::judge_in_turn(places))
+    words::entries_in(items, places);
+    places::judge_in_turn(places)
 }
 
 // 12: a band that is 0, or not above the one before it.
-fn judge_bands(count: usize, items: &[u8]) -> Result<(), u8>
+fn judge_bands(count: usize, items: &[u8]) -> Result<(), Refusal>
     requires { count ≤ 8 }
-    ensures { Decides result (band_rules (words count items.now)) }
+    ensures { number_of result ≡ first_broken (band_rules (words count items.now)) }
 {
     let mut space = [0; 8];
     let bands = &mut space[..count];
-    words::words_in(items, bands);
+    words::entries_in(items, bands);
     if places::any_misplaced(bands) {
-        Err(12)
+        Err(Refusal::Bands)
     } else {
         Ok(())
     }
@@ -100,12 +95,12 @@ fn judge_bands(count: usize, items: &[u8]) -> Result<(), u8>
 
 // The values, whose section is the first.
 #[tactic(auto, using(std::proofs::lemmas::Grind::common_steps, crate::proofs::Items::values_held), unfolding(image::specs::Image::in_values))]
-pub(super) fn in_values(image: &[u8]) -> Result<(Section<'_>, &[u8]), u8>
-    ensures decides { Decides result (in_values image.now) }
+pub(super) fn in_values(image: &[u8]) -> Result<(Section<'_>, &[u8]), Refusal>
+    ensures number { number_of result ≡ first_broken (in_values image.now) }
     ensures taken { IfOk result (λ p. Held 4 image.now p.0 × (p.1.now ≡ after 4 image.now)) }
 {
     let (count, items) = count_of(image)?;
-    passed(image::judge_zone_count(count))?;
+    image::judge_zone_count(count)?;
     let (values, rest) = cut_off(count, 4, items)?;
     judge_values(count, values.items)?;
     Ok((values, rest))
@@ -113,12 +108,12 @@ pub(super) fn in_values(image: &[u8]) -> Result<(Section<'_>, &[u8]), u8>
 
 // The categories of n zones.
 #[tactic(auto, using(std::proofs::lemmas::Grind::common_steps, crate::proofs::Items::categories_held), unfolding(image::specs::Image::in_categories))]
-pub(super) fn in_categories(n: usize, left: &[u8]) -> Result<(Section<'_>, &[u8]), u8>
-    ensures decides { Decides result (in_categories n left.now) }
+pub(super) fn in_categories(n: usize, left: &[u8]) -> Result<(Section<'_>, &[u8]), Refusal>
+    ensures number { number_of result ≡ first_broken (in_categories n left.now) }
     ensures taken { IfOk result (λ p. Held 1 left.now p.0 × (p.1.now ≡ after 1 left.now)) }
 {
     let (count, items) = count_of(left)?;
-    passed(image::judge_none_or_all(n, count))?;
+    image::judge_none_or_all(n, count)?;
     let (categories, rest) = cut_off(count, 1, items)?;
     judge_categories(categories.items)?;
     Ok((categories, rest))
@@ -126,13 +121,13 @@ pub(super) fn in_categories(n: usize, left: &[u8]) -> Result<(Section<'_>, &[u8]
 
 // The joins of n zones, three bytes each.
 #[tactic(auto, unfolding(image::specs::Image::in_joins))]
-pub(super) fn in_joins(n: usize, left: &[u8]) -> Result<(&[[u8; 3]], &[u8]), u8>
+pub(super) fn in_joins(n: usize, left: &[u8]) -> Result<(&[[u8; 3]], &[u8]), Refusal>
     requires { n ≤ 64 }
-    ensures decides { Decides result (in_joins n left.now) }
+    ensures number { number_of result ≡ first_broken (in_joins n left.now) }
     ensures taken { IfOk result (λ p. Joins left.now p.0.now × (p.1.now ≡ after 3 left.now)) }
 {
     let (count, items) = count_of(left)?;
-    passed(image::judge_join_count(count))?;
+    image::judge_join_count(count)?;
     let (joins, rest) = cut_off(count, 3, items)?;
     let (joins, _) = joins.items.as_chunks::<3>();
     joining::judge_joins(n, joins)?;
@@ -141,13 +136,13 @@ pub(super) fn in_joins(n: usize, left: &[u8]) -> Result<(&[[u8; 3]], &[u8]), u8>
 
 // The places of n zones.
 #[tactic(auto, using(std::proofs::lemmas::Grind::common_steps, crate::proofs::Items::places_held), unfolding(image::specs::Image::in_places))]
-pub(super) fn in_places(n: usize, left: &[u8]) -> Result<(Section<'_>, &[u8]), u8>
+pub(super) fn in_places(n: usize, left: &[u8]) -> Result<(Section<'_>, &[u8]), Refusal>
     requires { n ≤ 64 }
-    ensures decides { Decides result (in_places n left.now) }
+    ensures number { number_of result ≡ first_broken (in_places n left.now) }
     ensures taken { IfOk result (λ p. Held 8 left.now p.0 × (p.1.now ≡ after 8 left.now)) }
 {
     let (count, items) = count_of(left)?;
-    passed(image::judge_none_or_all(n, count))?;
+    image::judge_none_or_all(n, count)?;
     let (places, rest) = cut_off(count, 8, items)?;
     judge_places(count, places.items)?;
     Ok((places, rest))
@@ -155,12 +150,12 @@ pub(super) fn in_places(n: usize, left: &[u8]) -> Result<(Section<'_>, &[u8]), u
 
 // The bands of a job with so many places.
 #[tactic(auto, using(std::proofs::lemmas::Grind::common_steps, crate::proofs::Items::bands_held), unfolding(image::specs::Image::in_bands))]
-pub(super) fn in_bands(places: usize, left: &[u8]) -> Result<(Section<'_>, &[u8]), u8>
-    ensures decides { Decides result (in_bands places left.now) }
+pub(super) fn in_bands(places: usize, left: &[u8]) -> Result<(Section<'_>, &[u8]), Refusal>
+    ensures number { number_of result ≡ first_broken (in_bands places left.now) }
     ensures taken { IfOk result (λ p. Held 4 left.now p.0 × (p.1.now ≡ after 4 left.now)) }
 {
     let (count, items) = count_of(left)?;
-    passed(image::judge_band_count(places, count))?;
+    image::judge_band_count(places, count)?;
     let (bands, rest) = cut_off(count, 4, items)?;
     judge_bands(count, bands.items)?;
     Ok((bands, rest))
@@ -168,15 +163,15 @@ pub(super) fn in_bands(places: usize, left: &[u8]) -> Result<(Section<'_>, &[u8]
 
 // The shuffles of n zones.
 #[tactic(auto, using(std::proofs::lemmas::Grind::common_steps, crate::proofs::Items::shuffles_held), unfolding(image::specs::Image::in_shuffles))]
-pub(super) fn in_shuffles(n: usize, left: &[u8]) -> Result<(Section<'_>, &[u8]), u8>
+pub(super) fn in_shuffles(n: usize, left: &[u8]) -> Result<(Section<'_>, &[u8]), Refusal>
     requires le_n { 2 ≤ n }
     requires n_bound { n ≤ 64 }
-    ensures decides { Decides result (in_shuffles n left.now) }
+    ensures number { number_of result ≡ first_broken (in_shuffles n left.now) }
     ensures taken { IfOk result (λ p. Held n left.now p.0 × (p.1.now ≡ after n left.now)) }
 {
     let (count, items) = count_of(left)?;
-    passed(image::judge_shuffle_count(count))?;
+    image::judge_shuffle_count(count)?;
     let (shuffles, rest) = cut_off(count, n, items)?;
-    passed(shuffles::judge_shuffles(n, shuffles.items))?;
+    shuffles::judge_shuffles(n, shuffles.items)?;
     Ok((shuffles, rest))
 }

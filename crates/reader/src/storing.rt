@@ -23,10 +23,10 @@ pub(super) fn store(
         ≡ filled (job_in job.now) (buffers values.old categories.old weights.old places.old bands.old shuffles.old) }
 {
     let n = job.values.count;
-    words::signed_words_in(job.values.items, &mut values[..n]);
+    words::entries_in(job.values.items, &mut values[..n]);
     categories[..job.categories.count].copy_from_slice(job.categories.items);
     joining::put_joins(n, job.joins, &mut weights[..n * n]);
-    words::signed_words_in(job.places.items, &mut places[..2 * job.places.count]);
-    words::words_in(job.bands.items, &mut bands[..job.bands.count]);
+    words::entries_in(job.places.items, &mut places[..2 * job.places.count]);
+    words::entries_in(job.bands.items, &mut bands[..job.bands.count]);
     shuffles[..n * job.shuffles.count].copy_from_slice(job.shuffles.items);
 }

@@ -1,128 +1,66 @@
 -- `plain_report` meets its contract: its own lists are judged, then the rest is judged and worked. Assumes nothing.
-use mathlib.Core.Path.{◌≡◌, refl, sym, ◌∙◌}
+use mathlib.Core.Path.{◌≡◌, refl, sym}
 use mathlib.Core.List.{List, [], ◌∷◌}
-use Prim.Native.Nat.{ℕ, ◌*◌, ◌≤◌}
-use native.Mathlib.Omega.{arith}
-use lib.IntN.{ℤ}
+use Prim.Native.Nat.{ℕ}
 use lib.ListN.{length}
-use lib.Seq.{length-take-le}
-use Rattle.whole.proofs.Rules.{Sizes, sizes_hold, fits}
+use Rattle.std.proofs.lemmas.Result.{err_from_is_err_and}
+use Rattle.whole.proofs.Rules.{sizes_hold}
+use Rattle.refusals.proofs.Refusals.{not_refused}
 use Rattle.coefficients.specs.FloatReport.{plain_refusal, plain_sums, plain_whole, plain_classes}
 use Rattle.coefficients.specs.FloatReport.{plain_rows, plain_locals, plain_figures}
 use Rattle.coefficients.specs.Steps.{rest_refusal}
 use Rattle.coefficients.proofs.Answered.{refused, reports_same, lent_misfits, sizes_number, rest_number}
 use Rattle.coefficients.proofs.plain_report.Goals as goal
-use Rattle.coefficients.proofs.plain_report.Goals.{After-judge_plain-lent, Else-lent-ne0, Start}
+use Rattle.coefficients.proofs.plain_report.Goals.{In_ok-judge_plain, Start}
 
--- what was judged first
-module _ (c : After-judge_plain-lent) where
-  abbrev s : Start
-  s = ((goal.at.After-judge_plain-lent c).Start)
+-- the three lists
+abbrev lent : Start → List (ℕ × ℕ)
+lent s =
+    let a = s.args in
+    (length a.rows.now, 27) ∷ (length a.locals.now, a.n) ∷ (length a.figures.now, a.n) ∷ []
 
-  abbrev n : ℕ
-  n = s.args.n
+pub returns-in_err-judge_plain : goal.returns-in_err-judge_plain
+unfolding plain_refusal plain_sums plain_whole plain_classes plain_rows plain_locals plain_figures
+returns-in_err-judge_plain c =
+    let p = err_from_is_err_and c.from_residual.result c.from_residual.ensures.1 in
+    let a = c.args in
+    let l = lent ((goal.at.returns-in_err-judge_plain c).Start) in
+    let few = lent_misfits a.n a.values.now a.weights.now a.classes.now l in
+    let number = sizes_number a.n a.values.now a.weights.now a.classes.now l l _ few c.in_err-judge_plain.ensures (not_refused _) in
+    let r = refused _ a.n a.values.now a.weights.now a.classes.now a.rows.now a.locals.now a.figures.now [] _ _ _ number refl refl in
+    rw (p.1, p.2)
+    (record {
+      number = r.number;
+      sums = r.sums;
+      whole = r.whole;
+      pairs = r.pairs;
+      rows = r.in_rows;
+      locals = r.in_locals;
+      figures = r.in_figures;
+    })
 
-  abbrev values : List ℤ
-  values = s.args.values.now
-
-  abbrev weights : List ℕ
-  weights = s.args.weights.now
-
-  abbrev classes : List ℕ
-  classes = s.args.classes.now
-
-  abbrev rows : List ℤ
-  rows = s.args.rows.now
-
-  abbrev locals : List ℤ
-  locals = s.args.locals.now
-
-  abbrev figures : List ℕ
-  figures = s.args.figures.now
-
-  abbrev lent : List (ℕ × ℕ)
-  lent = (length rows, 27) ∷ (length locals, n) ∷ (length figures, n) ∷ []
-
-  abbrev refusal : ℕ
-  refusal = plain_refusal n values weights classes rows locals figures
-
-  -- its number is the call's
-  number_is : (c.judge_plain-lent.result ≡ 0 → ⊥) → c.judge_plain-lent.result ≡ refusal
-  unfolding plain_refusal
-  number_is f = sizes_number n values weights classes lent lent _ (lent_misfits n values weights classes lent) c.judge_plain-lent.ensures f
-
-  -- where there is none, the lists fit, and the number is that of the rest
-  module _ (z : c.judge_plain-lent.result ≡ 0) where
-    sized : Sizes n lent
-    sized = sizes_hold n lent (sym c.judge_plain-lent.ensures ∙ z)
-
-    lists_fit : (length rows ≡ 27) × ((length locals ≡ n) × (length figures ≡ n))
-    lists_fit =
-        let first = fits (length rows) 27 ((length locals, n) ∷ (length figures, n) ∷ []) sized.fitting in
-        let second = fits (length locals) n ((length figures, n) ∷ []) first.1 in
-        (first.0, (second.0, (fits (length figures) n [] second.1).0))
-
-    rest_is : rest_refusal n values weights classes ≡ refusal
-    unfolding plain_refusal
-    rest_is = rest_number n values weights classes lent sized.fitting
-
-pub judge_plain-lent-requires : goal.judge_plain-lent-requires
-judge_plain-lent-requires c = tt
-
-pub refused-requires : goal.refused-requires
-refused-requires c = tt
-
-pub returns-then-lent-ne0 : goal.returns-then-lent-ne0
-unfolding plain_sums plain_whole plain_classes plain_rows plain_locals plain_figures
-returns-then-lent-ne0 c =
-    let b = (goal.at.returns-then-lent-ne0 c).After-judge_plain-lent in
-    let some = c.if-lent-ne0.true in
-    let p =
-    refused (refusal b) (n b) (values b) (weights b) (classes b) (rows b) (locals b) (figures b) [] _ _ _ _ c.refused.ensures
-    (number_is b some) some refl refl in record {
-      number = p.number;
-      sums = p.sums;
-      whole = p.whole;
-      pairs = p.pairs;
-      rows = p.in_rows;
-      locals = p.in_locals;
-      figures = p.in_figures;
-    }
-
--- the local array has room for the local numerators of nine classes
-room : (c : Else-lent-ne0) → 9 * n ((goal.at.Else-lent-ne0 c).After-judge_plain-lent) ≤ 576
-room c = omega (arith, (sized ((goal.at.Else-lent-ne0 c).After-judge_plain-lent) c.if-lent-ne0.false).zones)
-
-pub overflow_mul-places : goal.overflow_mul-places
-overflow_mul-places c = omega (arith, room c)
-
-pub slice_bounds-class_locals-end : goal.slice_bounds-class_locals-end
-slice_bounds-class_locals-end c = room ((goal.at.slice_bounds-class_locals-end c).Else-lent-ne0)
-
-pub slice_bounds-report_sized-end : goal.slice_bounds-report_sized-end
-slice_bounds-report_sized-end c = sym (length-take-le _ _ (room ((goal.at.slice_bounds-report_sized-end c).Else-lent-ne0)))
-
-pub report_sized-requires : goal.report_sized-requires
-report_sized-requires c =
-    let b = (goal.at.report_sized-requires c).After-judge_plain-lent in
-    let fit = lists_fit b c.if-lent-ne0.false in record {
-      zones = (sized b c.if-lent-ne0.false).zones;
-      rows_fit = fit.0;
-      class_locals_fit = length-take-le _ _ (room ((goal.at.report_sized-requires c).Else-lent-ne0));
-      locals_fit = fit.1.0;
-      figures_fit = fit.1.1;
-      parts_few = omega arith;
-    }
+-- where the lists fit, the number is that of the rest
+rest_is :
+    (c : In_ok-judge_plain) →
+    let a = c.args in
+    rest_refusal a.n a.values.now a.weights.now a.classes.now
+    ≡ plain_refusal a.n a.values.now a.weights.now a.classes.now a.rows.now a.locals.now a.figures.now
+unfolding plain_refusal
+rest_is c =
+    let a = c.args in
+    let l = lent ((goal.at.In_ok-judge_plain c).Start) in
+    rest_number a.n a.values.now a.weights.now a.classes.now l (sizes_hold a.n l (sym c.in_ok-judge_plain.ensures)).fitting
 
 pub returns : goal.returns
 unfolding plain_sums plain_whole plain_classes plain_rows plain_locals plain_figures
 returns c =
-    let p = reports_same (rest_is ((goal.at.returns c).After-judge_plain-lent) c.if-lent-ne0.false) c.report_sized.ensures in record {
-      number = p.number;
-      sums = p.sums;
-      whole = p.whole;
-      pairs = p.pairs;
-      rows = p.in_rows;
-      locals = p.in_locals;
-      figures = p.in_figures;
+    let r = reports_same (rest_is ((goal.at.returns c).In_ok-judge_plain)) c.report_sized.ensures in
+    record {
+      number = r.number;
+      sums = r.sums;
+      whole = r.whole;
+      pairs = r.pairs;
+      rows = r.in_rows;
+      locals = r.in_locals;
+      figures = r.in_figures;
     }

@@ -1,57 +1,67 @@
--- `add_row` meets its contract: three sums are read, then each is stored with what is added to it. Assumes nothing.
+-- `add_row` meets its contract: to each of three sums is added what belongs to it. Assumes nothing.
+use mathlib.Core.Path.{◌≡◌, refl, ◌∙◌}
+use mathlib.Core.List.{List}
 use Prim.Native.Nat.{ℕ, ◌+◌, ◌*◌, ◌≤◌, ◌<◌}
 use native.Mathlib.Omega.{arith}
-use lib.IntN.{ℤ, nat_abs, ◌+ℤ◌}
-use lib.ListN.{length-set}
+use lib.IntN.{ℤ, pos, nat_abs, ◌+ℤ◌}
+use lib.ListN.{set}
+use lib.Seq.{get_or-set_other}
 use mir.Syntax.{w64}
 use Rattle.whole.specs.Table.{at}
-use Rattle.whole.proofs.Machine.{Is, val, rd, is_+, fit, r64}
+use Rattle.whole.proofs.Machine.{Is, val, told, rd, is_+, fit, r64}
 use Rattle.account.specs.declared.ClassRow.{ClassRow}
 use Rattle.account.proofs.ByClass.{row_stored}
 use Rattle.account.proofs.classes.add_row.Goals as goal
-use Rattle.account.proofs.classes.add_row.Goals.{After-squared-1, Start}
+use Rattle.account.proofs.classes.add_row.Goals.{Start}
 
--- a sum, and what is added to it
-abbrev Added : After-squared-1 → ℕ → ℤ → Type 0
-Added c place z =
-    let rows = c.args.rows.now in Is (r64 (at rows place) +ℤ r64 z) (at rows place +ℤ z) 6134169600000000000
+module _ (c : Start) where
+  abbrev rows : List ℤ
+  rows = c.args.rows.now
 
-module _ (c : After-squared-1) where
-  abbrev start : Start
-  start = ((goal.at.After-squared-1 c).Start)
+  abbrev place : ℕ
+  place = c.args.k * 3
 
-  added : (place : ℕ) (z : ℤ) → place < 27 → nat_abs z ≤ 94371840000000000 → Added c place z
-  added place z h small =
-      let held = val (at start.args.rows.now place) 6039797760000000000 (start.requires.sized.size place h) in
-      is_+ (rd w64 held tt) (rd w64 (val z 94371840000000000 small) tt)
+  -- what stands at a place of a list that holds there what the rows did, and what is added to it
+  added :
+      (l : List ℤ) (p : ℕ) (z : ℤ) → at l p ≡ at rows p → p < 27 → nat_abs z ≤ 94371840000000000 →
+      Is (r64 (at l p) +ℤ r64 z) (at rows p +ℤ z) 6134169600000000000
+  added l p z e h small =
+      is_+ (rd w64 (told (at rows p) 6039797760000000000 e (c.requires.sized.size p h)) tt) (rd w64 (val z 94371840000000000 small) tt)
 
-  one : Added c (start.args.k * 3) start.args.weight
-  one = added (start.args.k * 3) start.args.weight (omega arith) start.requires.weight_bound
+  -- the rows after one store and after two
+  abbrev first : List ℤ
+  first = set rows place (r64 (r64 (at rows place) +ℤ r64 c.args.weight))
 
-  two : Added c (start.args.k * 3 + 1) start.args.cross
-  two = added (start.args.k * 3 + 1) start.args.cross (omega arith) start.requires.cross_bound
+  abbrev second : List ℤ
+  second = set first (place + 1) (r64 (r64 (at first (place + 1)) +ℤ r64 c.args.cross))
 
-  three : Added c (start.args.k * 3 + 2) start.args.squares
-  three = added (start.args.k * 3 + 2) start.args.squares (omega arith) start.requires.squares_bound
+  one : Is (r64 (at rows place) +ℤ r64 c.args.weight) (at rows place +ℤ c.args.weight) 6134169600000000000
+  one = added rows place c.args.weight refl (omega arith) c.requires.weight_bound
+
+  two : Is (r64 (at first (place + 1)) +ℤ r64 c.args.cross) (at rows (place + 1) +ℤ c.args.cross) 6134169600000000000
+  two =
+      added first (place + 1) c.args.cross (get_or-set_other rows place (place + 1) _ (pos 0) (λ e. omega arith)) (omega arith)
+      c.requires.cross_bound
+
+  three : Is (r64 (at second (place + 2)) +ℤ r64 c.args.squares) (at rows (place + 2) +ℤ c.args.squares) 6134169600000000000
+  three =
+      added second (place + 2) c.args.squares
+      (get_or-set_other first (place + 1) (place + 2) _ (pos 0) (λ e. omega arith)
+      ∙ get_or-set_other rows place (place + 2) _ (pos 0) (λ e. omega arith))
+      (omega arith) c.requires.squares_bound
 
 pub overflow_add-rows : goal.overflow_add-rows
-overflow_add-rows c = fit w64 (one c) tt
+overflow_add-rows c = fit w64 (one ((goal.at.overflow_add-rows c).Start)) tt
 
-pub overflow_add-rows-2 : goal.overflow_add-rows-2
-overflow_add-rows-2 c = fit w64 (two c) tt
+pub overflow_add-rows-3 : goal.overflow_add-rows-3
+overflow_add-rows-3 c = fit w64 (two ((goal.at.overflow_add-rows-3 c).Start)) tt
 
-pub bounds-rows-place-2 : goal.bounds-rows-place-2
-bounds-rows-place-2 c = let s = start c in simp length-set (omega (arith, s.requires.sized.count))
-
-pub overflow_add-rows-4 : goal.overflow_add-rows-4
-overflow_add-rows-4 c = fit w64 (three c) tt
-
-pub bounds-rows-place-3 : goal.bounds-rows-place-3
-bounds-rows-place-3 c = let s = start c in simp length-set (omega (arith, s.requires.sized.count))
+pub overflow_add-rows-5 : goal.overflow_add-rows-5
+overflow_add-rows-5 c = fit w64 (three ((goal.at.overflow_add-rows-5 c).Start)) tt
 
 pub returns : goal.returns
 returns c =
-    let s = start c in
-    let row : ClassRow = record { weight = s.args.weight; cross = s.args.cross; squares = s.args.squares } in
-    row_stored s.args.rows.now s.args.k row _ _ _ s.requires.sized.count s.requires.k_bound
-    (rd w64 (one c) tt).same (rd w64 (two c) tt).same (rd w64 (three c) tt).same
+    let s = (goal.at.returns c).Start in
+    let row : ClassRow = record { weight = c.args.weight; cross = c.args.cross; squares = c.args.squares } in
+    row_stored c.args.rows.now c.args.k row _ _ _ c.requires.sized.count c.requires.k_bound
+    (rd w64 (one s) tt).same (rd w64 (two s) tt).same (rd w64 (three s) tt).same

@@ -1,11 +1,13 @@
 -- `tally` meets its contract. The loop's invariant: the three counts are those of the shuffles passed. Assumes nothing.
-use mathlib.Core.Path.{◌≡◌, ap, ◌∙◌}
-use mathlib.Core.Bool.{Bool}
+use mathlib.Core.Path.{◌≡◌, refl, sym, ap, ◌∙◌}
+use mathlib.Core.Bool.{Bool, true, false, cond}
 use Prim.Native.Nat.{ℕ, ◌+◌, ◌≤◌}
 use native.Mathlib.Omega.{arith}
 use lib.IntN.{ℤ}
 use lib.Signed.{lt_z}
 use mir.Syntax.{w64}
+use Rattle.std.specs.Ordering.{int_cmp}
+use Rattle.std.proofs.Common.{Less, Equal, Greater}
 use Rattle.whole.specs.Table.{at}
 use Rattle.whole.proofs.Machine.{Is, rd, r64}
 use Rattle.shuffles.proofs.ShuffleList.{shuffle_there}
@@ -15,8 +17,34 @@ use Rattle.account.proofs.Locals.{deviations_cross_told}
 use Rattle.account.proofs.Shuffled.{shuffled_size}
 use Rattle.account.proofs.Tallied.{none_yet, one_less, one_greater, one_equal, no_more, tallied}
 use Rattle.account.proofs.ranking.tally.Goals as goal
-use Rattle.account.proofs.ranking.tally.Goals.{then-cross-own, else-cross-own+then-own-cross, else-cross-own+else-own-cross}
+use Rattle.account.proofs.ranking.tally.Goals.{in-Less, in-Equal, in-Greater}
 use Rattle.account.proofs.ranking.tally.Goals.{After-shuffle_cross-cross}
+
+-- what the order of two numbers says of the two tests that it is made of
+module _ (x y : ℤ) where
+  is_less : int_cmp x y ≡ Less → lt_z x y ≡ true
+  is_less e = go (lt_z x y) (lt_z y x) e
+    where
+      go : (a b : Bool) → cond a Less (cond b Greater Equal) ≡ Less → a ≡ true
+      go true b e = refl
+      go false true e = cc
+      go false false e = cc
+
+  is_greater : int_cmp x y ≡ Greater → lt_z y x ≡ true
+  is_greater e = go (lt_z x y) (lt_z y x) e
+    where
+      go : (a b : Bool) → cond a Less (cond b Greater Equal) ≡ Greater → b ≡ true
+      go true b e = cc
+      go false true e = refl
+      go false false e = cc
+
+  is_equal : int_cmp x y ≡ Equal → (lt_z x y ≡ false) × (lt_z y x ≡ false)
+  is_equal e = go (lt_z x y) (lt_z y x) e
+    where
+      go : (a b : Bool) → cond a Less (cond b Greater Equal) ≡ Equal → (a ≡ false) × (b ≡ false)
+      go true b e = cc
+      go false true e = cc
+      go false false e = (refl, refl)
 
 -- the P of the shuffle at hand and the job's own, as the machine compares them
 module _ (c : After-shuffle_cross-cross) where
@@ -64,14 +92,18 @@ pub loop-r-preserved : goal.loop-r-preserved
 loop-r-preserved c =
     let s = (goal.at.loop-r-preserved c).After-shuffle_cross-cross in
     let t = c.loop-r.invariant in
-    elim c.if-cross-own.branch [
-      | then-cross-own w ↦
-          rw (w.less-is, w.equal-is, w.greater-is) (one_less (numbers s) (own s) t (less s _ w.if-cross-own.true))
-      | else-cross-own+then-own-cross w ↦
-          rw (w.less-is, w.equal-is, w.greater-is) (one_greater (numbers s) (own s) t (more s _ w.if-own-cross.true))
-      | else-cross-own+else-own-cross w ↦
+    let x = r64 c.shuffle_cross-cross.result in
+    let y = r64 c.cross_sum-own.result in
+    elim c.match-cmp.branch [
+      | in-Less w ↦
           rw (w.less-is, w.equal-is, w.greater-is)
-          (one_equal (numbers s) (own s) t (less s _ w.if-cross-own.false) (more s _ w.if-own-cross.false))
+          (one_less (numbers s) (own s) t (less s _ (is_less x y (sym c.cmp.ensures ∙ w.in-Less.is))))
+      | in-Equal w ↦
+          let neither = is_equal x y (sym c.cmp.ensures ∙ w.in-Equal.is) in
+          rw (w.less-is, w.equal-is, w.greater-is) (one_equal (numbers s) (own s) t (less s _ neither.0) (more s _ neither.1))
+      | in-Greater w ↦
+          rw (w.less-is, w.equal-is, w.greater-is)
+          (one_greater (numbers s) (own s) t (more s _ (is_greater x y (sym c.cmp.ensures ∙ w.in-Greater.is))))
     ]
 
 pub returns : goal.returns

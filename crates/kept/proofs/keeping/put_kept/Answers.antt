@@ -16,9 +16,9 @@ use Rattle.kept.proofs.Passing.{list_found, list_passed, passing_length}
 use Rattle.kept.proofs.keeping.put_kept.Goals as goal
 use Rattle.kept.proofs.keeping.put_kept.Goals.{then-touches, else-touches}
 
-pub mark_columns-requires-clause-marks_value : goal.mark_columns-requires-clause-marks_value
+pub mark_columns-requires : goal.mark_columns-requires
 unfolding table
-mark_columns-requires-clause-marks_value c = table_front (λ j. 0) c.args.n 64 c.requires.n_bound
+mark_columns-requires c = table_front (λ j. 0) c.args.weights.now.n 64 c.args.weights.now.few
 
 pub loop-i-init : goal.loop-i-init
 unfolding passing
@@ -26,14 +26,14 @@ loop-i-init c = record { counted = sym (count_zero _); stored = stored_none _ re
 
 -- no more zones are kept than passed
 pub bounds-zones-many : goal.bounds-zones-many
-bounds-zones-many c = omega (arith, c.loop-i.invariant.counted, count_le (keeps c.args.n c.args.weights.now) c.loop-i.i)
+bounds-zones-many c = omega (arith, c.loop-i.invariant.counted, count_le (keeps c.args.weights.now.n c.args.weights.now.rows.now) c.loop-i.i)
 
 pub overflow_add-many : goal.overflow_add-many
-overflow_add-many c = omega (arith, c.loop-i.invariant.counted, count_le (keeps c.args.n c.args.weights.now) c.loop-i.i)
+overflow_add-many c = omega (arith, c.loop-i.invariant.counted, count_le (keeps c.args.weights.now.n c.args.weights.now.rows.now) c.loop-i.i)
 
 pub loop-i-preserved : goal.loop-i-preserved
 loop-i-preserved c =
-    let test : ℕ → Bool = keeps c.args.n c.args.weights.now in
+    let test : ℕ → Bool = keeps c.args.weights.now.n c.args.weights.now.rows.now in
     let inv = c.loop-i.invariant in
     let i = c.loop-i.i in
     let told = sym c.touches.ensures in
@@ -51,13 +51,13 @@ loop-i-preserved c =
 
 pub returns-clause-value : goal.returns-clause-value
 unfolding kept_count
-returns-clause-value c = c.loop-i.invariant.counted ∙ ap (count (keeps c.args.n c.args.weights.now)) (omega arith)
+returns-clause-value c = c.loop-i.invariant.counted ∙ ap (count (keeps c.args.weights.now.n c.args.weights.now.rows.now)) (omega arith)
 
 pub returns-clause-zones_after : goal.returns-clause-zones_after
 unfolding kept_zones
 returns-clause-zones_after c =
     let a = c.args in
-    let test : ℕ → Bool = keeps a.n a.weights.now in
-    let front : Stored a.zones.now 0 (passing test a.n) c.loop-i.zones =
+    let test : ℕ → Bool = keeps a.weights.now.n a.weights.now.rows.now in
+    let front : Stored a.zones.now 0 (passing test a.weights.now.n) c.loop-i.zones =
     record { same = c.loop-i.invariant.stored.same ∙ ap (λ k. sets a.zones.now 0 (passing test k)) (omega arith) } in
-    stored_over front (omega (arith, passing_length test a.n, count_le test a.n))
+    stored_over front (omega (arith, passing_length test a.weights.now.n, count_le test a.weights.now.n))

@@ -7,4 +7,4 @@ use Rattle.kept.proofs.keeping.put_marks.Given as goal
 
 -- the zones passed have their marks
 abbrev pub invariant-loop-i : goal.invariant-loop-i
-invariant-loop-i l = (k : ℕ) → k < l.i → get_or l.marks k 0 ≡ cond (keeps l.n l.weights k) 1 0
+invariant-loop-i l = (k : ℕ) → k < l.i → get_or l.marks k 0 ≡ cond (keeps l.weights.n l.weights.rows.now k) 1 0

@@ -38,9 +38,9 @@ loop-i-preserved c =
     let a = c.args in
     let i = c.loop-i.i in
     let own = (value_is (at a.values.now i) (search rules)).same in
-    row_written (counts a.n a.values.now a.weights.now) a.n i c.loop-i.counting _ (omega (arith, row_end a.n i (omega arith)))
+    row_written (counts a.weights.now.n a.values.now a.weights.now.rows.now) a.weights.now.n i c.loop-i.counting _ (omega (arith, row_end a.weights.now.n i (omega arith)))
     c.loop-i.invariant
-    (c.reduce_row.ensures ∙ row_counts a.n a.values.now a.weights.now i _ _ c.requires.values_len own c.row_of.ensures)
+    (c.reduce_row.ensures ∙ row_counts a.weights.now.n a.values.now a.weights.now.rows.now i _ _ c.requires.values_len own c.row.ensures)
 
 pub returns : goal.returns
 unfolding reduced

@@ -13,4 +13,4 @@ counts n values weights i j = cond (missing values i || missing values j) 0 (pai
 
 -- the rows of the zones passed are written
 abbrev pub invariant-loop-i : goal.invariant-loop-i
-invariant-loop-i l = take (l.i * l.n) l.counting ≡ table_rows (counts l.n l.values l.weights) l.i l.n
+invariant-loop-i l = take (l.i * l.weights.n) l.counting ≡ table_rows (counts l.weights.n l.values l.weights.rows.now) l.i l.weights.n

@@ -2,6 +2,7 @@
 use mathlib.Core.Path.{◌≡◌, refl, sym}
 use Prim.Native.Nat.{ℕ}
 use Rattle.std.proofs.lemmas.Result.{err_from_is_err_and}
+use Rattle.refusals.proofs.Refusals.{not_refused}
 use Rattle.whole.specs.Rules.{first_broken}
 use Rattle.whole.proofs.InTurn.{turn_none, turn_next, turn_found}
 use Rattle.image.specs.Joins.{Join, join_rules}
@@ -36,16 +37,14 @@ returns-in_err-judge_join c =
     let p = err_from_is_err_and c.from_residual.result c.from_residual.ensures.1 in
     let l = (goal.at.returns-in_err-judge_join c).After-judge_join in
     let e = c.in_err-judge_join.ensures in
-    rw (p.1, p.2) (
-      turn_found (join_rules (n l) (join l)) (join_numbered (n l) (join l)) _ (i l) _ c.loop-from-test.true
-          c.loop-from.invariant.0 (by_place l _ e.0) e.1,
-      e.1,
-    )
+    rw (p.1, p.2)
+    (turn_found (join_rules (n l) (join l)) (join_numbered (n l) (join l)) _ (i l) _ c.loop-from-test.true c.loop-from.invariant.0
+    (by_place l _ e) (not_refused c.in_err-judge_join.field-0.0))
 
 pub loop-from-preserved : goal.loop-from-preserved
 loop-from-preserved c =
     let l = (goal.at.loop-from-preserved c).After-judge_join in (
       turn_next (join_rules (n l) (join l)) (join_numbered (n l) (join l)) (i l) c.loop-from.invariant.0
-          (sym (by_place l 0 (sym c.in_ok-judge_join.ensures))),
+          (sym (by_place l 0 c.in_ok-judge_join.ensures)),
       one_passed (n l) (join l) (i l) _ (rw (c.from-from.ensures, c.from-to.ensures) refl),
     )

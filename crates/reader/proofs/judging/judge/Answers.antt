@@ -1,5 +1,5 @@
 -- `judge` meets its contract: section after section, each judged after those that passed. Assumes nothing.
-use mathlib.Core.Path.{◌≡◌, refl, sym, ap, ◌∙◌}
+use mathlib.Core.Path.{◌≡◌, refl, ap, ◌∙◌}
 use mathlib.Core.List.{List, [], ◌++◌}
 use Prim.Native.Nat.{ℕ}
 use native.Mathlib.Omega.{arith}
@@ -70,7 +70,7 @@ module _ (c : In_ok-values) where
   left_1 : Left image (after_values image)
   left_1 =
       passed image (λ _ b. in_values b) 0 image (after_values image) no_values {n = 0} refl refl (values_numbered image)
-      c.in_ok-values.ensures.decides
+      c.in_ok-values.ensures.number
 
 module _ (c : In_ok-categories) where
   abbrev to_1 : In_ok-values
@@ -83,7 +83,7 @@ module _ (c : In_ok-categories) where
   left_2 =
       let b = from_categories (image to_1) in
       passed (image to_1) in_categories (count (image to_1)) b (after_categories (image to_1)) (left_1 to_1) (n_is to_1) (begin_categories to_1)
-      (categories_numbered (count (image to_1)) b) c.in_ok-categories.ensures.decides
+      (categories_numbered (count (image to_1)) b) c.in_ok-categories.ensures.number
 
 module _ (c : In_ok-joins) where
   abbrev to_2 : In_ok-categories
@@ -96,7 +96,7 @@ module _ (c : In_ok-joins) where
   left_3 =
       let i = image (to_1 to_2) in
       passed i in_joins (count i) (from_joins i) (after_joins i) (left_2 to_2) (n_is (to_1 to_2)) (begin_joins to_2)
-      (joins_numbered (count i) (from_joins i)) c.in_ok-joins.ensures.decides
+      (joins_numbered (count i) (from_joins i)) c.in_ok-joins.ensures.number
 
 module _ (c : In_ok-places) where
   abbrev to_3 : In_ok-joins
@@ -114,7 +114,7 @@ module _ (c : In_ok-places) where
   left_4 : Left image_3 (after_places image_3)
   left_4 =
       passed image_3 in_places (count image_3) (from_places image_3) (after_places image_3) (left_3 to_3) (n_is (to_1 (to_2 to_3)))
-      (begin_places to_3) (in_places_numbered (count image_3) (from_places image_3)) c.in_ok-places.ensures.decides
+      (begin_places to_3) (in_places_numbered (count image_3) (from_places image_3)) c.in_ok-places.ensures.number
 
 module _ (c : In_ok-bands) where
   abbrev to_4 : In_ok-places
@@ -127,7 +127,7 @@ module _ (c : In_ok-bands) where
   left_5 =
       let i = image_3 to_4 in
       passed i in_bands (count (from_places i)) (from_bands i) (after_bands i) (left_4 to_4) (places_is to_4) (begin_bands to_4)
-      (bands_numbered (count (from_places i)) (from_bands i)) c.in_ok-bands.ensures.decides
+      (bands_numbered (count (from_places i)) (from_bands i)) c.in_ok-bands.ensures.number
 
 module _ (c : In_ok-shuffles) where
   abbrev to_5 : In_ok-bands
@@ -146,7 +146,7 @@ module _ (c : In_ok-shuffles) where
   left_6 =
       let i = image first in
       passed i in_shuffles (count i) (from_shuffles i) (at_the_end i) (left_5 to_5) (n_is first) (begin_shuffles to_5)
-      (shuffles_numbered (count i) (from_shuffles i)) c.in_ok-shuffles.ensures.decides
+      (shuffles_numbered (count i) (from_shuffles i)) c.in_ok-shuffles.ensures.number
 
   values_held : Held 4 (image first) first.in_ok-values.values
   values_held = first.in_ok-values.ensures.taken.0
@@ -155,70 +155,70 @@ module _ (c : In_ok-shuffles) where
   seen = rw (← begin_joins (to_2 at_joins)) at_joins.in_ok-joins.ensures.taken.0
 
 -- ---- a section that is refused
-pub returns-in_err-values-clause-decides : goal.returns-in_err-values-clause-decides
+pub returns-in_err-values-clause-number : goal.returns-in_err-values-clause-number
 unfolding image_rules
-returns-in_err-values-clause-decides c =
+returns-in_err-values-clause-number c =
     let p = err_from_is_err_and c.from_residual.result c.from_residual.ensures.1 in
     let i = c.args.image.now in
     rw (p.1, p.2)
-    (stopped i (λ _ b. in_values b) 0 i (after_values i) (record { same = refl }) {n = 0} refl refl c.in_err-values.ensures.decides)
+    (stopped i (λ _ b. in_values b) 0 i (after_values i) (record { same = refl }) {n = 0} refl refl c.in_err-values.field-0.0 c.in_err-values.ensures.number)
 
-pub returns-in_err-categories-clause-decides : goal.returns-in_err-categories-clause-decides
-returns-in_err-categories-clause-decides c =
+pub returns-in_err-categories-clause-number : goal.returns-in_err-categories-clause-number
+returns-in_err-categories-clause-number c =
     let p = err_from_is_err_and c.from_residual-in_err-categories.result c.from_residual-in_err-categories.ensures.1 in
-    let l = (goal.at.returns-in_err-categories-clause-decides c).In_ok-values in
+    let l = (goal.at.returns-in_err-categories-clause-number c).In_ok-values in
     rw (p.1, p.2)
     (stopped (image l) in_categories (count (image l)) _ (after_categories (image l)) (left_1 l) (n_is l) (begin_categories l)
-    c.in_err-categories.ensures.decides)
+    c.in_err-categories.field-0.0 c.in_err-categories.ensures.number)
 
-pub returns-in_err-joins-clause-decides : goal.returns-in_err-joins-clause-decides
-returns-in_err-joins-clause-decides c =
+pub returns-in_err-joins-clause-number : goal.returns-in_err-joins-clause-number
+returns-in_err-joins-clause-number c =
     let p = err_from_is_err_and c.from_residual-in_err-joins.result c.from_residual-in_err-joins.ensures.1 in
-    let l = (goal.at.returns-in_err-joins-clause-decides c).In_ok-categories in
+    let l = (goal.at.returns-in_err-joins-clause-number c).In_ok-categories in
     let i = image (to_1 l) in
     rw (p.1, p.2)
-    (stopped i in_joins (count i) _ (after_joins i) (left_2 l) (n_is (to_1 l)) (begin_joins l) c.in_err-joins.ensures.decides)
+    (stopped i in_joins (count i) _ (after_joins i) (left_2 l) (n_is (to_1 l)) (begin_joins l) c.in_err-joins.field-0.0 c.in_err-joins.ensures.number)
 
-pub returns-in_err-places-clause-decides : goal.returns-in_err-places-clause-decides
-returns-in_err-places-clause-decides c =
+pub returns-in_err-places-clause-number : goal.returns-in_err-places-clause-number
+returns-in_err-places-clause-number c =
     let p = err_from_is_err_and c.from_residual-in_err-places.result c.from_residual-in_err-places.ensures.1 in
-    let l = (goal.at.returns-in_err-places-clause-decides c).In_ok-joins in
+    let l = (goal.at.returns-in_err-places-clause-number c).In_ok-joins in
     let i = image (to_1 (to_2 l)) in
     rw (p.1, p.2)
-    (stopped i in_places (count i) _ (after_places i) (left_3 l) (n_is (to_1 (to_2 l))) (begin_places l) c.in_err-places.ensures.decides)
+    (stopped i in_places (count i) _ (after_places i) (left_3 l) (n_is (to_1 (to_2 l))) (begin_places l) c.in_err-places.field-0.0 c.in_err-places.ensures.number)
 
-pub returns-in_err-bands-clause-decides : goal.returns-in_err-bands-clause-decides
-returns-in_err-bands-clause-decides c =
+pub returns-in_err-bands-clause-number : goal.returns-in_err-bands-clause-number
+returns-in_err-bands-clause-number c =
     let p = err_from_is_err_and c.from_residual-in_err-bands.result c.from_residual-in_err-bands.ensures.1 in
-    let l = (goal.at.returns-in_err-bands-clause-decides c).In_ok-places in
+    let l = (goal.at.returns-in_err-bands-clause-number c).In_ok-places in
     let i = image_3 l in
     rw (p.1, p.2)
-    (stopped i in_bands (count (from_places i)) _ (after_bands i) (left_4 l) (places_is l) (begin_bands l) c.in_err-bands.ensures.decides)
+    (stopped i in_bands (count (from_places i)) _ (after_bands i) (left_4 l) (places_is l) (begin_bands l) c.in_err-bands.field-0.0 c.in_err-bands.ensures.number)
 
-pub returns-in_err-shuffles-clause-decides : goal.returns-in_err-shuffles-clause-decides
-returns-in_err-shuffles-clause-decides c =
+pub returns-in_err-shuffles-clause-number : goal.returns-in_err-shuffles-clause-number
+returns-in_err-shuffles-clause-number c =
     let p = err_from_is_err_and c.from_residual-in_err-shuffles.result c.from_residual-in_err-shuffles.ensures.1 in
-    let l = (goal.at.returns-in_err-shuffles-clause-decides c).In_ok-bands in
+    let l = (goal.at.returns-in_err-shuffles-clause-number c).In_ok-bands in
     let i = image_3 (to_4 l) in
     rw (p.1, p.2)
     (stopped i in_shuffles (count i) _ (at_the_end i) (left_5 l) (n_is (to_1 (to_2 (to_3 (to_4 l))))) (begin_shuffles l)
-    c.in_err-shuffles.ensures.decides)
+    c.in_err-shuffles.field-0.0 c.in_err-shuffles.ensures.number)
 
 -- ---- the zones are as many as a section that passed has
 pub in_joins-requires : goal.in_joins-requires
 in_joins-requires c =
     let l = to_1 ((goal.at.in_joins-requires c).In_ok-categories) in
-    (zones (image l) _ [] l.in_ok-values.ensures.taken.0 l.in_ok-values.ensures.decides).1
+    (zones (image l) _ [] l.in_ok-values.ensures.taken.0 l.in_ok-values.ensures.number).1
 
 pub in_places-requires : goal.in_places-requires
 in_places-requires c =
     let l = to_1 (to_2 ((goal.at.in_places-requires c).In_ok-joins)) in
-    (zones (image l) _ [] l.in_ok-values.ensures.taken.0 l.in_ok-values.ensures.decides).1
+    (zones (image l) _ [] l.in_ok-values.ensures.taken.0 l.in_ok-values.ensures.number).1
 
 pub in_shuffles-requires : goal.in_shuffles-requires
 in_shuffles-requires c =
     let l = to_1 (to_2 (to_3 (to_4 ((goal.at.in_shuffles-requires c).In_ok-bands)))) in
-    let z = zones (image l) _ [] l.in_ok-values.ensures.taken.0 l.in_ok-values.ensures.decides in record { le_n = z.0; n_bound = z.1 }
+    let z = zones (image l) _ [] l.in_ok-values.ensures.taken.0 l.in_ok-values.ensures.number in record { le_n = z.0; n_bound = z.1 }
 
 -- ---- the end
 module _ (c : In_ok-shuffles) where
@@ -233,34 +233,34 @@ module _ (c : In_ok-shuffles) where
 
   summed : Summable v.count v.items.now joins
   summed =
-      summable i v joins (values_held c) (first c).in_ok-values.ensures.decides (seen c)
-      (rw (← begin_joins (to_2 (at_joins c))) (at_joins c).in_ok-joins.ensures.decides)
+      summable i v joins (values_held c) (first c).in_ok-values.ensures.number (seen c)
+      (rw (← begin_joins (to_2 (at_joins c))) (at_joins c).in_ok-joins.ensures.number)
 
   ended :
       length c.in_ok-shuffles.rest.now ≡ 0 →
       first_broken (sum_rules v.count (signed_words v.count v.items.now) (weights_of v.count (table (join_at joins) (length joins))))
       ≡ first_broken (image_rules i)
-  ended = by_sums i v joins (values_held c) (first c).in_ok-values.ensures.decides (seen c) (left_6 c) _ (begin_end c)
+  ended = by_sums i v joins (values_held c) (first c).in_ok-values.ensures.number (seen c) (left_6 c) _ (begin_end c)
 
-pub returns-then-not-is_empty-clause-decides : goal.returns-then-not-is_empty-clause-decides
-returns-then-not-is_empty-clause-decides c =
-    let l = (goal.at.returns-then-not-is_empty-clause-decides c).In_ok-shuffles in
-    trailing (i l) (v l) (joins l) (values_held l) (first l).in_ok-values.ensures.decides (seen l) (left_6 l) _ (begin_end l)
+pub returns-then-not-is_empty-clause-number : goal.returns-then-not-is_empty-clause-number
+returns-then-not-is_empty-clause-number c =
+    let l = (goal.at.returns-then-not-is_empty-clause-number c).In_ok-shuffles in
+    trailing (i l) (v l) (joins l) (values_held l) (first l).in_ok-values.ensures.number (seen l) (left_6 l) _ (begin_end l)
     (grind (arith, common_steps))
 
 pub judge_sums-requires : goal.judge_sums-requires
 judge_sums-requires c = summed ((goal.at.judge_sums-requires c).In_ok-shuffles)
 
-pub returns-in_err-judge_sums-clause-decides : goal.returns-in_err-judge_sums-clause-decides
-returns-in_err-judge_sums-clause-decides c =
+pub returns-in_err-judge_sums-clause-number : goal.returns-in_err-judge_sums-clause-number
+returns-in_err-judge_sums-clause-number c =
     let p = err_from_is_err_and c.from_residual-in_err-judge_sums.result c.from_residual-in_err-judge_sums.ensures.1 in
-    let e = ended ((goal.at.returns-in_err-judge_sums-clause-decides c).In_ok-shuffles) (grind (arith, common_steps)) in
-    rw (p.1, p.2) (c.in_err-judge_sums.ensures.0 ∙ e, c.in_err-judge_sums.ensures.1)
+    let e = ended ((goal.at.returns-in_err-judge_sums-clause-number c).In_ok-shuffles) (grind (arith, common_steps)) in
+    rw (p.1, p.2) (c.in_err-judge_sums.ensures ∙ e)
 
-pub returns-clause-decides : goal.returns-clause-decides
-returns-clause-decides c =
-    let e = ended ((goal.at.returns-clause-decides c).In_ok-shuffles) (grind (arith, common_steps)) in
-    sym e ∙ c.in_ok-judge_sums.ensures
+pub returns-clause-number : goal.returns-clause-number
+returns-clause-number c =
+    let e = ended ((goal.at.returns-clause-number c).In_ok-shuffles) (grind (arith, common_steps)) in
+    c.in_ok-judge_sums.ensures ∙ e
 
 pub returns-clause-laid : goal.returns-clause-laid
 returns-clause-laid c =
@@ -270,4 +270,4 @@ returns-clause-laid c =
     let k = to_2 (at_joins l) in
     laid (i l) _ (values_held l) (rw (← begin_categories (first l)) k.in_ok-categories.ensures.taken.0) (seen l)
     (rw (← begin_places (at_joins l)) p.in_ok-places.ensures.taken.0) (rw (← begin_bands p) b.in_ok-bands.ensures.taken.0)
-    (rw (← begin_shuffles b, ← n_is (first l)) l.in_ok-shuffles.ensures.taken.0) (returns-clause-decides c)
+    (rw (← begin_shuffles b, ← n_is (first l)) l.in_ok-shuffles.ensures.taken.0) (returns-clause-number c)

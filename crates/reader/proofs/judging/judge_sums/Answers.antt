@@ -37,6 +37,6 @@ pub returns : goal.returns
 returns c =
     let a = c.args in
     let values = signed_words a.n a.items.now in
-    let read = front_is (λ i. to_z w32 (word_at a.items.now (4 * i))) a.n _ (replicate 64 (pos 0)) c.requires.joins.zones c.signed_words_in.ensures in
+    let read = front_is (λ i. to_z w32 (word_at a.items.now (4 * i))) a.n _ (replicate 64 (pos 0)) c.requires.joins.zones c.entries_in.ensures in
     let e = judged a.n values _ a.joins.now _ c.requires.two c.requires.near c.requires.joins (table_length _ a.n) read c.put_joins.ensures in
-    rw (c.judge.ensures, e) at c.passed.ensures
+    c.judge.ensures ∙ e

@@ -12,16 +12,16 @@ seen c =
     joins_seen c.args.left.now _ _ (grind (arith, common_steps)) (grind (arith, common_steps)) c.as_chunks.ensures.front
     c.as_chunks.ensures.front_len
 
-pub returns-in_err-judge_joins-clause-decides : goal.returns-in_err-judge_joins-clause-decides
+pub returns-in_err-judge_joins-clause-number : goal.returns-in_err-judge_joins-clause-number
 unfolding in_joins
-returns-in_err-judge_joins-clause-decides c =
-    let e = joins_judged c.args.left.now _ (seen ((goal.at.returns-in_err-judge_joins-clause-decides c).After-judge_joins)) c.args.n in
+returns-in_err-judge_joins-clause-number c =
+    let e = joins_judged c.args.left.now _ (seen ((goal.at.returns-in_err-judge_joins-clause-number c).After-judge_joins)) c.args.n in
     grind (arith, common_steps, e)
 
-pub returns-clause-decides : goal.returns-clause-decides
+pub returns-clause-number : goal.returns-clause-number
 unfolding in_joins
-returns-clause-decides c =
-    let e = joins_judged c.args.left.now _ (seen ((goal.at.returns-clause-decides c).After-judge_joins)) c.args.n in
+returns-clause-number c =
+    let e = joins_judged c.args.left.now _ (seen ((goal.at.returns-clause-number c).After-judge_joins)) c.args.n in
     grind (arith, common_steps, e)
 
 pub returns-clause-taken : goal.returns-clause-taken

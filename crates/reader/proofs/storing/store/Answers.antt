@@ -23,10 +23,10 @@ returns c =
     let fits = c.requires.fitting in
     let x = exact (buffers a.values.now a.categories.now a.weights.now a.places.now a.bands.now a.shuffles.now) c.requires.lengths in
     let joins = table (join_at j.joins.now) (length j.joins.now) in
-    let v = table_over (λ i. to_z w32 (word_at j.values.items.now (4 * i))) n _ a.values.now (omega (arith, fits.joins.zones, x.values)) c.signed_words_in.ensures in
+    let v = table_over (λ i. to_z w32 (word_at j.values.items.now (4 * i))) n _ a.values.now (omega (arith, fits.joins.zones, x.values)) c.entries_in.ensures in
     let k = front_over j.categories.count j.categories.items.now _ a.categories.now fits.categories c.copy_from_slice.ensures.after in
     let w = front_over (n * n) _ _ a.weights.now (weights_length n joins) c.put_joins.ensures in
-    let p = table_over (λ i. to_z w32 (word_at j.places.items.now (4 * i))) (2 * j.places.count) _ a.places.now (omega (arith, fits.places, x.places)) c.signed_words_in-2.ensures in
-    let b = table_over (λ i. word_at j.bands.items.now (4 * i)) j.bands.count _ a.bands.now (omega (arith, fits.bands, x.bands)) c.words_in.ensures in
+    let p = table_over (λ i. to_z w32 (word_at j.places.items.now (4 * i))) (2 * j.places.count) _ a.places.now (omega (arith, fits.places, x.places)) c.entries_in-2.ensures in
+    let b = table_over (λ i. word_at j.bands.items.now (4 * i)) j.bands.count _ a.bands.now (omega (arith, fits.bands, x.bands)) c.entries_in-3.ensures in
     let s = front_over (n * j.shuffles.count) j.shuffles.items.now _ a.shuffles.now fits.shuffles c.copy_from_slice-2.ensures.after in
     rw (v, k, w, p, b, s) refl
