@@ -4,8 +4,9 @@ ghost use Rattle.whole.specs.Sum.{sum};
 ghost use Rattle.whole.specs.Table.{table, table_rows, at};
 ghost use Rattle.account.specs.Measures.{total_of, deviation_of};
 ghost use Rattle.account.specs.Answers.{listed, zones_figures};
-ghost use Rattle.account.specs.Steps.{Sized, ClassJob, zones_locals, zones_class_sums, zones_class_locals, row_added, zone_part, Zoned, Owned};
+ghost use Rattle.account.specs.Steps.{Sized, zones_locals, zones_class_sums, zones_class_locals, row_added, zone_part, Zoned, Owned};
 
+use crate::lists::ClassLists;
 use crate::{Sums, deviations, differences};
 
 // Adds to W, P and G of class k. A local numerator is the largest number that is added, and 64 of them fit.
@@ -26,22 +27,19 @@ pub(super) fn add_row(rows: &mut [i64], k: usize, weight: i64, cross: i64, squar
 
 // Adds the pairs of zone i to the three sums of their classes: the weight of each, the weight times d(j), and the weight times
 // (x(i) - x(j)) squared.
-pub(super) fn add_pairs(
-    n: usize,
-    values: &[i32],
-    d: &[i64],
-    weights: &[u8],
-    classes: &[u8],
-    i: usize,
-    parts: &mut [i64],
-)
-    requires class_job { ClassJob values.now weights.now classes.now n }
-    requires d_value { d.now ≡ table (deviation_of (at values.now) n) n }
-    requires i_lt_n { i < n }
+pub(super) fn add_pairs(lists: &ClassLists, d: &[i64], i: usize, parts: &mut [i64])
+    requires d_value { d.now ≡ table (deviation_of (at lists.now.values.now) lists.now.n) lists.now.n }
+    requires i_lt_n { i < lists.now.n }
     requires parts_value { parts.old ≡ table_rows (λ k place. pos 0) 9 3 }
     ensures { parts.new
-        ≡ table_rows (zone_part n values.now weights.now classes.now i) 9 3 }
+        ≡ table_rows (zone_part lists.now.n lists.now.values.now lists.now.weights.now lists.now.classes.now i) 9 3 }
 {
+    let ClassLists {
+        n,
+        values,
+        weights,
+        classes,
+    } = *lists;
     let first = i * n;
     let own = values[i];
     for j in 0..n {
@@ -57,27 +55,24 @@ pub(super) fn add_pairs(
 // Adds zone i to the three sums of each class, and puts its local numerators, of which P is the sum, into their places: those of the
 // classes, and its own, which they add up to.
 pub(super) fn add_zone(
-    n: usize,
-    values: &[i32],
+    lists: &ClassLists,
     d: &[i64],
-    weights: &[u8],
-    classes: &[u8],
     i: usize,
     rows: &mut [i64],
     class_locals: &mut [i64],
     locals: &mut [i64],
 )
-    requires class_job { ClassJob values.now weights.now classes.now n }
-    requires d_value { d.now ≡ table (deviation_of (at values.now) n) n }
-    requires i_lt_n { i < n }
-    requires zoned { Zoned n values.now weights.now classes.now (λ k. i) rows.old class_locals.old }
-    requires owned { Owned n values.now weights.now i locals.old }
-    ensures zoned_2 { Zoned n values.now weights.now classes.now
+    requires d_value { d.now ≡ table (deviation_of (at lists.now.values.now) lists.now.n) lists.now.n }
+    requires i_lt_n { i < lists.now.n }
+    requires zoned { Zoned lists.now.n lists.now.values.now lists.now.weights.now lists.now.classes.now (λ k. i) rows.old class_locals.old }
+    requires owned { Owned lists.now.n lists.now.values.now lists.now.weights.now i locals.old }
+    ensures zoned_2 { Zoned lists.now.n lists.now.values.now lists.now.weights.now lists.now.classes.now
         (λ k. i + 1) rows.new class_locals.new }
-    ensures owned_2 { Owned n values.now weights.now (i + 1) locals.new }
+    ensures owned_2 { Owned lists.now.n lists.now.values.now lists.now.weights.now (i + 1) locals.new }
 {
+    let n = lists.n;
     let mut parts: [i64; 27] = [0; 27];
-    add_pairs(n, values, d, weights, classes, i, &mut parts);
+    add_pairs(lists, d, i, &mut parts);
     let deviation = d[i];
     let mut own: i64 = 0;
     for k in 0..9 {
@@ -94,40 +89,27 @@ pub(super) fn add_zone(
 
 // The rows and the local numerators, zone by zone: d is worked once, for all of them.
 pub(super) fn add_zones(
-    n: usize,
-    values: &[i32],
+    lists: &ClassLists,
     total: i64,
-    weights: &[u8],
-    classes: &[u8],
     rows: &mut [i64],
     class_locals: &mut [i64],
     locals: &mut [i64],
 )
-    requires class_job { ClassJob values.now weights.now classes.now n }
-    requires total_value { total ≡ total_of (at values.now) n }
+    requires total_value { total ≡ total_of (at lists.now.values.now) lists.now.n }
     requires rows_len { length rows.old ≡ 27 }
-    requires class_locals_len { length class_locals.old ≡ 9 * n }
-    requires locals_len { length locals.old ≡ n }
-    ensures rows_after { rows.new ≡ zones_class_sums n values.now weights.now classes.now }
+    requires class_locals_len { length class_locals.old ≡ 9 * lists.now.n }
+    requires locals_len { length locals.old ≡ lists.now.n }
+    ensures rows_after { rows.new ≡ zones_class_sums lists.now.n lists.now.values.now lists.now.weights.now lists.now.classes.now }
     ensures class_locals_after { class_locals.new
-        ≡ zones_class_locals n values.now weights.now classes.now }
-    ensures locals_after { locals.new ≡ zones_locals n values.now weights.now }
+        ≡ zones_class_locals lists.now.n lists.now.values.now lists.now.weights.now lists.now.classes.now }
+    ensures locals_after { locals.new ≡ zones_locals lists.now.n lists.now.values.now lists.now.weights.now }
 {
+    let ClassLists { n, values, .. } = *lists;
     let mut d: [i64; 64] = [0; 64];
     deviations::deviations(n, values, total, &mut d[..n]);
     rows.fill(0);
     for i in 0..n {
-        add_zone(
-            n,
-            values,
-            &d[..n],
-            weights,
-            classes,
-            i,
-            rows,
-            class_locals,
-            locals,
-        );
+        add_zone(lists, &d[..n], i, rows, class_locals, locals);
     }
 }
 
@@ -147,36 +129,24 @@ pub(super) fn nine_together(rows: &[i64], place: usize) -> i64
 
 // The class account of n zones, and the sums of them all, of which the classes give three.
 pub(super) fn zone_classes(
-    n: usize,
-    values: &[i32],
-    weights: &[u8],
-    classes: &[u8],
+    lists: &ClassLists,
     rows: &mut [i64],
     class_locals: &mut [i64],
     locals: &mut [i64],
 ) -> Sums
-    requires class_job { ClassJob values.now weights.now classes.now n }
     requires rows_len { length rows.old ≡ 27 }
-    requires class_locals_len { length class_locals.old ≡ 9 * n }
-    requires locals_len { length locals.old ≡ n }
-    ensures result_value { listed result ≡ zones_figures n values.now weights.now }
-    ensures rows_after { rows.new ≡ zones_class_sums n values.now weights.now classes.now }
+    requires class_locals_len { length class_locals.old ≡ 9 * lists.now.n }
+    requires locals_len { length locals.old ≡ lists.now.n }
+    ensures result_value { listed result ≡ zones_figures lists.now.n lists.now.values.now lists.now.weights.now }
+    ensures rows_after { rows.new ≡ zones_class_sums lists.now.n lists.now.values.now lists.now.weights.now lists.now.classes.now }
     ensures class_locals_after { class_locals.new
-        ≡ zones_class_locals n values.now weights.now classes.now }
-    ensures locals_after { locals.new ≡ zones_locals n values.now weights.now }
+        ≡ zones_class_locals lists.now.n lists.now.values.now lists.now.weights.now lists.now.classes.now }
+    ensures locals_after { locals.new ≡ zones_locals lists.now.n lists.now.values.now lists.now.weights.now }
 {
+    let ClassLists { n, values, .. } = *lists;
     let total = deviations::total(n, values);
     let spread = differences::spread(n, values, total);
-    add_zones(
-        n,
-        values,
-        total,
-        weights,
-        classes,
-        rows,
-        class_locals,
-        locals,
-    );
+    add_zones(lists, total, rows, class_locals, locals);
     let weight = nine_together(rows, 0);
     let cross = deviations::sum_of(n, locals);
     let squares = nine_together(rows, 2);

@@ -3,7 +3,9 @@ ghost use Rattle.std.specs.Prelude.{◌≡◌, ◌≤◌, ◌<◌, length};
 ghost use Rattle.whole.specs.Sum.{sum};
 ghost use Rattle.whole.specs.Table.{table, at, pair_at};
 ghost use Rattle.account.specs.Measures.{total_of, deviation_of, row_of, local_of};
-ghost use Rattle.account.specs.Steps.{Sized, Valued, Weighted};
+ghost use Rattle.account.specs.Steps.{Sized, Valued};
+
+use crate::lists::Weighed;
 
 // S.
 pub(super) fn total(n: usize, values: &[i32]) -> i64
@@ -32,14 +34,13 @@ pub(super) fn deviations(n: usize, values: &[i32], total: i64, d: &mut [i64])
 }
 
 // The weighted neighbours of zone i: the sum over j of w(i,j) d(j).
-pub(super) fn neighbour_sum(n: usize, weights: &[u8], d: &[i64], i: usize) -> i64
-    requires weighted { Weighted weights.now n }
-    requires sized { Sized 12800000 d.now n }
-    requires i_lt_n { i < n }
-    ensures { result ≡ row_of (pair_at weights.now n) (λ i j. at d.now j) i n }
+pub(super) fn neighbour_sum(weighed: &Weighed, i: usize) -> i64
+    requires { i < weighed.now.n }
+    ensures { result ≡ row_of (pair_at weighed.now.weights.now weighed.now.n) (λ i j. at weighed.now.d.now j) i weighed.now.n }
 {
-    let first = i * n;
-    let row = &weights[first..first + n];
+    let d = weighed.d;
+    let first = i * weighed.n;
+    let row = &weighed.weights[first..first + weighed.n];
     let mut acc: i64 = 0;
     // by j: a zip of the two costs a tenth more where there are few zones
     for (j, weight) in row.iter().enumerate() {
@@ -49,14 +50,14 @@ pub(super) fn neighbour_sum(n: usize, weights: &[u8], d: &[i64], i: usize) -> i6
 }
 
 // The local numerators L(i).
-pub(super) fn local_numerators(n: usize, weights: &[u8], d: &[i64], locals: &mut [i64])
-    requires weighted { Weighted weights.now n }
-    requires sized { Sized 12800000 d.now n }
-    requires locals_len { length locals.old ≡ n }
-    ensures { locals.new ≡ table (local_of (pair_at weights.now n) (at d.now) n) n }
+pub(super) fn local_numerators(weighed: &Weighed, locals: &mut [i64])
+    requires { length locals.old ≡ weighed.now.n }
+    ensures { locals.new
+        ≡ table (local_of (pair_at weighed.now.weights.now weighed.now.n) (at weighed.now.d.now) weighed.now.n) weighed.now.n }
 {
+    let d = weighed.d;
     for (i, local) in locals.iter_mut().enumerate() {
-        let neighbours = neighbour_sum(n, weights, d, i);
+        let neighbours = neighbour_sum(weighed, i);
         *local = d[i] * neighbours;
     }
 }

@@ -4,7 +4,9 @@ ghost use Rattle.whole.specs.Integer.{square};
 ghost use Rattle.whole.specs.Sum.{sum};
 ghost use Rattle.whole.specs.Table.{at, pair_at};
 ghost use Rattle.account.specs.Measures.{total_of, spread_of, row_of, squares_of};
-ghost use Rattle.account.specs.Steps.{Valued, Job};
+ghost use Rattle.account.specs.Steps.{Valued};
+
+use crate::lists::JobLists;
 
 // The squared difference of two values.
 pub(super) fn squared_difference(a: i32, b: i32) -> i64
@@ -42,15 +44,15 @@ pub(super) fn spread(n: usize, values: &[i32], total: i64) -> i64
 }
 
 // The weighted squared differences of zone i.
-pub(super) fn row_squares(n: usize, values: &[i32], weights: &[u8], i: usize) -> i64
-    requires job { Job values.now weights.now n }
-    requires i_lt_n { i < n }
-    ensures { result ≡ row_of (pair_at weights.now n)
-        (λ i j. square (at values.now i -ℤ at values.now j)) i n }
+pub(super) fn row_squares(job: &JobLists, i: usize) -> i64
+    requires { i < job.now.n }
+    ensures { result ≡ row_of (pair_at job.now.weights.now job.now.n)
+        (λ i j. square (at job.now.values.now i -ℤ at job.now.values.now j)) i job.now.n }
 {
+    let values = job.values;
     let own = values[i];
-    let first = i * n;
-    let row = &weights[first..first + n];
+    let first = i * job.n;
+    let row = &job.weights[first..first + job.n];
     let mut acc: i64 = 0;
     // by j: a zip of the two is compiled to products of vectors, which take half as long again
     for (j, weight) in row.iter().enumerate() {
@@ -60,13 +62,12 @@ pub(super) fn row_squares(n: usize, values: &[i32], weights: &[u8], i: usize) ->
 }
 
 // G.
-pub(super) fn squares(n: usize, values: &[i32], weights: &[u8]) -> i64
-    requires { Job values.now weights.now n }
-    ensures { result ≡ squares_of (pair_at weights.now n) (at values.now) n }
+pub(super) fn squares(job: &JobLists) -> i64
+    ensures { result ≡ squares_of (pair_at job.now.weights.now job.now.n) (at job.now.values.now) job.now.n }
 {
     let mut acc: i64 = 0;
-    for i in 0..n {
-        acc += row_squares(n, values, weights, i);
+    for i in 0..job.n {
+        acc += row_squares(job, i);
     }
     acc
 }

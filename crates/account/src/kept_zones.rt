@@ -1,220 +1,163 @@
 // The work on a job that was judged and accepted: its zones kept are worked as zones all of which count. Where every zone is kept that is
 // the job as it was lent. Else their lists are gathered first, and what belongs to a zone is put back at it.
 ghost use Rattle.std.specs.Prelude.{◌≡◌, ◌*◌, length};
-ghost use Rattle.kept.specs.Kept.{kept_zones, kept_count, kept_values, kept_pairs, kept_shuffles};
+ghost use Rattle.whole.specs.Table.{table};
+ghost use Rattle.kept.specs.Kept.{kept_count, kept_values, kept_pairs, kept_shuffles};
 ghost use Rattle.shuffles.specs.Steps.{Shuffles};
 ghost use Rattle.account.specs.Answers.{listed, job_figures, job_locals};
 ghost use Rattle.account.specs.Classes.{class_sums, class_locals_of};
 ghost use Rattle.account.specs.Rank.{zones_rank, three};
-ghost use Rattle.account.specs.Steps.{Job, ClassJob};
+ghost use Rattle.account.specs.Steps.{ClassJob, gathered, gathered_pairs, place_in};
 
+use crate::lists::{ClassLists, JobLists, KeptLists};
 use crate::{Counts, Sums, classes, keeping, ranking, working};
 
-// 4,096 places for pairs of zones, and 31,936 for shuffles. Only their number is promised, so that the lists stay small in proofs.
-fn pair_room() -> [u8; 4096]
-    ensures { 4096 ≡ length result }
-{
-    [0; 4096]
+// The job of the zones kept, and the place of each zone of the whole job among them.
+#[derive(Clone, Copy)]
+struct Gathered<'a> {
+    job: JobLists<'a, 'a>,
+    places: &'a [u8],
 }
 
-fn shuffle_room() -> [u8; 31936]
-    ensures { 31936 ≡ length result }
+// Gathers the job of the zones kept into room that is lent.
+fn gather<'a>(
+    kept: &KeptLists,
+    value_space: &'a mut [i32; 64],
+    weight_space: &'a mut [u8; 4096],
+    place_space: &'a mut [u8; 64],
+) -> Gathered<'a>
+    ensures n { result.job.n ≡ length kept.now.zones.now }
+    ensures values { result.job.values.now ≡ gathered kept.now.job.values.now kept.now.zones.now }
+    ensures weights { result.job.weights.now
+        ≡ gathered_pairs kept.now.job.n kept.now.job.weights.now kept.now.zones.now }
+    ensures places { result.places.now ≡ table (place_in kept.now.zones.now) kept.now.job.n }
 {
-    [0; 31936]
-}
-
-// The sums of a job in which zones are left out, with the local numerators of all zones in `locals`.
-fn sums_of_kept(n: usize, values: &[i32], weights: &[u8], zones: &[u8], locals: &mut [i64]) -> Sums
-    requires job { Job values.now weights.now n }
-    requires zones_value { zones.now ≡ kept_zones n weights.now }
-    requires locals_len { length locals.old ≡ n }
-    ensures result_value { listed result ≡ job_figures n values.now weights.now }
-    ensures locals_after { locals.new ≡ job_locals n values.now weights.now }
-{
+    let KeptLists { job, zones } = *kept;
+    let JobLists { n, values, weights } = job;
     let many = zones.len();
     let pairs = many * many;
-    let mut value_space: [i32; 64] = [0; 64];
     let kept_values = &mut value_space[..many];
     keeping::gather_values(values, zones, kept_values);
-    let mut weight_space = pair_room();
     let kept_weights = &mut weight_space[..pairs];
     keeping::gather_pairs(n, weights, zones, kept_weights);
-    let mut local_space: [i64; 64] = [0; 64];
-    let kept_locals = &mut local_space[..many];
-    let sums = working::zone_sums(many, kept_values, kept_weights, kept_locals);
-    let mut place_space: [u8; 64] = [0; 64];
     let places = &mut place_space[..n];
     keeping::find_places(n, zones, places);
-    keeping::put_back(places, kept_locals, locals);
+    Gathered {
+        job: JobLists {
+            n: many,
+            values: kept_values,
+            weights: kept_weights,
+        },
+        places,
+    }
+}
+
+// The sums of a job, with its local numerators in `locals`.
+pub(super) fn job_sums(kept: &KeptLists, locals: &mut [i64]) -> Sums
+    requires { length locals.old ≡ kept.now.job.n }
+    ensures result_value { listed result
+        ≡ job_figures kept.now.job.n kept.now.job.values.now kept.now.job.weights.now }
+    ensures locals_after { locals.new
+        ≡ job_locals kept.now.job.n kept.now.job.values.now kept.now.job.weights.now }
+{
+    let KeptLists { job, zones } = *kept;
+    if zones.len() == job.n {
+        return working::zone_sums(&job, locals);
+    }
+    let mut value_space: [i32; 64] = [0; 64];
+    let mut weight_space: [u8; 4096] = rooms::room();
+    let mut place_space: [u8; 64] = [0; 64];
+    let gathered = gather(kept, &mut value_space, &mut weight_space, &mut place_space);
+    let mut local_space: [i64; 64] = [0; 64];
+    let kept_locals = &mut local_space[..gathered.job.n];
+    let sums = working::zone_sums(&gathered.job, kept_locals);
+    keeping::put_back(gathered.places, kept_locals, locals);
     sums
 }
 
-// The sums of a job, with its local numerators in `locals`; `zones` are those kept.
-pub(super) fn job_sums(
-    n: usize,
-    values: &[i32],
-    weights: &[u8],
-    zones: &[u8],
-    locals: &mut [i64],
-) -> Sums
-    requires job { Job values.now weights.now n }
-    requires zones_value { zones.now ≡ kept_zones n weights.now }
-    requires locals_len { length locals.old ≡ n }
-    ensures result_value { listed result ≡ job_figures n values.now weights.now }
-    ensures locals_after { locals.new ≡ job_locals n values.now weights.now }
-{
-    if zones.len() == n {
-        return working::zone_sums(n, values, weights, locals);
-    }
-    sums_of_kept(n, values, weights, zones, locals)
-}
-
-// The class account of a job in which zones are left out.
-fn classes_of_kept(
-    n: usize,
-    values: &[i32],
-    weights: &[u8],
-    classes: &[u8],
-    zones: &[u8],
+// The class account of a job.
+pub(super) fn work_classes<'a>(
+    kept: &KeptLists<'a, 'a, 'a>,
+    classes: &'a [u8],
     rows: &mut [i64],
     class_locals: &mut [i64],
     locals: &mut [i64],
 ) -> Sums
-    requires class_job { ClassJob values.now weights.now classes.now n }
-    requires zones_value { zones.now ≡ kept_zones n weights.now }
+    requires classed { ClassJob kept.now.job.values.now kept.now.job.weights.now classes.now kept.now.job.n }
     requires rows_len { length rows.old ≡ 27 }
-    requires class_locals_len { length class_locals.old ≡ 9 * n }
-    requires locals_len { length locals.old ≡ n }
-    ensures result_value { listed result ≡ job_figures n values.now weights.now }
-    ensures rows_after { rows.new ≡ class_sums n values.now weights.now classes.now }
+    requires class_locals_len { length class_locals.old ≡ 9 * kept.now.job.n }
+    requires locals_len { length locals.old ≡ kept.now.job.n }
+    ensures result_value { listed result
+        ≡ job_figures kept.now.job.n kept.now.job.values.now kept.now.job.weights.now }
+    ensures rows_after { rows.new
+        ≡ class_sums kept.now.job.n kept.now.job.values.now kept.now.job.weights.now classes.now }
     ensures class_locals_after { class_locals.new
-        ≡ class_locals_of n values.now weights.now classes.now }
-    ensures locals_after { locals.new ≡ job_locals n values.now weights.now }
+        ≡ class_locals_of kept.now.job.n kept.now.job.values.now kept.now.job.weights.now classes.now }
+    ensures locals_after { locals.new
+        ≡ job_locals kept.now.job.n kept.now.job.values.now kept.now.job.weights.now }
 {
-    let many = zones.len();
-    let pairs = many * many;
+    let KeptLists { job, zones } = *kept;
+    if zones.len() == job.n {
+        let JobLists { n, values, weights } = job;
+        let lists = ClassLists {
+            n,
+            values,
+            weights,
+            classes,
+        };
+        return classes::zone_classes(&lists, rows, class_locals, locals);
+    }
     let mut value_space: [i32; 64] = [0; 64];
-    let kept_values = &mut value_space[..many];
-    keeping::gather_values(values, zones, kept_values);
-    let mut weight_space = pair_room();
-    let kept_weights = &mut weight_space[..pairs];
-    keeping::gather_pairs(n, weights, zones, kept_weights);
-    let mut class_space = pair_room();
+    let mut weight_space: [u8; 4096] = rooms::room();
+    let mut place_space: [u8; 64] = [0; 64];
+    let gathered = gather(kept, &mut value_space, &mut weight_space, &mut place_space);
+    let JobLists {
+        n: many,
+        values,
+        weights,
+    } = gathered.job;
+    let pairs = many * many;
+    let mut class_space: [u8; 4096] = rooms::room();
     let kept_classes = &mut class_space[..pairs];
-    keeping::gather_pairs(n, classes, zones, kept_classes);
+    keeping::gather_pairs(job.n, classes, zones, kept_classes);
     let nine = 9 * many;
     let mut nine_space: [i64; 576] = [0; 576];
     let kept_nine = &mut nine_space[..nine];
     let mut local_space: [i64; 64] = [0; 64];
     let kept_locals = &mut local_space[..many];
-    let sums = classes::zone_classes(
-        many,
-        kept_values,
-        kept_weights,
-        kept_classes,
-        rows,
-        kept_nine,
-        kept_locals,
-    );
-    let mut place_space: [u8; 64] = [0; 64];
-    let places = &mut place_space[..n];
-    keeping::find_places(n, zones, places);
-    keeping::put_back_rows(places, many, kept_nine, class_locals);
-    keeping::put_back(places, kept_locals, locals);
+    let lists = ClassLists {
+        n: many,
+        values,
+        weights,
+        classes: kept_classes,
+    };
+    let sums = classes::zone_classes(&lists, rows, kept_nine, kept_locals);
+    keeping::put_back_rows(gathered.places, many, kept_nine, class_locals);
+    keeping::put_back(gathered.places, kept_locals, locals);
     sums
 }
 
-// The class account of a job; `zones` are those kept.
-pub(super) fn work_classes(
-    n: usize,
-    values: &[i32],
-    weights: &[u8],
-    classes: &[u8],
-    zones: &[u8],
-    rows: &mut [i64],
-    class_locals: &mut [i64],
-    locals: &mut [i64],
-) -> Sums
-    requires class_job { ClassJob values.now weights.now classes.now n }
-    requires zones_value { zones.now ≡ kept_zones n weights.now }
-    requires rows_len { length rows.old ≡ 27 }
-    requires class_locals_len { length class_locals.old ≡ 9 * n }
-    requires locals_len { length locals.old ≡ n }
-    ensures result_value { listed result ≡ job_figures n values.now weights.now }
-    ensures rows_after { rows.new ≡ class_sums n values.now weights.now classes.now }
-    ensures class_locals_after { class_locals.new
-        ≡ class_locals_of n values.now weights.now classes.now }
-    ensures locals_after { locals.new ≡ job_locals n values.now weights.now }
+// The rank of a job.
+pub(super) fn work_rank(kept: &KeptLists, shuffles: &[u8], rows: usize) -> Counts
+    requires { Shuffles shuffles.now kept.now.job.n rows }
+    ensures { three result
+        ≡ zones_rank rows (kept_count kept.now.job.n kept.now.job.weights.now)
+        (kept_values kept.now.job.n kept.now.job.weights.now kept.now.job.values.now)
+        (kept_pairs kept.now.job.n kept.now.job.weights.now kept.now.job.weights.now)
+        (kept_shuffles kept.now.job.n kept.now.job.weights.now rows shuffles.now) }
 {
-    if zones.len() == n {
-        return classes::zone_classes(n, values, weights, classes, rows, class_locals, locals);
+    let KeptLists { job, zones } = *kept;
+    if zones.len() == job.n {
+        return ranking::zone_rank(&job, shuffles, rows);
     }
-    classes_of_kept(
-        n,
-        values,
-        weights,
-        classes,
-        zones,
-        rows,
-        class_locals,
-        locals,
-    )
-}
-
-// The rank of a job in which zones are left out.
-fn rank_of_kept(
-    n: usize,
-    values: &[i32],
-    weights: &[u8],
-    zones: &[u8],
-    shuffles: &[u8],
-    rows: usize,
-) -> Counts
-    requires job { Job values.now weights.now n }
-    requires zones_value { zones.now ≡ kept_zones n weights.now }
-    requires shuffles { Shuffles shuffles.now n rows }
-    ensures { three result ≡ zones_rank rows (kept_count n weights.now)
-        (kept_values n weights.now values.now)
-        (kept_pairs n weights.now weights.now)
-        (kept_shuffles n weights.now rows shuffles.now) }
-{
-    let many = zones.len();
-    let pairs = many * many;
     let mut value_space: [i32; 64] = [0; 64];
-    let kept_values = &mut value_space[..many];
-    keeping::gather_values(values, zones, kept_values);
-    let mut weight_space = pair_room();
-    let kept_weights = &mut weight_space[..pairs];
-    keeping::gather_pairs(n, weights, zones, kept_weights);
+    let mut weight_space: [u8; 4096] = rooms::room();
     let mut place_space: [u8; 64] = [0; 64];
-    let places = &mut place_space[..n];
-    keeping::find_places(n, zones, places);
+    let gathered = gather(kept, &mut value_space, &mut weight_space, &mut place_space);
+    let many = gathered.job.n;
     let numbers = rows * many;
-    let mut shuffle_space = shuffle_room();
+    let mut shuffle_space: [u8; 31936] = rooms::room();
     let kept_shuffles = &mut shuffle_space[..numbers];
-    keeping::keep_rows(n, shuffles, rows, places, many, kept_shuffles);
-    ranking::zone_rank(many, kept_values, kept_weights, kept_shuffles, rows)
-}
-
-// The rank of a job; `zones` are those kept.
-pub(super) fn work_rank(
-    n: usize,
-    values: &[i32],
-    weights: &[u8],
-    zones: &[u8],
-    shuffles: &[u8],
-    rows: usize,
-) -> Counts
-    requires job { Job values.now weights.now n }
-    requires zones_value { zones.now ≡ kept_zones n weights.now }
-    requires shuffles { Shuffles shuffles.now n rows }
-    ensures { three result ≡ zones_rank rows (kept_count n weights.now)
-        (kept_values n weights.now values.now)
-        (kept_pairs n weights.now weights.now)
-        (kept_shuffles n weights.now rows shuffles.now) }
-{
-    if zones.len() == n {
-        return ranking::zone_rank(n, values, weights, shuffles, rows);
-    }
-    rank_of_kept(n, values, weights, zones, shuffles, rows)
+    keeping::keep_rows(job.n, shuffles, rows, gathered.places, many, kept_shuffles);
+    ranking::zone_rank(&gathered.job, kept_shuffles, rows)
 }

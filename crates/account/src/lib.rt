@@ -9,6 +9,7 @@ mod differences;
 mod judging;
 mod keeping;
 mod kept_zones;
+mod lists;
 mod ranking;
 mod shuffling;
 mod working;
@@ -23,6 +24,7 @@ ghost use Rattle.account.specs.Rank.{rank_refusal, rank_counts, counts_of};
 
 // What the reader and the writer of the job image judge by too.
 pub use judging::judge;
+use lists::{JobLists, KeptLists};
 use refusals::Refusal;
 
 // The whole numbers of a job.
@@ -75,7 +77,12 @@ pub fn account(
 {
     let mut zones: [u8; 64] = [0; 64];
     let many = judging::judge_account(n, values, weights, locals.len(), &mut zones)?;
-    Ok(kept_zones::job_sums(n, values, weights, &zones[..many], locals))
+    let job = JobLists { n, values, weights };
+    let kept = KeptLists {
+        job,
+        zones: &zones[..many],
+    };
+    Ok(kept_zones::job_sums(&kept, locals))
 }
 
 // Works the class account of the job, whose pairs have the classes lent, and answers what the account answers: `rows` has 27 places for
@@ -113,16 +120,12 @@ pub fn class_account(
         locals.len(),
         &mut zones,
     )?;
-    Ok(kept_zones::work_classes(
-        n,
-        values,
-        weights,
-        classes,
-        &zones[..many],
-        rows,
-        class_locals,
-        locals,
-    ))
+    let job = JobLists { n, values, weights };
+    let kept = KeptLists {
+        job,
+        zones: &zones[..many],
+    };
+    Ok(kept_zones::work_classes(&kept, classes, rows, class_locals, locals))
 }
 
 // Counts the shuffles whose P is less than, equal to and greater than the job's own, which is not counted itself. `shuffles` has a row
@@ -134,5 +137,10 @@ pub fn rank(n: usize, values: &[i32], weights: &[u8], shuffles: &[u8]) -> Result
     let mut zones: [u8; 64] = [0; 64];
     let many = judging::judge_rank(n, values, weights, shuffles, &mut zones)?;
     let rows = shuffles.len() / n;
-    Ok(kept_zones::work_rank(n, values, weights, &zones[..many], shuffles, rows))
+    let job = JobLists { n, values, weights };
+    let kept = KeptLists {
+        job,
+        zones: &zones[..many],
+    };
+    Ok(kept_zones::work_rank(&kept, shuffles, rows))
 }

@@ -1,11 +1,12 @@
 // The work on zones all of which count: the sums over their pairs, and all sums.
 ghost use Rattle.std.specs.Prelude.{◌≡◌, length};
-ghost use Rattle.whole.specs.Table.{table, at, pair_at};
-ghost use Rattle.account.specs.Measures.{deviation_of, weight_of};
-ghost use Rattle.account.specs.Answers.{listed, class_row, zones_figures};
-ghost use Rattle.account.specs.Steps.{Weighted, Job, zones_locals};
+ghost use Rattle.whole.specs.Table.{pair_at};
+ghost use Rattle.account.specs.Measures.{weight_of};
+ghost use Rattle.account.specs.Answers.{listed, zones_figures};
+ghost use Rattle.account.specs.Steps.{Weighted, zones_locals};
 
-use crate::{ClassRow, Sums, deviations, differences};
+use crate::lists::{JobLists, Weighed};
+use crate::{Sums, deviations, differences};
 
 // W, in 32 bits, so that the compiler can add several weights at a time.
 pub(super) fn weight_sum(n: usize, weights: &[u8]) -> i64
@@ -19,49 +20,32 @@ pub(super) fn weight_sum(n: usize, weights: &[u8]) -> i64
     i64::from(acc)
 }
 
-// W, P and G for weights of any kind, with the local numerators in `locals`. The deviations d are those of the whole job.
-pub(super) fn pair_sums(
-    n: usize,
-    values: &[i32],
-    d: &[i64],
-    weights: &[u8],
-    locals: &mut [i64],
-) -> ClassRow
-    requires job { Job values.now weights.now n }
-    requires d_value { d.now ≡ table (deviation_of (at values.now) n) n }
-    requires locals_len { length locals.old ≡ n }
-    ensures value { result ≡ class_row (pair_at weights.now n) (at values.now) n }
-    ensures locals_after { locals.new ≡ zones_locals n values.now weights.now }
-{
-    deviations::local_numerators(n, weights, d, locals);
-    let cross = deviations::sum_of(n, locals);
-    let weight = weight_sum(n, weights);
-    let squares = differences::squares(n, values, weights);
-    ClassRow {
-        weight,
-        cross,
-        squares,
-    }
-}
-
 // The sums of n zones, with their local numerators in `locals`.
-pub(super) fn zone_sums(n: usize, values: &[i32], weights: &[u8], locals: &mut [i64]) -> Sums
-    requires job { Job values.now weights.now n }
-    requires locals_len { length locals.old ≡ n }
-    ensures result_value { listed result ≡ zones_figures n values.now weights.now }
-    ensures locals_after { locals.new ≡ zones_locals n values.now weights.now }
+pub(super) fn zone_sums(job: &JobLists, locals: &mut [i64]) -> Sums
+    requires { length locals.old ≡ job.now.n }
+    ensures result_value { listed result ≡ zones_figures job.now.n job.now.values.now job.now.weights.now }
+    ensures locals_after { locals.new ≡ zones_locals job.now.n job.now.values.now job.now.weights.now }
 {
+    let JobLists { n, values, weights } = *job;
     let total = deviations::total(n, values);
     let spread = differences::spread(n, values, total);
     let mut d: [i64; 64] = [0; 64];
     deviations::deviations(n, values, total, &mut d[..n]);
-    let pairs = pair_sums(n, values, &d[..n], weights, locals);
+    let weighed = Weighed {
+        n,
+        weights,
+        d: &d[..n],
+    };
+    deviations::local_numerators(&weighed, locals);
+    let cross = deviations::sum_of(n, locals);
+    let weight = weight_sum(n, weights);
+    let squares = differences::squares(job);
     Sums {
         total,
         spread,
-        weight: pairs.weight,
-        cross: pairs.cross,
-        squares: pairs.squares,
+        weight,
+        cross,
+        squares,
         kept: n,
     }
 }

@@ -47,7 +47,7 @@ pub(super) struct Shape {
 
 impl Shape {
     // The zone that a step from the cell of a row and a column leads to, if one of the grid.
-    fn target(self, row: usize, column: usize, step: (isize, isize)) -> Option<usize>
+    fn reached(self, row: usize, column: usize, step: (isize, isize)) -> Option<usize>
         requires row_bound { row < self.rows }
         requires column_bound { column < self.columns }
         ensures within { IfSome result (λ j. j < self.rows * self.columns) }
@@ -67,7 +67,7 @@ impl Shape {
     {
         marks.fill(0);
         for &step in steps(kind) {
-            if let Some(zone) = self.target(row, column, step) {
+            if let Some(zone) = self.reached(row, column, step) {
                 marks[zone] = 1;
             }
         }

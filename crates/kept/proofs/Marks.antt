@@ -11,7 +11,6 @@ use lib.ListN.{length, get_or, take, drop, length-drop}
 use lib.Seq.{get_or-take, get_or-drop, length-take-le}
 use Rattle.whole.specs.Search.{some, any_above}
 use Rattle.whole.specs.Table.{table, pair_at}
-use Rattle.whole.proofs.Lists.{few}
 use Rattle.whole.proofs.Search.{some_next, some_cong}
 use Rattle.whole.proofs.Table.{table_length, table_held, table_cong}
 use Rattle.kept.specs.Kept.{keeps}
@@ -20,9 +19,6 @@ use Rattle.kept.specs.Steps.{column_mark}
 -- ---- places of a row
 pub row_end : (n i : ℕ) → i < n → i * n + n ≤ n * n
 row_end n i h = omega (arith, N.mul-le-mul_right n h)
-
-pub row_few : (n i : ℕ) → n ≤ 64 → i < n → i * n + n ≤ 4096
-row_few n i z h = omega (arith, row_end n i h, few n z)
 
 -- ---- the row of zone i, taken out of the weights
 module _ (n : ℕ) (weights : List ℕ) (i : ℕ) where

@@ -1,5 +1,5 @@
 // What is put of the zones kept into a list that fits: their numbers, or a mark for each zone.
-ghost use Rattle.std.specs.Prelude.{◌≡◌, cond, ◌*◌, ◌≤◌, length};
+ghost use Rattle.std.specs.Prelude.{◌≡◌, cond, length};
 ghost use Rattle.whole.specs.Table.{table, over};
 ghost use Rattle.kept.specs.Kept.{keeps, kept_zones, kept_count};
 

@@ -1,5 +1,5 @@
 // Values not returned, which one value marks, and the weights that count: 0 in the row and in the column of a zone that has none.
-ghost use Rattle.std.specs.Prelude.{◌≡◌, not, cond, ◌&&◌, ◌||◌, ◌*◌, ◌≤◌, length, get_or};
+ghost use Rattle.std.specs.Prelude.{◌≡◌, not, cond, ◌&&◌, ◌||◌, ◌*◌, length, get_or};
 ghost use Rattle.whole.specs.Integer.{beyond, equal};
 ghost use Rattle.whole.specs.Table.{table};
 ghost use Rattle.kept.specs.Returned.{not_returned, missing, missing_count, reduced, any_value_beyond};

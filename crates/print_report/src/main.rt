@@ -3,9 +3,10 @@
 
 ghost use Rattle.std.specs.Prelude.{◌≡◌, ◌≤◌, length, take, OnOk, IfSome};
 ghost use Rattle.std.specs.Io.KnownBytes.{Appends};
+ghost use Rattle.refusals.specs.Refusals.{number_by};
 ghost use Rattle.report.specs.Text.{refusal_line, report_text, Decides};
 
-use report::Answer;
+use refusals::Refusal;
 use std::io;
 use std::io::{Read, Write};
 
@@ -24,21 +25,18 @@ fn print_text(image: &[u8], page: &mut [u8]) -> usize
     ensures page_after { take result page.new ≡ report_text image.now }
 {
     match report::report(image, page) {
-        Answer::Printed(length) => length,
-        Answer::Refused(number) => print_refusal(number, page),
+        Ok(length) => length,
+        Err(refusal) => print_refusal(refusal, page),
     }
 }
 
 // The line of a refusal at the front of the page, and its length.
-fn print_refusal(number: u8, page: &mut [u8]) -> usize
+fn print_refusal(refusal: Refusal, page: &mut [u8]) -> usize
     requires { length page.old ≡ 16384 }
     ensures upper_bound { result ≤ length page.new }
-    ensures page_after { take result page.new ≡ refusal_line number }
+    ensures page_after { take result page.new ≡ refusal_line (number_by refusal) }
 {
-    match report::refusal(number, page) {
-        Answer::Printed(length) => length,
-        Answer::Refused(_) => 0,
-    }
+    report::refusal(refusals::number_by(refusal), page).unwrap()
 }
 
 // Reads an image and writes its report.

@@ -35,19 +35,20 @@ module _ (n : ℕ) (places : List ℤ) (bands lent before : List ℕ) (so : Band
   pub unbanded : length bands ≡ 0 → Classed n places bands before
   unbanded z = record { within = record { classes_fit = as_long; low = none_above }; made = λ f. absurd (f z) }
 
-  -- with bands they make the classes
-  module _ (f : length bands ≡ 0 → ⊥) (left : List ℕ) (e : left ≡ bands_left n places bands before) where
-    taken : band_refusal n places bands (length before) ≡ 0
-    taken = ap (band_refusal n places bands) as_long ∙ so.banded f
+  -- with bands they are not refused
+  pub bands_taken : (length bands ≡ 0 → ⊥) → band_refusal n places bands (length before) ≡ 0
+  bands_taken f = ap (band_refusal n places bands) as_long ∙ so.banded f
 
+  -- and make the classes
+  module _ (f : length bands ≡ 0 → ⊥) (left : List ℕ) (e : left ≡ bands_left n places bands before) where
     made : left ≡ band_classes n places bands
-    made = classes_left n places bands before left e taken
+    made = classes_left n places bands before left e (bands_taken f)
 
     pub banded : Classed n places bands left
     banded = record {
       within = record {
         classes_fit = ap length made ∙ band_classes_length n places bands;
-        low = ap (any_above 8) made ∙ bands_never_9 n places bands (bands_accepted n places bands _ taken).few_bands;
+        low = ap (any_above 8) made ∙ bands_never_9 n places bands (bands_accepted n places bands _ (bands_taken f)).few_bands;
       };
       made = λ g. made;
     }

@@ -9,12 +9,14 @@ use lib.Dec.{eqb, ltb, leb-zero, leb-suc-zero, leb-suc-suc}
 use lib.IntN.{ℤ, pos, nat_abs}
 use lib.ListN.{length, get_or, take}
 use lib.Seq.{take-nil}
+use Rattle.std.specs.Prelude.{Result, Ok}
 use Rattle.whole.specs.Integer.{is_zero}
 use Rattle.whole.specs.Table.{table, at, pair_at, each}
 use Rattle.whole.proofs.Rules.{worked_when_taken}
 use Rattle.whole.proofs.Size.{one_some}
 use Rattle.whole.proofs.Stores.{each_same}
 use Rattle.whole.proofs.Table.{table_length, table_at}
+use Rattle.refusals.specs.declared.Refusal.{Refusal}
 use Rattle.nearest.specs.Answers.{nearest_bits}
 use Rattle.pages.specs.Lines.{line, numbers, bits}
 use Rattle.kept.specs.Kept.{keeps, kept_count, kept_values, kept_pairs}
@@ -28,13 +30,10 @@ use Rattle.hot_list.specs.HotList.{in_order, hot_list}
 use Rattle.hot_list.proofs.HotTheorems.{hot_list_length, hot_list_each, hot_list_kept_first}
 use Rattle.coefficients.specs.Coefficients.{pair_of, job_pair, class_pair, local_figures}
 use Rattle.coefficients.specs.Coefficients as coefficients
-use Rattle.coefficients.specs.FloatReport.{sums_in, pair_in, no_pair, plain_refusal, plain_sums, plain_whole, plain_classes}
+use Rattle.coefficients.specs.FloatReport.{sums_in, pair_in, pairs_in, no_pair, plain_refusal, plain_sums, plain_whole, plain_classes}
 use Rattle.coefficients.specs.FloatReport.{plain_rows, plain_locals, plain_figures}
-use Rattle.coefficients.specs.declared.Answer.{Answer}
-use Rattle.coefficients.specs.declared.Answer.TheVariants.{Refused, Reported}
 use Rattle.coefficients.specs.declared.Pair.{Pair}
 use Rattle.coefficients.specs.declared.Report.{Report}
-use Rattle.coefficients.specs.declared.Whole.{Whole}
 use Rattle.coefficients.proofs.Job.{spread_in, kept_in}
 use Rattle.report.specs.Lines.{coefficient}
 use Rattle.report.specs.Text.{whole_lines, job_lines, local_line, local_lines, pair_lines, rank_line, class_lines}
@@ -180,8 +179,8 @@ module _ (n : ℕ) (values : List ℤ) (weights : List ℕ) (sound : Sound n val
 -- it answers the sums and the pair of the job and the pairs of the classes, and leaves the rows, the local numerators and figures
 pub record Reports (n : ℕ) (values : List ℤ) (weights classes : List ℕ) (report : Report) (rows locals : List ℤ) (figures : List ℕ)
     : Type 0 where
-  pub sums : sums_in report.whole ≡ job_figures n values weights
-  pub of_job : pair_in report.whole ≡ job_pair n values weights ∷ []
+  pub sums : listed report.whole.sums ≡ job_figures n values weights
+  pub of_job : report.whole.pair ≡ job_pair n values weights
   pub of_classes : report.classes ≡ table (class_pair n values weights classes) 9
   pub in_rows : rows ≡ class_sums n values weights classes
   pub in_locals : locals ≡ job_locals n values weights
@@ -190,43 +189,30 @@ pub record Reports (n : ℕ) (values : List ℤ) (weights classes : List ℕ) (r
 module _ {n : ℕ} {values : List ℤ} {weights classes : List ℕ} (sound : Sound n values weights) (low : Low n classes)
     (rows locals : List ℤ) (figures : List ℕ) (rows_fit : length rows ≡ 27) (locals_fit : length locals ≡ n)
     (figures_fit : length figures ≡ n) where
-  plain_taken : plain_refusal n values weights classes rows locals figures ≡ 0
+  pub plain_taken : plain_refusal n values weights classes rows locals figures ≡ 0
   unfolding plain_refusal
   plain_taken =
       sound.classed classes ((length rows, 27) ∷ (length locals, n) ∷ (length figures, n) ∷ []) low.classes_fit low.low
       (rw (eq-eqb (length rows) 27 rows_fit, eq-eqb (length locals) n locals_fit, eq-eqb (length figures) n figures_fit) refl)
 
   pub reports :
-      {report : Report} {in_rows in_locals : List ℤ} {in_figures : List ℕ} →
-      sums_in report.whole ≡ plain_sums n values weights classes rows locals figures →
-      pair_in report.whole ≡ plain_whole n values weights classes rows locals figures →
-      report.classes ≡ plain_classes n values weights classes rows locals figures →
+      {r : Result Report Refusal} {report : Report} {in_rows in_locals : List ℤ} {in_figures : List ℕ} → r ≡ Ok report →
+      sums_in r ≡ plain_sums n values weights classes rows locals figures →
+      pair_in r ≡ plain_whole n values weights classes rows locals figures →
+      pairs_in r ≡ plain_classes n values weights classes rows locals figures →
       in_rows ≡ plain_rows n values weights classes rows locals figures →
       in_locals ≡ plain_locals n values weights classes rows locals figures →
       in_figures ≡ plain_figures n values weights classes rows locals figures →
       Reports n values weights classes report in_rows in_locals in_figures
-  unfolding plain_sums plain_whole plain_classes plain_rows plain_locals plain_figures
-  reports sums whole pairs e f g = record {
-    sums = sums ∙ worked_when_taken _ _ _ plain_taken;
-    of_job = whole ∙ worked_when_taken _ _ _ plain_taken;
-    of_classes = pairs ∙ worked_when_taken _ _ _ plain_taken;
+  unfolding sums_in pair_in pairs_in plain_sums plain_whole plain_classes plain_rows plain_locals plain_figures
+  reports told sums whole pairs e f g = record {
+    sums = sym (ap sums_in told) ∙ sums ∙ worked_when_taken _ _ _ plain_taken;
+    of_job = ap (λ l. get_or l 0 no_pair) (sym (ap pair_in told) ∙ whole ∙ worked_when_taken _ _ _ plain_taken);
+    of_classes = sym (ap pairs_in told) ∙ pairs ∙ worked_when_taken _ _ _ plain_taken;
     in_rows = e ∙ worked_when_taken _ _ _ plain_taken;
     in_locals = f ∙ worked_when_taken _ _ _ plain_taken;
     of_zones = g ∙ worked_when_taken _ _ _ plain_taken;
   }
-
--- an answer that has a pair is no refusal
-pub never_refused : {r : Answer} {pair : Pair} {k : ℕ} → pair_in r ≡ pair ∷ [] → r ≡ Refused k → ⊥
-unfolding pair_in
-never_refused e f = let z : ◌≡◌ {A = ℕ} 0 1 = ap length (sym (ap pair_in f) ∙ e) in omega arith
-
-pub pair_is : {r : Answer} {whole : Whole} {other : Pair} → pair_in r ≡ other ∷ [] → r ≡ Reported whole → whole.pair ≡ other
-unfolding pair_in
-pair_is e f = ap (λ l. get_or l 0 no_pair) (sym (ap pair_in f) ∙ e)
-
-pub sums_are : {r : Answer} {whole : Whole} {list : List ℤ} → sums_in r ≡ list → r ≡ Reported whole → listed whole.sums ≡ list
-unfolding sums_in
-sums_are e f = sym (ap sums_in f) ∙ e
 
 -- ---- the class lines, where there are bands
 pub class_lines_are :

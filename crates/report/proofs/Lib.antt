@@ -9,3 +9,4 @@ pub mod Printing
 pub mod FirstBytes
 pub mod AllKept
 pub mod Theorems
+pub mod Unrefused

@@ -6,44 +6,48 @@ use native.Mathlib.Omega.{arith}
 use borrow.Author.Tests.{eq-eqb, ne_eqb}
 use lib.ListN.{length, get_or, take, drop, length-append}
 use lib.Seq.{take_at}
+use Rattle.std.specs.Prelude.{Result, Ok, Err}
+use Rattle.std.specs.Result.{IsOk}
 use Rattle.whole.specs.Table.{over}
-use Rattle.whole.proofs.Rules.{kept_when_refused, worked_when_taken}
+use Rattle.whole.proofs.Rules.{worked_when_taken}
+use Rattle.refusals.specs.declared.Refusal.{Refusal}
+use Rattle.refusals.specs.Refusals.{number_by, number_of}
+use Rattle.refusals.proofs.Refusals.{left_by}
 use Rattle.image.specs.Image.{image_refusal}
-use Rattle.report.specs.Text.{image_text, refusal_line, report_text, number_of, length_in}
+use Rattle.report.specs.Text.{image_text, refusal_line, report_text, length_in}
 use Rattle.report.specs.Text.{print_refusal, print_length, page_left, line_refusal, line_length, line_left}
 use Rattle.report.specs.Steps.{Put, Prints}
-use Rattle.report.specs.declared.Answer.{Answer}
-use Rattle.report.specs.declared.Answer.TheVariants.{Refused, Printed}
 use Rattle.report.proofs.Puts.{put_over}
+use Rattle.report.proofs.Unrefused.{unrefused}
 
 -- ---- the report
 module _ (image page : List ℕ) where
-  abbrev Promised : Answer → List ℕ → Type 0
+  abbrev Promised : Result ℕ Refusal → List ℕ → Type 0
   Promised r left =
       (number_of r ≡ print_refusal image page) × ((length_in r ≡ print_length image page) × (left ≡ page_left image page))
 
-  pub by_page : (length page ≡ 16384 → ⊥) → Promised (Refused 2) page
-  unfolding number_of length_in print_refusal print_length page_left
-  by_page f = rw (ne_eqb (length page) 16384 f) (refl, (refl, refl))
+  pub by_page : (length page ≡ 16384 → ⊥) → (e : Refusal) → number_by e ≡ line_refusal page → Promised (Err e) page
+  unfolding length_in line_refusal print_refusal print_length page_left
+  by_page f e h = rw (ne_eqb (length page) 16384 f) (rw (ne_eqb (length page) 16384 f) at h, (refl, refl))
 
-  pub by_image : length page ≡ 16384 → (r : Answer) (left : List ℕ) → Prints image page left r → Promised r left
+  pub by_image : length page ≡ 16384 → (r : Result ℕ Refusal) (left : List ℕ) → Prints image page left r → Promised r left
   unfolding print_refusal print_length page_left image_refusal
   by_image e r left p = rw (eq-eqb (length page) 16384 e) (p.number, (p.long, p.page))
 
 -- ---- the line of a refusal
 module _ (number : ℕ) (page : List ℕ) where
-  abbrev PromisedLine : Answer → List ℕ → Type 0
+  abbrev PromisedLine : Result ℕ Refusal → List ℕ → Type 0
   PromisedLine r left =
       (number_of r ≡ line_refusal page) × ((length_in r ≡ line_length number page) × (left ≡ line_left number page))
 
-  pub line_by_page : (length page ≡ 16384 → ⊥) → PromisedLine (Refused 2) page
-  unfolding number_of length_in line_refusal line_length line_left
-  line_by_page f = rw (ne_eqb (length page) 16384 f) (refl, (refl, refl))
+  pub line_by_page : (e : Refusal) → number_by e ≡ line_refusal page → PromisedLine (Err e) page
+  unfolding length_in line_length line_left
+  line_by_page e h = (h, (sym (left_by _ _ _ e h), sym (left_by _ _ _ e h)))
 
   pub line_by_text :
       length page ≡ 16384 → {left : List ℕ} {place : ℕ} → Put page left 0 place 96 (refusal_line number) →
-      PromisedLine (Printed place) left
-  unfolding number_of length_in line_refusal line_length line_left
+      PromisedLine (Ok place) left
+  unfolding length_in line_refusal line_length line_left
   line_by_text e put =
       rw (eq-eqb (length page) 16384 e)
       (refl, (ap (λ k. k ∷ []) (omega (arith, put.behind)), put_over put (omega (arith, put.behind, put.few, e))))
@@ -57,15 +61,15 @@ front text page left long e f = (
   omega (arith, ap length e, length-append text (drop (length text) page)),
 )
 
-module _ (image page : List ℕ) (fit : length page ≡ 16384) (r : Answer) (left : List ℕ)
+module _ (image page : List ℕ) (fit : length page ≡ 16384) (r : Result ℕ Refusal) (left : List ℕ)
     (number : number_of r ≡ print_refusal image page) (long : length_in r ≡ print_length image page) (stored : left ≡ page_left image page)
   where
     image_decides : print_refusal image page ≡ image_refusal image
     unfolding print_refusal image_refusal
     image_decides = rw (eq-eqb (length page) 16384 fit) refl
 
-    pub printed : {many : ℕ} → r ≡ Printed many → (take many left ≡ report_text image) × (many ≤ length left)
-    unfolding number_of length_in print_length page_left report_text
+    pub printed : {many : ℕ} → r ≡ Ok many → (take many left ≡ report_text image) × (many ≤ length left)
+    unfolding length_in print_length page_left report_text
     printed {many} e =
         let taken : print_refusal image page ≡ 0 = sym number ∙ ap number_of e in
         let told = sym (ap length_in e) ∙ long ∙ worked_when_taken _ _ _ taken in
@@ -73,31 +77,25 @@ module _ (image page : List ℕ) (fit : length page ≡ 16384) (r : Answer) (lef
         front (image_text image) page left many (stored ∙ worked_when_taken _ _ _ taken) (ap (λ l. get_or l 0 0) told) in
         (at_front.0 ∙ sym (worked_when_taken _ _ _ (sym image_decides ∙ taken)), at_front.1)
 
-    pub refused : {k : ℕ} → r ≡ Refused k → (refusal_line k ≡ report_text image) × (left ≡ page)
-    unfolding number_of length_in print_length page_left report_text
+    pub refused : {k : Refusal} → r ≡ Err k → (refusal_line (number_by k) ≡ report_text image) × (left ≡ page)
+    unfolding page_left report_text
     refused {k} e =
-        let found : k ≡ print_refusal image page = sym (ap number_of e) ∙ number in
-        let some : print_refusal image page ≡ 0 → ⊥ = λ z.
-        let f : ◌≡◌ {A = ℕ} 0 1 = ap length (sym (ap length_in e) ∙ long ∙ worked_when_taken _ _ _ z) in
-        omega arith in (
-          ap refusal_line (found ∙ image_decides) ∙ sym (kept_when_refused _ _ _ (λ z. some (image_decides ∙ z))),
-          stored ∙ kept_when_refused _ _ _ some,
+        let found : number_by k ≡ print_refusal image page = sym (ap number_of e) ∙ number in (
+          ap refusal_line (found ∙ image_decides) ∙ sym (left_by _ _ _ k (found ∙ image_decides)),
+          stored ∙ left_by _ _ _ k found,
         )
 
-module _ (number : ℕ) (page : List ℕ) (fit : length page ≡ 16384) (r : Answer) (left : List ℕ)
-    (long : length_in r ≡ line_length number page) (stored : left ≡ line_left number page) where
+module _ (number : ℕ) (page : List ℕ) (fit : length page ≡ 16384) (r : Result ℕ Refusal) (left : List ℕ)
+    (told : number_of r ≡ line_refusal page) (long : length_in r ≡ line_length number page) (stored : left ≡ line_left number page) where
   taken : line_refusal page ≡ 0
   unfolding line_refusal
   taken = rw (eq-eqb (length page) 16384 fit) refl
 
-  pub line_printed : {many : ℕ} → r ≡ Printed many → (take many left ≡ refusal_line number) × (many ≤ length left)
+  pub line_printed : {many : ℕ} → r ≡ Ok many → (take many left ≡ refusal_line number) × (many ≤ length left)
   unfolding length_in line_length line_left
   line_printed {many} e =
-      let told = sym (ap length_in e) ∙ long ∙ worked_when_taken _ _ _ taken in
-      front (refusal_line number) page left many (stored ∙ worked_when_taken _ _ _ taken) (ap (λ l. get_or l 0 0) told)
+      let put = sym (ap length_in e) ∙ long ∙ worked_when_taken _ _ _ taken in
+      front (refusal_line number) page left many (stored ∙ worked_when_taken _ _ _ taken) (ap (λ l. get_or l 0 0) put)
 
-  pub line_never_refused : {k : ℕ} → r ≡ Refused k → ⊥
-  unfolding length_in line_length
-  line_never_refused e =
-      let f : ◌≡◌ {A = ℕ} 0 1 = ap length (sym (ap length_in e) ∙ long ∙ worked_when_taken _ _ _ taken) in
-      omega arith
+  pub line_unrefused : IsOk r
+  line_unrefused = unrefused r (told ∙ taken)

@@ -1,12 +1,12 @@
 -- What a read leaves in the buffers is a job that no call refuses, and the report of the image is its text. Assumes nothing.
-use mathlib.Core.Path.{◌≡◌, sym, ap, ◌∙◌, subst}
+use mathlib.Core.Path.{◌≡◌, refl, sym, ap, ◌∙◌, subst}
 use mathlib.Core.Bool.{false}
 use mathlib.Core.List.{List, [], ◌∷◌}
 use Prim.Native.Nat.{ℕ, ◌*◌, ◌≤◌}
 use native.Mathlib.Omega.{arith}
 use lib.ListN.{length, get_or}
 use Rattle.whole.specs.Rules.{misfits}
-use Rattle.whole.proofs.Rules.{worked_when_taken, kept_when_refused}
+use Rattle.whole.proofs.Rules.{worked_when_taken}
 use Rattle.image.specs.Image.{Job, count, job_of, image_refusal}
 use Rattle.image.specs.Reader.{Buffers, buffer_lengths, counts_in, read_refusal, read_counts, read_left}
 use Rattle.image.specs.RoundTrip.{given_in}
@@ -14,14 +14,14 @@ use Rattle.image.specs.Writer.{lent_job}
 use Rattle.image.specs.declared.Given.{Given}
 use Rattle.image.proofs.Theorems.{taken_by_all, taken_with_classes, job_counted, job_lengths, job_limits, job_left, lengths_left}
 use Rattle.image.proofs.Theorems.{read_accepted, image_decides}
-use Rattle.reader.specs.Answers.{six, counts_of, number_of as reader-number-of}
+use Rattle.reader.specs.Answers.{six, counts_of}
 use Rattle.reader.specs.declared.Counts.{Counts}
-use Rattle.reader.specs.declared.Answer.{Answer}
-use Rattle.reader.specs.declared.Answer.TheVariants.{Refused, Read}
-use Rattle.reader.proofs.Theorems.{read_answers, never_refused}
-use Rattle.report.specs.Text.{job_text, image_text, number_of, length_in}
-use Rattle.report.specs.declared.Answer.TheVariants as answer
-use Rattle.report.specs.declared.Answer.TheVariants.{Printed}
+use Rattle.reader.proofs.Theorems.{read_answers}
+use Rattle.std.specs.Prelude.{Result, Ok, Err}
+use Rattle.refusals.specs.declared.Refusal.{Refusal}
+use Rattle.refusals.specs.Refusals.{number_by, number_of}
+use Rattle.refusals.proofs.Refusals.{left_by}
+use Rattle.report.specs.Text.{job_text, image_text, length_in}
 use Rattle.report.proofs.Puts.{put_over}
 use Rattle.image.proofs.Buffers.{Exact}
 use Rattle.report.specs.Steps.{Put, Prints, SoundJob, Held, given_of}
@@ -104,49 +104,45 @@ module _ (image : List ℕ) (lent : Buffers) (e : read_refusal image lent ≡ 0)
     text_same = ap (λ n. job_text n (lent_job (given_of counts) held)) zones_same ∙ ap (job_text (count image)) job_same
 
 -- ---- by what the reader answers, and leaves in the buffers
-pub record Told (image : List ℕ) (lent : Buffers) (r : Answer) (held : Buffers) : Type 0 where
-  pub number : reader-number-of r ≡ read_refusal image lent
+pub record Told (image : List ℕ) (lent : Buffers) (r : Result Counts Refusal) (held : Buffers) : Type 0 where
+  pub number : number_of r ≡ read_refusal image lent
   pub counted : counts_of r ≡ read_counts image lent
   pub left : held ≡ read_left image lent
 
-module _ {image : List ℕ} {lent held : Buffers} {r : Answer} (told : Told image lent r held) where
-  module _ {counts : Counts} (g : r ≡ Read counts) where
-    taken : read_refusal image lent ≡ 0
-    unfolding reader-number-of
-    taken = sym told.number ∙ ap reader-number-of g
+-- counts, where nothing is refused
+module _ {image : List ℕ} {lent held : Buffers} {counts : Counts} (told : Told image lent (Ok counts) held) where
+  taken : read_refusal image lent ≡ 0
+  taken = sym told.number
 
-    its_counts : six counts ≡ counts_in image
-    its_counts = read_answers image lent taken r told.counted counts g
+  its_counts : six counts ≡ counts_in image
+  its_counts = read_answers image lent taken (Ok counts) told.counted counts refl
 
-    pub read_held : Held counts held
-    read_held = held_job image lent taken counts its_counts held told.left
+  pub read_held : Held counts held
+  read_held = held_job image lent taken counts its_counts held told.left
 
-    pub read_text : job_text counts.values (lent_job (given_of counts) held) ≡ image_text image
-    read_text = text_same image lent taken counts its_counts held told.left
+  pub read_text : job_text counts.values (lent_job (given_of counts) held) ≡ image_text image
+  read_text = text_same image lent taken counts its_counts held told.left
 
-    -- what was put of it is what the page must hold
-    pub read_prints :
-        {old new : List ℕ} {place : ℕ} → Put old new 0 place 16128 (image_text image) → 16128 ≤ length old →
-        Prints image old new (Printed place)
-    unfolding number_of length_in
-    read_prints put room =
-        let z = read_accepted image lent taken in record {
-          number = sym z;
-          long = ap (λ k. k ∷ []) (omega (arith, put.behind)) ∙ sym (worked_when_taken _ _ _ z);
-          page = put_over put (omega (arith, put.behind, put.few, room)) ∙ sym (worked_when_taken _ _ _ z);
-        }
-
-  -- a refusal leaves the page
-  pub refused_prints :
-      {number : ℕ} {old : List ℕ} → r ≡ Refused number → misfits (buffer_lengths lent) ≡ false →
-      Prints image old old (answer.Refused number)
-  unfolding reader-number-of number_of length_in
-  refused_prints {number} g fits =
-      let e : number ≡ read_refusal image lent = sym (ap reader-number-of g) ∙ told.number in
-      let same : number ≡ image_refusal image = e ∙ image_decides image lent fits in
-      let some : image_refusal image ≡ 0 → ⊥ =
-      λ z. never_refused image lent (sym e ∙ same ∙ z) r told.counted number g in record {
-        number = same;
-        long = sym (kept_when_refused _ _ _ some);
-        page = sym (kept_when_refused _ _ _ some);
+  -- what was put of it is what the page must hold
+  pub read_prints :
+      {old new : List ℕ} {place : ℕ} → Put old new 0 place 16128 (image_text image) → 16128 ≤ length old →
+      Prints image old new (Ok place)
+  unfolding length_in
+  read_prints put room =
+      let z = read_accepted image lent taken in record {
+        number = sym z;
+        long = ap (λ k. k ∷ []) (omega (arith, put.behind)) ∙ sym (worked_when_taken _ _ _ z);
+        page = put_over put (omega (arith, put.behind, put.few, room)) ∙ sym (worked_when_taken _ _ _ z);
       }
+
+-- a refusal leaves the page
+pub refused_prints :
+    (image : List ℕ) (lent : Buffers) {old : List ℕ} (e : Refusal) → number_by e ≡ read_refusal image lent →
+    misfits (buffer_lengths lent) ≡ false → Prints image old old (Err e)
+unfolding length_in
+refused_prints image lent e told fits =
+    let same : number_by e ≡ image_refusal image = told ∙ image_decides image lent fits in record {
+      number = same;
+      long = sym (left_by _ _ _ e same);
+      page = sym (left_by _ _ _ e same);
+    }

@@ -6,7 +6,7 @@ mod putting;
 mod reading;
 mod working;
 
-ghost use Rattle.std.specs.Prelude.{◌≡◌};
+ghost use Rattle.std.specs.Prelude.{◌≡◌, ◌≢◌, length, OnOk, OnErr};
 ghost use Rattle.refusals.specs.Refusals.{number_of};
 ghost use Rattle.report.specs.Text.{length_in, print_refusal, print_length, page_left};
 ghost use Rattle.report.specs.Text.{line_refusal, line_length, line_left};
@@ -14,8 +14,11 @@ ghost use Rattle.report.specs.Text.{line_refusal, line_length, line_left};
 use refusals::Refusal;
 
 // The page has 16,384 places.
+#[tactic(auto, unfolding(crate::specs::Text::line_refusal))]
 fn judge_page(page: &[u8]) -> Result<(), Refusal>
-    ensures { number_of result ≡ line_refusal page.now }
+    ensures number { number_of result ≡ line_refusal page.now }
+    ensures fits { OnOk result (length page.now ≡ 16384) }
+    ensures misfits { OnErr result (length page.now ≢ 16384) }
 {
     if page.len() != 16384 {
         return Err(Refusal::Length);

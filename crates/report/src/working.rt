@@ -148,16 +148,9 @@ pub(super) fn put_job(
     let figures = &mut figure_space[..n];
     let report = coefficients::plain_report(
         n, values, weights, classes, &mut rows, locals, figures,
-    );
-    let answer = report.whole;
-    let of_classes = report.classes;
-    match answer {
-        coefficients::Answer::Refused(_) => 0,
-        coefficients::Answer::Reported(whole) => {
-            let at_pairs = put_account(page, weights, whole, locals, figures);
-            let at_classes = put_pairs(page, at_pairs, n, categories, weights);
-            let at_rank = put_classes(page, at_classes, &rows, of_classes, bands.len());
-            put_rank(page, at_rank, values, weights, shuffles)
-        }
-    }
+    ).unwrap();
+    let at_pairs = put_account(page, weights, report.whole, locals, figures);
+    let at_classes = put_pairs(page, at_pairs, n, categories, weights);
+    let at_rank = put_classes(page, at_classes, &rows, report.classes, bands.len());
+    put_rank(page, at_rank, values, weights, shuffles)
 }

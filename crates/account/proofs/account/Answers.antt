@@ -33,15 +33,17 @@ returns-in_err-many c =
 pub slice_bounds-zones-end : goal.slice_bounds-zones-end
 slice_bounds-zones-end c = (zones c).room
 
-pub slice_bounds-job_sums-end : goal.slice_bounds-job_sums-end
-slice_bounds-job_sums-end c = sym (length-take-le _ _ (zones ((goal.at.slice_bounds-job_sums-end c).In_ok-many)).room)
+pub slice_bounds-kept-end : goal.slice_bounds-kept-end
+slice_bounds-kept-end c = sym (length-take-le _ _ (zones ((goal.at.slice_bounds-kept-end c).In_ok-many)).room)
+
+pub invariant_of-job : goal.invariant_of-job
+invariant_of-job c = record { good = (good ((goal.at.invariant_of-job c).In_ok-many)).good.job }
+
+pub invariant_of-kept : goal.invariant_of-kept
+invariant_of-kept c = record { kept = (zones ((goal.at.invariant_of-kept c).In_ok-many)).zones }
 
 pub job_sums-requires : goal.job_sums-requires
-job_sums-requires c = let o = (goal.at.job_sums-requires c).In_ok-many in record {
-  job = (good o).good.job;
-  zones_value = (zones o).zones;
-  locals_len = (good o).room;
-}
+job_sums-requires c = (good ((goal.at.job_sums-requires c).In_ok-many)).room
 
 pub returns : goal.returns
 unfolding figures_of account_figures account_locals

@@ -1,11 +1,11 @@
 -- `class_account` meets its contract: judged first, and worked only where no rule is broken. Assumes nothing.
-use Rattle.std.proofs.Common.{◌≡◌, sym, ◌∙◌}
+use Rattle.std.proofs.Common.{◌≡◌, sym, ◌∙◌, length}
 use Rattle.std.proofs.lemmas.Result.{err_from_is_err_and}
 use lib.Seq.{length-take-le}
 use Rattle.refusals.proofs.Refusals.{left_by, worked_by}
 use Rattle.account.specs.Answers.{figures_of}
 use Rattle.account.specs.Classes.{class_refusal, class_account_figures, class_account_rows, class_account_locals, class_account_own}
-use Rattle.account.proofs.Accepted.{class_job, class_accepted}
+use Rattle.account.proofs.Accepted.{ClassAccepted, class_job, class_accepted}
 use Rattle.account.proofs.Found.{Left, found_left}
 use Rattle.account.proofs.class_account.Goals as goal
 use Rattle.account.proofs.class_account.Goals.{In_ok-many}
@@ -17,6 +17,12 @@ module _ (c : In_ok-many) where
       0 ≡ class_refusal a.n a.values.now a.weights.now a.classes.now a.rows.now a.class_locals.now a.locals.now
   unfolding class_refusal
   none = c.in_ok-many.ensures.number
+
+  good :
+      let a = c.args in
+      ClassAccepted a.n a.values.now a.weights.now a.classes.now (length a.rows.now) (length a.class_locals.now) (length a.locals.now)
+  unfolding class_refusal
+  good = class_accepted _ _ _ _ _ _ _ (sym none)
 
   -- and the zones kept
   zones : Left c.args.n c.args.weights.now c.judge_classes.new.zones c.in_ok-many.many
@@ -38,16 +44,19 @@ returns-in_err-many c =
 pub slice_bounds-zones-end : goal.slice_bounds-zones-end
 slice_bounds-zones-end c = (zones c).room
 
-pub slice_bounds-work_classes-end : goal.slice_bounds-work_classes-end
-slice_bounds-work_classes-end c = sym (length-take-le _ _ (zones ((goal.at.slice_bounds-work_classes-end c).In_ok-many)).room)
+pub slice_bounds-kept-end : goal.slice_bounds-kept-end
+slice_bounds-kept-end c = sym (length-take-le _ _ (zones ((goal.at.slice_bounds-kept-end c).In_ok-many)).room)
+
+pub invariant_of-job : goal.invariant_of-job
+invariant_of-job c = record { good = (class_job (good ((goal.at.invariant_of-job c).In_ok-many)).whole).job }
+
+pub invariant_of-kept : goal.invariant_of-kept
+invariant_of-kept c = record { kept = (zones ((goal.at.invariant_of-kept c).In_ok-many)).zones }
 
 pub work_classes-requires : goal.work_classes-requires
-unfolding class_refusal
 work_classes-requires c =
-    let o = (goal.at.work_classes-requires c).In_ok-many in
-    let g = class_accepted _ _ _ _ _ _ _ (sym (none o)) in record {
-      class_job = class_job g.whole;
-      zones_value = (zones o).zones;
+    let g = good ((goal.at.work_classes-requires c).In_ok-many) in record {
+      classed = class_job g.whole;
       rows_len = g.rows_fit;
       class_locals_len = g.of_classes_fit;
       locals_len = g.own_fit;

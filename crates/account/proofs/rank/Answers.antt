@@ -39,15 +39,18 @@ nonzero_div-rows c = omega (arith, (good c).two)
 pub slice_bounds-zones-end : goal.slice_bounds-zones-end
 slice_bounds-zones-end c = (zones c).room
 
-pub slice_bounds-work_rank-end : goal.slice_bounds-work_rank-end
-slice_bounds-work_rank-end c = sym (length-take-le _ _ (zones ((goal.at.slice_bounds-work_rank-end c).In_ok-many)).room)
+pub slice_bounds-kept-end : goal.slice_bounds-kept-end
+slice_bounds-kept-end c = sym (length-take-le _ _ (zones ((goal.at.slice_bounds-kept-end c).In_ok-many)).room)
+
+pub invariant_of-job : goal.invariant_of-job
+invariant_of-job c = record { good = (good ((goal.at.invariant_of-job c).In_ok-many)).good.job }
+
+pub invariant_of-kept : goal.invariant_of-kept
+invariant_of-kept c = record { kept = (zones ((goal.at.invariant_of-kept c).In_ok-many)).zones }
 
 pub work_rank-requires : goal.work_rank-requires
-work_rank-requires c = let o = (goal.at.work_rank-requires c).In_ok-many in record {
-  job = (good o).good.job;
-  zones_value = (zones o).zones;
-  shuffles = subst (Shuffles c.args.shuffles.now c.args.n) (counted o) (good o).rows;
-}
+work_rank-requires c =
+    let o = (goal.at.work_rank-requires c).In_ok-many in subst (Shuffles c.args.shuffles.now c.args.n) (counted o) (good o).rows
 
 -- the counts of so many rows are those of the job, where they are its shuffles
 as_job :

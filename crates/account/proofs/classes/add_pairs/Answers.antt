@@ -24,30 +24,30 @@ module _ (c : After-squared_difference-square) where
   abbrev j : ℕ
   j = c.loop-j.j
 
-  abbrev passing : j < c.args.n
+  abbrev passing : j < c.args.lists.now.n
   passing = c.loop-j-test.true
 
   abbrev weight : ℕ
-  weight = pair_at c.args.weights.now c.args.n c.args.i j
+  weight = pair_at c.args.lists.now.weights.now c.args.lists.now.n c.args.i j
 
   weight_is : Is (r64 c.from-weight.result) (pos weight) 9
   unfolding pair_at
   weight_is =
-      let w = c.requires.class_job.job.weighted in
+      let w = c.args.lists.now.good.job.weighted in
       rd w64 (told (pos weight) 9 c.from-weight.ensures (weight_le _ _ w c.args.i j c.requires.i_lt_n passing)) tt
 
   cross_is :
-      Is (r64 c.from-weight.result *ℤ r64 (at c.args.d.now j)) (pos weight *ℤ deviation_of (at c.args.values.now) c.args.n j) 115200000
+      Is (r64 c.from-weight.result *ℤ r64 (at c.args.d.now j)) (pos weight *ℤ deviation_of (at c.args.lists.now.values.now) c.args.lists.now.n j) 115200000
   cross_is =
       is_* weight_is
-      (deviation_is c.args.values.now c.args.n c.args.d.now c.requires.class_job.job.valued c.requires.d_value j passing)
+      (deviation_is c.args.lists.now.values.now c.args.lists.now.n c.args.d.now c.args.lists.now.good.job.valued c.requires.d_value j passing)
 
   squares_is :
       Is (r64 c.from-weight.result *ℤ r64 c.squared_difference-square.result)
-      (pos weight *ℤ square (at c.args.values.now c.args.i -ℤ at c.args.values.now j)) 360000000000
+      (pos weight *ℤ square (at c.args.lists.now.values.now c.args.i -ℤ at c.args.lists.now.values.now j)) 360000000000
   squares_is =
-      let v = c.requires.class_job.job.valued in
-      let apart = difference_told c.args.values.now c.args.n v c.args.i j c.requires.i_lt_n passing c.squared_difference-square.ensures in
+      let v = c.args.lists.now.good.job.valued in
+      let apart = difference_told c.args.lists.now.values.now c.args.lists.now.n v c.args.i j c.requires.i_lt_n passing c.squared_difference-square.ensures in
       is_* weight_is (rd w64 apart tt)
 
   abbrev added : ClassRow
@@ -57,18 +57,18 @@ module _ (c : After-squared_difference-square) where
     squares = r64 (r64 c.from-weight.result *ℤ r64 c.squared_difference-square.result);
   }
 
-  each : (place : ℕ) → sum_at added place ≡ pos weight *ℤ counted c.args.n c.args.values.now place c.args.i j
+  each : (place : ℕ) → sum_at added place ≡ pos weight *ℤ counted c.args.lists.now.n c.args.lists.now.values.now place c.args.i j
   each zero = weight_is.same ∙ sym (ap pos (N.mul-one weight))
   each (suc zero) = (rd w64 cross_is tt).same
   each (suc (suc place)) = (rd w64 squares_is tt).same
 
 pub bounds-d-j : goal.bounds-d-j
 bounds-d-j c =
-    omega (arith, (deviations_sized c.args.values.now c.args.n c.args.d.now c.requires.class_job.job.valued c.requires.d_value).count)
+    omega (arith, (deviations_sized c.args.lists.now.values.now c.args.lists.now.n c.args.d.now c.args.lists.now.good.job.valued c.requires.d_value).count)
 
 pub loop-j-init : goal.loop-j-init
 loop-j-init c =
-    no_pairs c.args.n c.args.values.now c.args.weights.now c.args.classes.now c.args.i _ c.requires.parts_value
+    no_pairs c.args.lists.now.n c.args.lists.now.values.now c.args.lists.now.weights.now c.args.lists.now.classes.now c.args.i _ c.requires.parts_value
 
 pub overflow_mul-weight : goal.overflow_mul-weight
 overflow_mul-weight c = fit w64 (cross_is ((goal.at.overflow_mul-weight c).After-squared_difference-square)) tt
@@ -79,10 +79,10 @@ overflow_mul-weight-in-loop-j c = fit w64 (squares_is ((goal.at.overflow_mul-wei
 pub add_row-requires : goal.add_row-requires
 add_row-requires c =
     let t = (goal.at.add_row-requires c).After-squared_difference-square in
-    let g = c.requires.class_job in
+    let g = c.args.lists.now.good in
     let a = c.args in record {
-      sized = pairs_sized a.n a.values.now a.weights.now a.classes.now g a.i (j t) _ c.requires.i_lt_n (omega arith) c.loop-j.invariant;
-      k_bound = omega (arith, c.from-k.ensures, g.low (a.i * a.n + j t) (within a.n a.i (j t) c.requires.i_lt_n (passing t)));
+      sized = pairs_sized a.lists.now.n a.lists.now.values.now a.lists.now.weights.now a.lists.now.classes.now g a.i (j t) _ c.requires.i_lt_n (omega arith) c.loop-j.invariant;
+      k_bound = omega (arith, c.from-k.ensures, g.low (a.i * a.lists.now.n + j t) (within a.lists.now.n a.i (j t) c.requires.i_lt_n (passing t)));
       weight_bound = added_small (weight_is t) (omega arith);
       cross_bound = added_small (rd w64 (cross_is t) tt) (omega arith);
       squares_bound = added_small (rd w64 (squares_is t) tt) (omega arith);
@@ -94,10 +94,10 @@ loop-j-preserved c =
     let t = (goal.at.loop-j-preserved c).After-squared_difference-square in
     let a = c.args in
     let row = added t in
-    one_pair a.n a.values.now a.weights.now a.classes.now a.i (j t) row c.loop-j.parts _ c.loop-j.invariant
+    one_pair a.lists.now.n a.lists.now.values.now a.lists.now.weights.now a.lists.now.classes.now a.i (j t) row c.loop-j.parts _ c.loop-j.invariant
     (c.add_row.ensures ∙ ap (λ (k : ℕ). row_added c.loop-j.parts k row.weight row.cross row.squares) c.from-k.ensures) (each t)
 
 pub returns : goal.returns
 returns c =
     let a = c.args in
-    all_pairs a.n a.values.now a.weights.now a.classes.now a.i c.loop-j.j c.loop-j.parts (omega arith) c.loop-j.invariant
+    all_pairs a.lists.now.n a.lists.now.values.now a.lists.now.weights.now a.lists.now.classes.now a.i c.loop-j.j c.loop-j.parts (omega arith) c.loop-j.invariant

@@ -29,10 +29,10 @@ unfolding zones_locals zones_local
 returns c =
     let g = c.args in
     let b = c.loop-i in
-    let all : b.i ≡ g.n = omega arith in
-    let classes = all_zones g.n g.values.now g.weights.now g.classes.now b.i b.rows b.class_locals all b.invariant.0 in
-    let f = local_of (pair_at g.weights.now g.n) (deviation_of (at g.values.now) g.n) g.n in record {
+    let all : b.i ≡ g.lists.now.n = omega arith in
+    let classes = all_zones g.lists.now.n g.lists.now.values.now g.lists.now.weights.now g.lists.now.classes.now b.i b.rows b.class_locals all b.invariant.0 in
+    let f = local_of (pair_at g.lists.now.weights.now g.lists.now.n) (deviation_of (at g.lists.now.values.now) g.lists.now.n) g.lists.now.n in record {
       rows_after = classes.0;
       class_locals_after = classes.1;
-      locals_after = is_table f g.n (pos 0) b.locals b.invariant.1.count (λ k p. b.invariant.1.numerators k (omega (arith, all)));
+      locals_after = is_table f g.lists.now.n (pos 0) b.locals b.invariant.1.count (λ k p. b.invariant.1.numerators k (omega (arith, all)));
     }

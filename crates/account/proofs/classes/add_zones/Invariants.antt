@@ -3,4 +3,4 @@ use Rattle.account.proofs.classes.add_zones.Given as goal
 
 abbrev pub invariant-loop-i : goal.invariant-loop-i
 invariant-loop-i l =
-    Zoned l.n l.values l.weights l.classes (λ k. l.i) l.rows l.class_locals × Owned l.n l.values l.weights l.i l.locals
+    Zoned l.fn.lists.n l.fn.lists.values.now l.fn.lists.weights.now l.fn.lists.classes.now (λ k. l.i) l.rows l.class_locals × Owned l.fn.lists.n l.fn.lists.values.now l.fn.lists.weights.now l.i l.locals

@@ -42,8 +42,8 @@ module _ (n : ℕ) (values : List ℤ) (weights classes : List ℕ) (g : ClassJo
 summed :
     (c : After-total-total) →
     let a = c.args in
-    r64 c.total-total.result ≡ total_of (at a.values.now) a.n
-summed c = (rd w64 (total_told _ _ c.requires.class_job.job.valued c.total-total.ensures) tt).same
+    r64 c.total-total.result ≡ total_of (at a.lists.now.values.now) a.lists.now.n
+summed c = (rd w64 (total_told _ _ c.args.lists.now.good.job.valued c.total-total.ensures) tt).same
 
 -- the call that is answered with the rows and the local numerators
 module _ (c : After-add_zones) where
@@ -54,15 +54,14 @@ module _ (c : After-add_zones) where
   start = ((goal.at.After-spread-spread summing).Start)
 
 pub total-total-requires : goal.total-total-requires
-total-total-requires c = c.requires.class_job.job.valued
+total-total-requires c = c.args.lists.now.good.job.valued
 
 pub spread-spread-requires : goal.spread-spread-requires
-spread-spread-requires c = record { valued = c.requires.class_job.job.valued; total_value = summed c }
+spread-spread-requires c = record { valued = c.args.lists.now.good.job.valued; total_value = summed c }
 
 pub add_zones-requires : goal.add_zones-requires
 add_zones-requires c =
     let p = c.requires in record {
-      class_job = p.class_job;
       total_value = summed ((goal.at.add_zones-requires c).After-total-total);
       rows_len = p.rows_len;
       class_locals_len = p.class_locals_len;
@@ -74,15 +73,15 @@ nine_together-weight-requires c =
     let after_add_zones = (goal.at.nine_together-weight-requires c).After-add_zones in
     let a = (start after_add_zones).args in
     let rows = c.add_zones.ensures.rows_after in
-    let g = (start after_add_zones).requires.class_job in record {
+    let g = (start after_add_zones).args.lists.now.good in record {
       place_bound = omega arith;
       rows_len = c.add_zones.auto.rows ∙ (start after_add_zones).requires.rows_len;
-      by_index = weight_small a.n a.values.now a.weights.now a.classes.now g _ rows;
+      by_index = weight_small a.lists.now.n a.lists.now.values.now a.lists.now.weights.now a.lists.now.classes.now g _ rows;
     }
 
 pub sum_of-cross-requires : goal.sum_of-cross-requires
 sum_of-cross-requires c =
-    let g = (start ((goal.at.sum_of-cross-requires c).After-add_zones)).requires.class_job.job in record {
+    let g = (start ((goal.at.sum_of-cross-requires c).After-add_zones)).args.lists.now.good.job in record {
       n_bound = g.valued.zones;
       sized = locals_sized _ _ _ g _ c.add_zones.ensures.locals_after;
     }
@@ -92,10 +91,10 @@ nine_together-squares-requires c =
     let after_add_zones = (goal.at.nine_together-squares-requires c).After-add_zones in
     let a = (start after_add_zones).args in
     let rows = c.add_zones.ensures.rows_after in
-    let g = (start after_add_zones).requires.class_job in record {
+    let g = (start after_add_zones).args.lists.now.good in record {
       place_bound = omega arith;
       rows_len = c.add_zones.auto.rows ∙ (start after_add_zones).requires.rows_len;
-      by_index = squares_small a.n a.values.now a.weights.now a.classes.now g _ rows;
+      by_index = squares_small a.lists.now.n a.lists.now.values.now a.lists.now.weights.now a.lists.now.classes.now g _ rows;
     }
 
 pub returns : goal.returns
@@ -104,12 +103,12 @@ returns c =
     let m = summing after_add_zones in
     let s = start after_add_zones in
     let a = s.args in
-    let g = s.requires.class_job in
+    let g = s.args.lists.now.good in
     let r = g.job in
     let held = c.add_zones.ensures in
-    let weight = c.nine_together-weight.ensures ∙ weight_together a.n a.values.now a.weights.now a.classes.now g _ held.rows_after in
-    let squares = c.nine_together-squares.ensures ∙ square_together a.n a.values.now a.weights.now a.classes.now g _ held.rows_after in record {
-      result_value = same_figures a.n a.values.now a.weights.now _ _ _ _ _
+    let weight = c.nine_together-weight.ensures ∙ weight_together a.lists.now.n a.lists.now.values.now a.lists.now.weights.now a.lists.now.classes.now g _ held.rows_after in
+    let squares = c.nine_together-squares.ensures ∙ square_together a.lists.now.n a.lists.now.values.now a.lists.now.weights.now a.lists.now.classes.now g _ held.rows_after in record {
+      result_value = same_figures a.lists.now.n a.lists.now.values.now a.lists.now.weights.now _ _ _ _ _
           (summed ((goal.at.After-spread-spread m).After-total-total))
           (rd w64 (spread_told _ _ r.valued m.spread-spread.ensures) tt).same
           (rd w64 (weight_told _ _ r.weighted weight) tt).same

@@ -13,11 +13,11 @@ use Rattle.account.proofs.deviations.local_numerators.Goals.{After-neighbour_sum
 -- d(i) times the weighted neighbours
 local :
     (c : After-neighbour_sum-neighbours) →
-    let a = c.args in
+    let a = c.args.weighed.now in
     Is (r64 (at a.d.now c.loop-i.i) *ℤ r64 c.neighbour_sum-neighbours.result)
     (local_of (pair_at a.weights.now a.n) (at a.d.now) a.n c.loop-i.i) 94371840000000000
 local c =
-    let p = c.requires in
+    let p = c.args.weighed.now in
     local_is _ _ p.weighted _ c.loop-i.i p.sized (omega arith) c.neighbour_sum-neighbours.ensures
 
 pub loop-i-init : goal.loop-i-init
@@ -27,12 +27,12 @@ pub overflow_mul-local : goal.overflow_mul-local
 overflow_mul-local c = fit w64 (local ((goal.at.overflow_mul-local c).After-neighbour_sum-neighbours)) tt
 
 pub loop-i-preserved : goal.loop-i-preserved
-loop-i-preserved c = let a = c.args in
+loop-i-preserved c = let a = c.args.weighed.now in
     stored (local_of (pair_at a.weights.now a.n) (at a.d.now) a.n) (pos 0) _ c.loop-i.locals c.loop-i.i (omega arith)
     (rd w64 (local ((goal.at.loop-i-preserved c).After-neighbour_sum-neighbours)) tt).same c.loop-i.invariant
 
 pub returns : goal.returns
 returns c =
-    let a = c.args in
+    let a = c.args.weighed.now in
     is_table (local_of (pair_at a.weights.now a.n) (at a.d.now) a.n) a.n (pos 0) c.loop-i.locals (omega arith)
     (λ k p. c.loop-i.invariant k (omega arith))

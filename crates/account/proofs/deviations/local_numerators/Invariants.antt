@@ -6,4 +6,4 @@ use Rattle.account.proofs.deviations.local_numerators.Given as goal
 
 abbrev pub invariant-loop-i : goal.invariant-loop-i
 invariant-loop-i l =
-    (k : ℕ) → k < l.i → at l.locals k ≡ local_of (pair_at l.weights l.n) (at l.d) l.n k
+    (k : ℕ) → k < l.i → at l.locals k ≡ local_of (pair_at l.fn.weighed.weights.now l.fn.weighed.n) (at l.fn.weighed.d.now) l.fn.weighed.n k

@@ -24,32 +24,32 @@ module _ (c : After-from) where
   j = c.loop-j.j
 
   abbrev weight : ℕ → ℕ
-  weight = pair_at c.args.weights.now c.args.n c.args.i
+  weight = pair_at c.args.weighed.now.weights.now c.args.weighed.now.n c.args.i
 
   abbrev deviation : ℕ → ℤ
-  deviation = at c.args.d.now
+  deviation = at c.args.weighed.now.d.now
 
-  there : c.args.i * c.args.n + c.args.n ≤ length c.args.weights.now
-  there = row_in _ _ _ c.requires.weighted.count c.requires.i_lt_n
+  there : c.args.i * c.args.weighed.now.n + c.args.weighed.now.n ≤ length c.args.weighed.now.weights.now
+  there = row_in _ _ _ c.args.weighed.now.weighted.count c.requires
 
-  before : j < c.args.n
-  before = omega (arith, row_length c.args.weights.now c.args.n c.args.i there)
+  before : j < c.args.weighed.now.n
+  before = omega (arith, row_length c.args.weighed.now.weights.now c.args.weighed.now.n c.args.i there)
 
   -- what the code has read of the weight
   read : c.from.result ≡ pos (weight j)
   unfolding pair_at
-  read = c.from.ensures ∙ ap pos (row_at c.args.weights.now c.args.n c.args.i there j 0 before)
+  read = c.from.ensures ∙ ap pos (row_at c.args.weighed.now.weights.now c.args.weighed.now.n c.args.i there j 0 before)
 
   term : Is (r64 c.from.result *ℤ r64 (deviation j)) (pos (weight j) *ℤ deviation j) 115200000
   term =
-      is_* (rd w64 (told _ 9 read (weight_le _ _ c.requires.weighted c.args.i j c.requires.i_lt_n before)) tt)
-      (rd w64 (val (deviation j) 12800000 (c.requires.sized.size j before)) tt)
+      is_* (rd w64 (told _ 9 read (weight_le _ _ c.args.weighed.now.weighted c.args.i j c.requires before)) tt)
+      (rd w64 (val (deviation j) 12800000 (c.args.weighed.now.sized.size j before)) tt)
 
   turn :
       Is (to_z w64 c.loop-j.acc-bits +ℤ r64 (r64 c.from.result *ℤ r64 (deviation j)))
       (sum (λ j. pos (weight j) *ℤ deviation j) (j + 1)) 7372800000
   turn =
-      running_more (neighbours_run _ _ c.requires.weighted _ c.args.i c.requires.sized c.requires.i_lt_n) j
+      running_more (neighbours_run _ _ c.args.weighed.now.weighted _ c.args.i c.args.weighed.now.sized c.requires) j
       (to_z w64 c.loop-j.acc-bits) (omega (arith, before)) c.loop-j.invariant (rd w64 term tt)
 
 pub loop-j-init : goal.loop-j-init
@@ -67,6 +67,6 @@ loop-j-preserved c = (rd w64 (turn ((goal.at.loop-j-preserved c).After-from)) tt
 pub returns : goal.returns
 unfolding row_of
 returns c =
-    let there = row_in _ _ _ c.requires.weighted.count c.requires.i_lt_n in
-    let long = row_length c.args.weights.now c.args.n c.args.i there in
-    running_done _ c.args.n c.loop-j.j (to_z w64 c.loop-j.acc-bits) (omega (arith, long)) c.loop-j.invariant
+    let there = row_in _ _ _ c.args.weighed.now.weighted.count c.requires in
+    let long = row_length c.args.weighed.now.weights.now c.args.weighed.now.n c.args.i there in
+    running_done _ c.args.weighed.now.n c.loop-j.j (to_z w64 c.loop-j.acc-bits) (omega (arith, long)) c.loop-j.invariant

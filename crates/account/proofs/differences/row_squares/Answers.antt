@@ -25,33 +25,33 @@ module _ (c : After-squared_difference) where
   j = c.loop-j.j
 
   abbrev weight : ℕ → ℕ
-  weight = pair_at c.args.weights.now c.args.n c.args.i
+  weight = pair_at c.args.job.now.weights.now c.args.job.now.n c.args.i
 
   -- (x(i) − x(j))²
   abbrev apart : ℕ → ℤ
-  apart j = square (at c.args.values.now c.args.i -ℤ at c.args.values.now j)
+  apart j = square (at c.args.job.now.values.now c.args.i -ℤ at c.args.job.now.values.now j)
 
-  there : c.args.i * c.args.n + c.args.n ≤ length c.args.weights.now
-  there = row_in _ _ _ c.requires.job.weighted.count c.requires.i_lt_n
+  there : c.args.i * c.args.job.now.n + c.args.job.now.n ≤ length c.args.job.now.weights.now
+  there = row_in _ _ _ c.args.job.now.good.weighted.count c.requires
 
-  before : j < c.args.n
-  before = omega (arith, row_length c.args.weights.now c.args.n c.args.i there)
+  before : j < c.args.job.now.n
+  before = omega (arith, row_length c.args.job.now.weights.now c.args.job.now.n c.args.i there)
 
   -- what the code has read of the weight
   read : c.from.result ≡ pos (weight j)
   unfolding pair_at
-  read = c.from.ensures ∙ ap pos (row_at c.args.weights.now c.args.n c.args.i there j 0 before)
+  read = c.from.ensures ∙ ap pos (row_at c.args.job.now.weights.now c.args.job.now.n c.args.i there j 0 before)
 
   term : Is (r64 c.from.result *ℤ r64 c.squared_difference.result) (pos (weight j) *ℤ apart j) 360000000000
   term =
-      is_* (rd w64 (told _ 9 read (weight_le _ _ c.requires.job.weighted c.args.i j c.requires.i_lt_n before)) tt)
-      (rd w64 (difference_told _ _ c.requires.job.valued c.args.i j c.requires.i_lt_n before c.squared_difference.ensures) tt)
+      is_* (rd w64 (told _ 9 read (weight_le _ _ c.args.job.now.good.weighted c.args.i j c.requires before)) tt)
+      (rd w64 (difference_told _ _ c.args.job.now.good.valued c.args.i j c.requires before c.squared_difference.ensures) tt)
 
   turn :
       Is (to_z w64 c.loop-j.acc-bits +ℤ r64 (r64 c.from.result *ℤ r64 c.squared_difference.result))
       (sum (λ j. pos (weight j) *ℤ apart j) (j + 1)) 23040000000000
   turn =
-      running_more (row_squares_run _ _ _ c.requires.job c.args.i c.requires.i_lt_n) j (to_z w64 c.loop-j.acc-bits)
+      running_more (row_squares_run _ _ _ c.args.job.now.good c.args.i c.requires) j (to_z w64 c.loop-j.acc-bits)
       (omega (arith, before)) c.loop-j.invariant (rd w64 term tt)
 
 pub loop-j-init : goal.loop-j-init
@@ -69,6 +69,6 @@ loop-j-preserved c = (rd w64 (turn c) tt).same
 pub returns : goal.returns
 unfolding row_of
 returns c =
-    let there = row_in _ _ _ c.requires.job.weighted.count c.requires.i_lt_n in
-    let long = row_length c.args.weights.now c.args.n c.args.i there in
-    running_done _ c.args.n c.loop-j.j (to_z w64 c.loop-j.acc-bits) (omega (arith, long)) c.loop-j.invariant
+    let there = row_in _ _ _ c.args.job.now.good.weighted.count c.requires in
+    let long = row_length c.args.job.now.weights.now c.args.job.now.n c.args.i there in
+    running_done _ c.args.job.now.n c.loop-j.j (to_z w64 c.loop-j.acc-bits) (omega (arith, long)) c.loop-j.invariant

@@ -19,20 +19,20 @@ use Rattle.account.proofs.differences.squares.Goals.{After-row_squares-acc}
 turn :
     (c : After-row_squares-acc) →
     let a = c.args in
-    let x = at a.values.now in
+    let x = at a.job.now.values.now in
     Is (to_z w64 c.loop-i.acc-bits +ℤ r64 c.row_squares-acc.result)
-    (sum (λ i. row_of (pair_at a.weights.now a.n) (λ i j. square (x i -ℤ x j)) i a.n) (c.loop-i.i + 1)) 1474560000000000
+    (sum (λ i. row_of (pair_at a.job.now.weights.now a.job.now.n) (λ i j. square (x i -ℤ x j)) i a.job.now.n) (c.loop-i.i + 1)) 1474560000000000
 unfolding row_of
 turn c =
-    let run = row_squares_run _ _ _ c.requires c.loop-i.i (omega arith) in
-    running_more (squares_run _ _ _ c.requires) c.loop-i.i (to_z w64 c.loop-i.acc-bits) (omega arith) c.loop-i.invariant
-    (rd w64 (told _ 23040000000000 c.row_squares-acc.ensures (run.bound c.args.n (N.le_refl c.args.n))) tt)
+    let run = row_squares_run _ _ _ c.args.job.now.good c.loop-i.i (omega arith) in
+    running_more (squares_run _ _ _ c.args.job.now.good) c.loop-i.i (to_z w64 c.loop-i.acc-bits) (omega arith) c.loop-i.invariant
+    (rd w64 (told _ 23040000000000 c.row_squares-acc.ensures (run.bound c.args.job.now.n (N.le_refl c.args.job.now.n))) tt)
 
 pub loop-i-init : goal.loop-i-init
 loop-i-init c = running_none _
 
 pub row_squares-acc-requires : goal.row_squares-acc-requires
-row_squares-acc-requires c = record { job = c.requires; i_lt_n = omega arith }
+row_squares-acc-requires c = omega arith
 
 pub overflow_add-acc : goal.overflow_add-acc
 overflow_add-acc c = fit w64 (turn c) tt

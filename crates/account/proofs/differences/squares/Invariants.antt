@@ -8,4 +8,4 @@ use Rattle.account.proofs.differences.squares.Given as goal
 
 abbrev pub invariant-loop-i : goal.invariant-loop-i
 invariant-loop-i l =
-    l.acc ≡ sum (λ i'. row_of (pair_at l.weights l.n) (λ i' j. square (at l.values i' -ℤ at l.values j)) i' l.n) l.i
+    l.acc ≡ sum (λ i'. row_of (pair_at l.fn.job.weights.now l.fn.job.n) (λ i' j. square (at l.fn.job.values.now i' -ℤ at l.fn.job.values.now j)) i' l.fn.job.n) l.i

@@ -1,91 +1,82 @@
--- `work_classes` meets its contract: where every zone is kept, what is worked of those kept is worked of all. Assumes nothing.
-use mathlib.Core.Path.{◌≡◌, sym, ◌∙◌}
-use mathlib.Core.List.{List}
-use Prim.Native.Nat.{ℕ, ◌*◌}
-use lib.IntN.{ℤ}
+-- `work_classes` meets its contract: where every zone is kept, what is worked of those kept is worked of all; else the classes of the pairs
+-- kept are gathered too, and what belongs to a zone is put back at it. Assumes nothing.
+use mathlib.Core.Path.{◌≡◌, sym, ap, ◌∙◌}
+use Prim.Native.Nat.{◌*◌}
+use native.Mathlib.Omega.{arith}
 use lib.ListN.{length}
-use Rattle.kept.specs.Kept.{kept_zones, kept_count}
-use Rattle.account.specs.Answers.{zones_figures, job_figures, job_locals}
-use Rattle.account.specs.Classes.{class_sums, class_locals_of}
-use Rattle.account.specs.Steps.{ClassJob, zones_locals, zones_class_sums, zones_class_locals}
 use Rattle.account.proofs.AllKept.{all_figures, all_locals, all_class_sums, all_class_locals}
-use Rattle.account.proofs.KeptWork.{zones_count}
+use Rattle.account.proofs.KeptClasses.{Gathers, gathers, gathered_job, figures_kept, sums_kept, locals_back, class_locals_back}
+use Rattle.account.proofs.KeptWork.{zones_count, zones_rise, places_long}
 use Rattle.account.proofs.kept_zones.work_classes.Goals as goal
-use Rattle.account.proofs.kept_zones.work_classes.Goals.{Start, Then-zones-n}
+use Rattle.account.proofs.kept_zones.work_classes.Goals.{After-gather-gathered, After-gather_pairs}
 
--- where every zone is kept, what is worked of all zones is what is worked of the zones kept
-module _ (n : ℕ) (values : List ℤ) (weights classes : List ℕ) (good : ClassJob values weights classes n)
-    (zones : List ℕ) (z : zones ≡ kept_zones n weights) (taken : length zones ≡ n) where
-  all : kept_count n weights ≡ n
-  all = sym (zones_count n weights zones z) ∙ taken
-
-  long : length values ≡ n
-  long = good.job.valued.near.count
-
-  wide : length weights ≡ n * n
-  wide = good.job.weighted.count
-
-  as_kept :
-      {figures rows of_classes own : List ℤ} →
-      (figures ≡ zones_figures n values weights)
-      × ((rows ≡ zones_class_sums n values weights classes)
-      × ((of_classes ≡ zones_class_locals n values weights classes) × (own ≡ zones_locals n values weights))) →
-      (figures ≡ job_figures n values weights)
-      × ((rows ≡ class_sums n values weights classes)
-      × ((of_classes ≡ class_locals_of n values weights classes) × (own ≡ job_locals n values weights)))
-  as_kept told = (
-    told.0 ∙ sym (all_figures n values weights all long wide),
-    (
-      told.1.0 ∙ sym (all_class_sums n values weights all long wide classes good.count),
-      (
-        told.1.1.0 ∙ sym (all_class_locals n values weights all long wide classes good.count),
-        told.1.1.1 ∙ sym (all_locals n values weights all long wide),
-      ),
-    ),
-  )
-
--- back from the arm in which every zone is kept
-abbrev start : Then-zones-n → Start
-start c = ((goal.at.Then-zones-n c).Start)
-
-pub zone_classes-requires : goal.zone_classes-requires
-zone_classes-requires c = let p = (start ((goal.at.zone_classes-requires c).Then-zones-n)).requires in record {
-  class_job = p.class_job;
-  rows_len = p.rows_len;
-  class_locals_len = p.class_locals_len;
-  locals_len = p.locals_len;
-}
-
-pub returns-then-zones-n : goal.returns-then-zones-n
-returns-then-zones-n c =
-    let s = start ((goal.at.returns-then-zones-n c).Then-zones-n) in
-    let a = s.args in let all = as_kept a.n a.values.now a.weights.now a.classes.now s.requires.class_job a.zones.now s.requires.zones_value
-    c.if-zones-n.true (
-      c.zone_classes.ensures.result_value,
-      (
-        c.zone_classes.ensures.rows_after,
-        (c.zone_classes.ensures.class_locals_after, c.zone_classes.ensures.locals_after),
-      ),
-    ) in record {
-      result_value = all.0;
-      rows_after = all.1.0;
-      class_locals_after = all.1.1.0;
-      locals_after = all.1.1.1;
+pub returns-then-zones-job : goal.returns-then-zones-job
+returns-then-zones-job c =
+    let k = c.args.kept.now in
+    let job = k.job in
+    let all = sym (zones_count job.n job.weights.now k.zones.now k.kept) ∙ c.if-zones-job.true in
+    let valued = job.good.valued.near.count in
+    let weighted = job.good.weighted.count in
+    let count = c.requires.classed.count in
+    let told = c.zone_classes.ensures in record {
+      result_value = told.result_value ∙ sym (all_figures job.n job.values.now job.weights.now all valued weighted);
+      rows_after = told.rows_after ∙ sym (all_class_sums job.n job.values.now job.weights.now all valued weighted c.args.classes.now count);
+      class_locals_after = told.class_locals_after
+          ∙ sym (all_class_locals job.n job.values.now job.weights.now all valued weighted c.args.classes.now count);
+      locals_after = told.locals_after ∙ sym (all_locals job.n job.values.now job.weights.now all valued weighted);
     }
 
-pub classes_of_kept-requires : goal.classes_of_kept-requires
-classes_of_kept-requires c = record {
-  class_job = c.requires.class_job;
-  zones_value = c.requires.zones_value;
-  rows_len = c.requires.rows_len;
-  class_locals_len = c.requires.class_locals_len;
-  locals_len = c.requires.locals_len;
-}
+pub gather_pairs-requires-clause-zones : goal.gather_pairs-requires-clause-zones
+gather_pairs-requires-clause-zones c =
+    let k = c.args.kept.now in zones_rise k.job.n k.job.weights.now k.zones.now k.kept k.job.good.valued.zones
+
+-- there is a place for each zone
+placed : (c : After-gather-gathered) → length c.gather-gathered.result.places.now ≡ c.args.kept.now.job.n
+placed c =
+    let k = c.args.kept.now in places_long k.job.n k.job.weights.now k.zones.now k.kept _ c.gather-gathered.ensures.places
+
+-- what was gathered
+kept :
+    (c : After-gather_pairs) →
+    let k = c.args.kept.now in
+    let g = c.gather-gathered.result.job in
+    Gathers k.job.n k.job.values.now k.job.weights.now c.args.classes.now g.n g.values.now g.weights.now c.gather_pairs.new.out
+kept c =
+    let k = c.args.kept.now in
+    let g = c.gather-gathered.ensures in
+    rw g.n
+    (gathers k.job.n k.job.values.now k.job.weights.now c.args.classes.now k.zones.now k.kept g.values g.weights c.gather_pairs.ensures)
+
+pub invariant_of-lists-2 : goal.invariant_of-lists-2
+invariant_of-lists-2 c =
+    let k = c.args.kept.now in record {
+      good = gathered_job k.job.n k.job.values.now k.job.weights.now c.args.classes.now
+          (kept ((goal.at.invariant_of-lists-2 c).After-gather_pairs)) c.requires.classed;
+    }
+
+pub put_back_rows-requires-clause-places_len_bound : goal.put_back_rows-requires-clause-places_len_bound
+put_back_rows-requires-clause-places_len_bound c =
+    omega (arith, placed ((goal.at.put_back_rows-requires-clause-places_len_bound c).After-gather-gathered), c.args.kept.now.job.good.valued.zones)
+
+pub put_back_rows-requires-clause-out_len : goal.put_back_rows-requires-clause-out_len
+put_back_rows-requires-clause-out_len c =
+    c.requires.class_locals_len
+    ∙ ap (λ t. 9 * t) (sym (placed ((goal.at.put_back_rows-requires-clause-out_len c).After-gather-gathered)))
+
+pub put_back-requires : goal.put_back-requires
+put_back-requires c = c.requires.locals_len ∙ sym (placed ((goal.at.put_back-requires c).After-gather-gathered))
 
 pub returns : goal.returns
-returns c = record {
-  result_value = c.classes_of_kept.ensures.result_value;
-  rows_after = c.classes_of_kept.ensures.rows_after;
-  class_locals_after = c.classes_of_kept.ensures.class_locals_after;
-  locals_after = c.classes_of_kept.ensures.locals_after;
-}
+returns c =
+    let k = c.args.kept.now in
+    let job = k.job in
+    let e = c.gather-gathered.ensures.places in
+    let g = kept ((goal.at.returns c).After-gather_pairs) in
+    let told = c.zone_classes-sums.ensures in
+    let classes = c.args.classes.now in record {
+      result_value = figures_kept job.n job.values.now job.weights.now classes g told.result_value;
+      rows_after = sums_kept job.n job.values.now job.weights.now classes g told.rows_after;
+      class_locals_after = class_locals_back job.n job.values.now job.weights.now classes g k.zones.now k.kept _ e told.class_locals_after
+          c.put_back_rows.ensures;
+      locals_after = locals_back job.n job.values.now job.weights.now classes g k.zones.now k.kept _ e told.locals_after c.put_back.ensures;
+    }

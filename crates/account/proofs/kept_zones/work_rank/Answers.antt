@@ -1,12 +1,48 @@
--- `work_rank` meets its contract: where all zones are kept, the lists of those kept are the job's own. Assumes nothing.
-use mathlib.Core.Path.{sym, ◌∙◌}
-use Rattle.account.proofs.KeptWork.{zones_count, rank_of_all}
+-- `work_rank` meets its contract: where all zones are kept, the lists of those kept are the job's own; else the shuffles' kept numbers are
+-- gathered too, and ranked. Assumes nothing.
+use mathlib.Core.Path.{◌≡◌, sym, ◌∙◌}
+use lib.Dec.{ltb}
+use lib.ListN.{get_or}
+use Rattle.whole.specs.Search.{count}
+use Rattle.account.proofs.KeptWork.{zones_count, rank_of_all, places_long, places_count, gathered_shuffles, rank_kept}
 use Rattle.account.proofs.kept_zones.work_rank.Goals as goal
+use Rattle.account.proofs.kept_zones.work_rank.Goals.{After-gather-gathered}
 
-pub returns-then-zones-n : goal.returns-then-zones-n
-returns-then-zones-n c =
-    let n = c.args.n in
-    let weights = c.args.weights.now in
-    let all = sym (zones_count n weights c.args.zones.now c.requires.zones_value) ∙ c.if-zones-n.true in
-    rank_of_all n c.args.values.now weights all c.requires.job c.args.rows c.args.shuffles.now c.requires.shuffles _
-    c.zone_rank.ensures
+-- as many zones have a place among those kept as are kept
+counted :
+    (c : After-gather-gathered) →
+    let g = c.gather-gathered.result in
+    count (λ i. ltb (get_or g.places.now i 0) g.job.n) c.args.kept.now.job.n ≡ g.job.n
+counted c =
+    let k = c.args.kept.now in
+    rw c.gather-gathered.ensures.n
+    (places_count k.job.n k.job.weights.now k.zones.now k.kept c.args.rows c.args.shuffles.now c.requires _ c.gather-gathered.ensures.places)
+
+pub returns-then-zones-job : goal.returns-then-zones-job
+returns-then-zones-job c =
+    let k = c.args.kept.now in
+    let job = k.job in
+    let all = sym (zones_count job.n job.weights.now k.zones.now k.kept) ∙ c.if-zones-job.true in
+    rank_of_all job.n job.values.now job.weights.now all job.good c.args.rows c.args.shuffles.now c.requires _ c.zone_rank.ensures
+
+pub keep_rows-requires-clause-places_len : goal.keep_rows-requires-clause-places_len
+keep_rows-requires-clause-places_len c =
+    let k = c.args.kept.now in places_long k.job.n k.job.weights.now k.zones.now k.kept _ c.gather-gathered.ensures.places
+
+pub keep_rows-requires-clause-n_value : goal.keep_rows-requires-clause-n_value
+keep_rows-requires-clause-n_value c = counted ((goal.at.keep_rows-requires-clause-n_value c).After-gather-gathered)
+
+pub zone_rank-requires-2 : goal.zone_rank-requires-2
+zone_rank-requires-2 c =
+    let k = c.args.kept.now in
+    let g = c.gather-gathered.ensures in
+    rw g.n
+    (gathered_shuffles k.job.n k.job.weights.now k.zones.now k.kept c.args.rows c.args.shuffles.now c.requires _ g.places _
+    (rw (sym g.n) c.keep_rows.ensures))
+
+pub returns : goal.returns
+returns c =
+    let k = c.args.kept.now in
+    let g = c.gather-gathered.ensures in
+    rank_kept k.job.n k.job.weights.now k.zones.now k.kept c.args.rows c.args.shuffles.now c.requires _ g.places c.keep_rows.new.out
+    (rw (sym g.n) c.keep_rows.ensures) k.job.values.now _ _ g.values g.weights _ (rw (sym g.n) c.zone_rank-2.ensures)

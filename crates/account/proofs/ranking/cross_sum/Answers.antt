@@ -19,16 +19,16 @@ use Rattle.account.proofs.ranking.cross_sum.Goals.{After-neighbour_sum-neighbour
 -- d(i) times the weighted neighbours, and a turn, which adds that
 module _ (c : After-neighbour_sum-neighbours) where
   local :
-      Is (r64 (at c.args.d.now c.loop-i.i) *ℤ r64 c.neighbour_sum-neighbours.result)
-      (local_of (pair_at c.args.weights.now c.args.n) (at c.args.d.now) c.args.n c.loop-i.i) 94371840000000000
-  local = local_is _ _ c.requires.weighted _ c.loop-i.i c.requires.sized (omega arith) c.neighbour_sum-neighbours.ensures
+      Is (r64 (at c.args.weighed.now.d.now c.loop-i.i) *ℤ r64 c.neighbour_sum-neighbours.result)
+      (local_of (pair_at c.args.weighed.now.weights.now c.args.weighed.now.n) (at c.args.weighed.now.d.now) c.args.weighed.now.n c.loop-i.i) 94371840000000000
+  local = local_is _ _ c.args.weighed.now.weighted _ c.loop-i.i c.args.weighed.now.sized (omega arith) c.neighbour_sum-neighbours.ensures
 
   turn :
-      Is (to_z w64 c.loop-i.acc-bits +ℤ r64 (r64 (at c.args.d.now c.loop-i.i) *ℤ r64 c.neighbour_sum-neighbours.result))
-      (sum (local_of (pair_at c.args.weights.now c.args.n) (at c.args.d.now) c.args.n) (c.loop-i.i + 1))
+      Is (to_z w64 c.loop-i.acc-bits +ℤ r64 (r64 (at c.args.weighed.now.d.now c.loop-i.i) *ℤ r64 c.neighbour_sum-neighbours.result))
+      (sum (local_of (pair_at c.args.weighed.now.weights.now c.args.weighed.now.n) (at c.args.weighed.now.d.now) c.args.weighed.now.n) (c.loop-i.i + 1))
       6039797760000000000
   turn =
-      running_more (cross_runs _ _ c.requires.weighted _ c.requires.sized) c.loop-i.i (to_z w64 c.loop-i.acc-bits) (omega arith)
+      running_more (cross_runs _ _ c.args.weighed.now.weighted _ c.args.weighed.now.sized) c.loop-i.i (to_z w64 c.loop-i.acc-bits) (omega arith)
       c.loop-i.invariant (rd w64 local tt)
 
 pub loop-i-init : goal.loop-i-init

@@ -25,33 +25,33 @@ module _ (c : After-shuffle_deviations) where
   a = ((goal.at.After-shuffle_deviations c).Start)
 
   abbrev n : ℕ
-  n = a.args.n
+  n = a.args.weighed.now.n
 
   abbrev moved : ℕ → ℤ
-  moved = shuffled (at a.args.d.now) (pair_at a.args.shuffles.now n a.args.r)
+  moved = shuffled (at a.args.weighed.now.d.now) (pair_at a.args.shuffles.now n a.args.r)
 
   as_long : length (table moved n) ≡ n
   as_long = table_length moved n
 
   sized : (l : List ℤ) → l ≡ table moved n → Sized 12800000 l n
-  sized l e = table_sized 12800000 n moved l e (shuffled_size _ _ _ _ _ a.requires.sized a.requires.shuffle)
+  sized l e = table_sized 12800000 n moved l e (shuffled_size _ _ _ _ _ a.args.weighed.now.sized a.requires)
 
   same :
       (l : List ℤ) → l ≡ table moved n →
-      cross_held a.args.weights.now n l ≡ cross_moved a.args.weights.now n a.args.d.now a.args.shuffles.now a.args.r
-  same l e = cross_alike (pair_at a.args.weights.now n) n (at l) moved (table_held moved n (pos 0) l e)
+      cross_held a.args.weighed.now.weights.now n l ≡ cross_moved a.args.weighed.now.weights.now n a.args.weighed.now.d.now a.args.shuffles.now a.args.r
+  same l e = cross_alike (pair_at a.args.weighed.now.weights.now n) n (at l) moved (table_held moved n (pos 0) l e)
 
 pub slice_bounds-moved-end : goal.slice_bounds-moved-end
-slice_bounds-moved-end c = c.requires.weighted.zones
+slice_bounds-moved-end c = c.args.weighed.now.weighted.zones
 
 pub slice_bounds-shuffle_deviations-end : goal.slice_bounds-shuffle_deviations-end
-slice_bounds-shuffle_deviations-end c = sym (length-take-le _ _ c.requires.weighted.zones)
+slice_bounds-shuffle_deviations-end c = sym (length-take-le _ _ c.args.weighed.now.weighted.zones)
 
 pub shuffle_deviations-requires : goal.shuffle_deviations-requires
 shuffle_deviations-requires c = record {
-  d_len = c.requires.sized.count;
-  moved_len = length-take-le _ _ c.requires.weighted.zones;
-  shuffle = c.requires.shuffle;
+  d_len = c.args.weighed.now.sized.count;
+  moved_len = length-take-le _ _ c.args.weighed.now.weighted.zones;
+  shuffle = c.requires;
 }
 
 pub slice_bounds-moved-end-2 : goal.slice_bounds-moved-end-2
@@ -66,11 +66,11 @@ slice_bounds-cross_sum-end c =
     front_length {A = ℤ} _ _ (table (moved after_shuffle_deviations) (n after_shuffle_deviations)) _ c.shuffle_deviations.ensures (as_long
     after_shuffle_deviations)
 
-pub cross_sum-requires : goal.cross_sum-requires
-cross_sum-requires c =
-    let after_shuffle_deviations = (goal.at.cross_sum-requires c).After-shuffle_deviations in
+pub invariant_of-cross_sum : goal.invariant_of-cross_sum
+invariant_of-cross_sum c =
+    let after_shuffle_deviations = (goal.at.invariant_of-cross_sum c).After-shuffle_deviations in
     record {
-      weighted = (a after_shuffle_deviations).requires.weighted;
+      weighted = (a after_shuffle_deviations).args.weighed.now.weighted;
       sized = sized after_shuffle_deviations _ (front {A = ℤ} _ _ (table (moved after_shuffle_deviations) (n after_shuffle_deviations)) _
           c.shuffle_deviations.ensures (as_long after_shuffle_deviations));
     }
@@ -80,6 +80,7 @@ returns c =
     let after_shuffle_deviations = (goal.at.returns c).After-shuffle_deviations in
     let e = same after_shuffle_deviations _ (front {A = ℤ} _ _ (table (moved after_shuffle_deviations) (n after_shuffle_deviations)) _
     c.shuffle_deviations.ensures (as_long after_shuffle_deviations)) in
-    let w = (a after_shuffle_deviations).requires in
-    (rd w64 (deviations_cross_told _ _ w.weighted (moved after_shuffle_deviations) (shuffled_size _ _ _ _ _ w.sized w.shuffle)
+    let s = a after_shuffle_deviations in
+    let w = s.args.weighed.now in
+    (rd w64 (deviations_cross_told _ _ w.weighted (moved after_shuffle_deviations) (shuffled_size _ _ _ _ _ w.sized s.requires)
     (c.cross_sum.ensures ∙ e)) tt).same

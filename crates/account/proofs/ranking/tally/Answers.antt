@@ -49,18 +49,18 @@ module _ (x y : ℤ) where
 -- the P of the shuffle at hand and the job's own, as the machine compares them
 module _ (c : After-shuffle_cross-cross) where
   abbrev numbers : ℕ → ℤ
-  numbers = cross_moved c.args.weights.now c.args.n c.args.d.now c.args.shuffles.now
+  numbers = cross_moved c.args.weighed.now.weights.now c.args.weighed.now.n c.args.weighed.now.d.now c.args.shuffles.now
 
   abbrev own : ℤ
-  own = cross_held c.args.weights.now c.args.n c.args.d.now
+  own = cross_held c.args.weighed.now.weights.now c.args.weighed.now.n c.args.weighed.now.d.now
 
   shuffle_is : Is (r64 c.shuffle_cross-cross.result) (numbers c.loop-r.r) 6039797760000000000
   shuffle_is =
-      let small = shuffled_size _ _ _ _ _ c.requires.sized (shuffle_there _ _ _ _ c.requires.shuffles c.loop-r-test.true) in
-      rd w64 (deviations_cross_told _ _ c.requires.weighted _ small c.shuffle_cross-cross.ensures) tt
+      let small = shuffled_size _ _ _ _ _ c.args.weighed.now.sized (shuffle_there _ _ _ _ c.requires c.loop-r-test.true) in
+      rd w64 (deviations_cross_told _ _ c.args.weighed.now.weighted _ small c.shuffle_cross-cross.ensures) tt
 
   own_is : Is (r64 c.cross_sum-own.result) own 6039797760000000000
-  own_is = rd w64 (deviations_cross_told _ _ c.requires.weighted (at c.args.d.now) c.requires.sized.size c.cross_sum-own.ensures) tt
+  own_is = rd w64 (deviations_cross_told _ _ c.args.weighed.now.weighted (at c.args.weighed.now.d.now) c.args.weighed.now.sized.size c.cross_sum-own.ensures) tt
 
   less : (t : Bool) → lt_z (r64 c.shuffle_cross-cross.result) (r64 c.cross_sum-own.result) ≡ t → lt_z (numbers c.loop-r.r) own ≡ t
   less t e = cc (shuffle_is.same, own_is.same, e)
@@ -72,7 +72,7 @@ module _ (c : After-shuffle_cross-cross) where
   small : let t = c.loop-r in (t.less + 1 ≤ 499) × (t.equal + 1 ≤ 499) × (t.greater + 1 ≤ 499)
   small =
       let m = no_more numbers own c.loop-r.invariant in
-      let f = c.requires.shuffles.few in
+      let f = c.requires.few in
       let h = c.loop-r-test.true in
       (omega (arith, m.0), omega (arith, m.1), omega (arith, m.2))
 

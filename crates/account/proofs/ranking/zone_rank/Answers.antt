@@ -24,37 +24,37 @@ module _ (c : After-deviations) where
   a = ((goal.at.After-deviations c).Start)
 
   abbrev expected : List ℤ
-  expected = table (deviation_of (at a.args.values.now) a.args.n) a.args.n
+  expected = table (deviation_of (at a.args.job.now.values.now) a.args.job.now.n) a.args.job.now.n
 
-  as_long : length expected ≡ a.args.n
-  as_long = table_length (deviation_of (at a.args.values.now) a.args.n) a.args.n
+  as_long : length expected ≡ a.args.job.now.n
+  as_long = table_length (deviation_of (at a.args.job.now.values.now) a.args.job.now.n) a.args.job.now.n
 
   -- what is compared is the P of the shuffles, and the job's own
   same :
       (d : List ℤ) → d ≡ expected →
       let g = a.args in
-      compared (cross_moved g.weights.now g.n d g.shuffles.now) (cross_held g.weights.now g.n d) g.rows
-      ≡ compared (shuffle_cross g.n g.values.now g.weights.now g.shuffles.now)
-      (values_cross g.n g.weights.now (at g.values.now))
+      compared (cross_moved g.job.now.weights.now g.job.now.n d g.shuffles.now) (cross_held g.job.now.weights.now g.job.now.n d) g.rows
+      ≡ compared (shuffle_cross g.job.now.n g.job.now.values.now g.job.now.weights.now g.shuffles.now)
+      (values_cross g.job.now.n g.job.now.weights.now (at g.job.now.values.now))
       g.rows
   same d e =
       let g = a.args in
       compared_cong _ _ _ _ g.rows
-      (λ r h. its_cross g.values.now g.weights.now g.n d e g.shuffles.now r (a.requires.shuffles.full r h))
-      (own_cross g.values.now g.weights.now g.n d e)
+      (λ r h. its_cross g.job.now.values.now g.job.now.weights.now g.job.now.n d e g.shuffles.now r (a.requires.full r h))
+      (own_cross g.job.now.values.now g.job.now.weights.now g.job.now.n d e)
 
 pub total-total-requires : goal.total-total-requires
-total-total-requires c = c.requires.job.valued
+total-total-requires c = c.args.job.now.good.valued
 
 pub slice_bounds-d-end : goal.slice_bounds-d-end
-slice_bounds-d-end c = c.requires.job.valued.zones
+slice_bounds-d-end c = c.args.job.now.good.valued.zones
 
 pub slice_bounds-deviations-end : goal.slice_bounds-deviations-end
-slice_bounds-deviations-end c = sym (length-take-le _ _ c.requires.job.valued.zones)
+slice_bounds-deviations-end c = sym (length-take-le _ _ c.args.job.now.good.valued.zones)
 
 pub deviations-requires : goal.deviations-requires
 deviations-requires c =
-    let v = c.requires.job.valued in record {
+    let v = c.args.job.now.good.valued in record {
       valued = v;
       total_value = (rd w64 (total_told _ _ v c.total-total.ensures) tt).same;
       d_len = length-take-le _ _ v.zones;
@@ -65,19 +65,18 @@ slice_bounds-d-end-2 c =
     let after_deviations = (goal.at.slice_bounds-d-end-2 c).After-deviations in
     front_le {A = ℤ} _ _ (expected after_deviations) _ c.deviations.ensures (as_long after_deviations)
 
-pub slice_bounds-tally-end : goal.slice_bounds-tally-end
-slice_bounds-tally-end c =
-    let after_deviations = (goal.at.slice_bounds-tally-end c).After-deviations in
+pub slice_bounds-weighed-end : goal.slice_bounds-weighed-end
+slice_bounds-weighed-end c =
+    let after_deviations = (goal.at.slice_bounds-weighed-end c).After-deviations in
     front_length {A = ℤ} _ _ (expected after_deviations) _ c.deviations.ensures (as_long after_deviations)
 
-pub tally-requires : goal.tally-requires
-tally-requires c =
-    let after_deviations = (goal.at.tally-requires c).After-deviations in
-    let w = (a after_deviations).requires in
+pub invariant_of-weighed : goal.invariant_of-weighed
+invariant_of-weighed c =
+    let after_deviations = (goal.at.invariant_of-weighed c).After-deviations in
+    let job = (a after_deviations).args.job.now.good in
     let d = front {A = ℤ} _ _ (expected after_deviations) _ c.deviations.ensures (as_long after_deviations) in record {
-      weighted = w.job.weighted;
-      sized = deviations_sized _ _ _ w.job.valued d;
-      shuffles = w.shuffles;
+      weighted = job.weighted;
+      sized = deviations_sized _ _ _ job.valued d;
     }
 
 pub returns : goal.returns

@@ -8,12 +8,14 @@ use lib.ListN.{length, get_or, take}
 use lib.Seq.{length-take-le, take-append-le, get_or-take}
 use mir.Syntax.{w64}
 use mir.ValLaws.{to_z-of_z}
+use Rattle.std.specs.Result.{IsOk}
 use Rattle.whole.specs.Table.{each}
 use Rattle.whole.proofs.Rules.{worked_when_taken}
 use Rattle.hot_list.specs.HotList.{in_order, order_left}
 use Rattle.hot_list.proofs.Ordered.{order_taken, in_order_length, in_order_below}
 use Rattle.report.specs.Steps.{Listed, zone_line}
 use Rattle.report.proofs.Puts.{put_as, put_most}
+use Rattle.report.proofs.Unrefused.{unrefused}
 use Rattle.report.proofs.working.put_hot_list.Goals as goal
 use Rattle.report.proofs.working.put_hot_list.Goals.{After-order, Start}
 
@@ -76,6 +78,14 @@ module _ (c : After-order) where
       c.order.ensures.lent
       ∙ worked_when_taken _ _ _
       (order_taken n _ _ _ z.least z.most z.weights_fit refl (length-take-le _ _ z.most))
+
+  ordered : IsOk c.order.result
+  ordered =
+      let z = s.requires.zoned in
+      unrefused _ (c.order.ensures.number ∙ order_taken n _ _ _ z.least z.most z.weights_fit refl (length-take-le _ _ z.most))
+
+pub unwrap-requires : goal.unwrap-requires
+unwrap-requires c = ordered ((goal.at.unwrap-requires c).After-order)
 
 pub put_zones-requires-clause-listed : goal.put_zones-requires-clause-listed
 put_zones-requires-clause-listed c =

@@ -9,8 +9,8 @@ loop-step-init c = marked_none _ _ _ _ _ _ c.requires.marks_len (c.fill.ensures.
 
 pub loop-step-preserved : goal.loop-step-preserved
 loop-step-preserved c =
-    let only = c.target.ensures.only in
-    elim c.match-target.branch [
+    let only = c.reached.ensures.only in
+    elim c.match-reached.branch [
       | in-Some w ↦ rw w.marks-is (marked_there _ _ _ _ _ _ _ c.loop-step.invariant only w.in-Some.zone w.in-Some.is w.in-Some.ensures.within)
       | in_default w ↦ rw w.marks-is (marked_out _ _ _ _ _ _ _ c.loop-step.invariant only w.in_default.is)
     ]
