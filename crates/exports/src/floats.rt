@@ -105,5 +105,7 @@ pub extern "C" fn dca_float_report(
     ensures having { has_pair.new ≡ has_pair_after n values.now weights.now classes.now
         globals.old locals.old pairs.old has_pair.old }
 {
-    refusals::number_of(float_report_into(n, values, weights, classes, globals, locals, pairs, has_pair))
+    refusals::number_of(float_report_into(
+        n, values, weights, classes, globals, locals, pairs, has_pair,
+    ))
 }

@@ -64,7 +64,9 @@ pub extern "C" fn dca_read(
         (buffers values.old categories.old weights.old
         places.old bands.old shuffles.old) counts.old }
 {
-    refusals::number_of(read_into(image, values, categories, weights, places, bands, shuffles, counts))
+    refusals::number_of(read_into(
+        image, values, categories, weights, places, bands, shuffles, counts,
+    ))
 }
 
 // What `dca_write` answers, as a Result.
@@ -100,7 +102,9 @@ fn write_into(
     if filled.len() != 1 {
         return Err(Refusal::Length);
     }
-    let bytes = writer::write(values, categories, weights, places, bands, shuffles, given, out)?;
+    let bytes = writer::write(
+        values, categories, weights, places, bands, shuffles, given, out,
+    )?;
     storing::put_length(bytes, filled);
     Ok(())
 }
@@ -132,7 +136,9 @@ pub extern "C" fn dca_write(
         places.now bands.now shuffles.now)
         counts.now out.old filled.old }
 {
-    refusals::number_of(write_into(values, categories, weights, places, bands, shuffles, counts, out, filled))
+    refusals::number_of(write_into(
+        values, categories, weights, places, bands, shuffles, counts, out, filled,
+    ))
 }
 
 // What `dca_report` answers, as a Result.

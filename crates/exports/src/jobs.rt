@@ -81,7 +81,15 @@ fn class_account_into(
     )?;
     // The job's own local numerators are not asked for.
     let mut space: [i64; 64] = [0; 64];
-    account::class_account(n, values, weights, classes, rows, class_locals, &mut space[..n])?;
+    account::class_account(
+        n,
+        values,
+        weights,
+        classes,
+        rows,
+        class_locals,
+        &mut space[..n],
+    )?;
     Ok(())
 }
 
