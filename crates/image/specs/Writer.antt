@@ -17,8 +17,13 @@ use Rattle.image.specs.Image.{
   shuffle_rules,
   job_bytes,
 }
-use Rattle.image.specs.Reader.{Buffers, buffer_lengths}
+use Rattle.image.specs.Reader.{Buffers, buffers, buffer_lengths}
 use Rattle.image.specs.declared.Given.{Given}
+use Rattle.image.specs.declared.Lists.{Lists}
+
+-- the lists that are lent, as the reader's buffers hold them
+abbrev pub listed : Lists → Buffers
+listed lists = buffers lists.values.now lists.categories.now lists.weights.now lists.places.now lists.bands.now lists.shuffles.now
 
 -- the job in the buffers: unused entries are no part of it
 unfoldable pub lent_job : Given → Buffers → Job

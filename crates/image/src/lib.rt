@@ -19,6 +19,17 @@ pub struct Given {
     pub shuffles: usize,
 }
 
+// The six lists of a job, as they are lent: the first entries of each are used, as many as the counts say.
+#[derive(Clone, Copy)]
+pub struct Lists<'a> {
+    pub values: &'a [i32],
+    pub categories: &'a [u8],
+    pub weights: &'a [u8],
+    pub places: &'a [i32],
+    pub bands: &'a [u32],
+    pub shuffles: &'a [u8],
+}
+
 // 1: a count of values outside 2 to 64.
 pub fn judge_zone_count(n: usize) -> Result<(), Refusal>
     ensures { number_of result ≡ first_broken (zone_count_rule n ∷ []) }

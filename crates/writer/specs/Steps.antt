@@ -38,7 +38,6 @@ bytes_of from to (suc w) = from ∷ to ∷ suc w ∷ []
 
 -- a job that is written: it breaks no rule, its joins are k, and there is room for its bytes
 pub record Storable (given : Given) (lent : Buffers) (k room : ℕ) : Type 0 where
-  pub sized : Sized given lent
   pub sound : first_broken (part_rules given (lent_job given lent)) ≡ 0
   pub counted : k ≡ length (joins_of given.values (lent_job given lent).weights)
   pub fits : length (job_bytes given (lent_job given lent)) ≤ room

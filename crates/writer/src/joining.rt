@@ -6,15 +6,17 @@ ghost use Rattle.whole.specs.Table.{each};
 ghost use Rattle.refusals.specs.Refusals.{number_of};
 ghost use Rattle.image.specs.Joins.{joins_of, weight_rules};
 ghost use Rattle.image.specs.Image.{join_bytes};
-ghost use Rattle.writer.specs.Steps.{Tabled, bytes_of};
+ghost use Rattle.writer.specs.Steps.{bytes_of};
 
+use crate::lists::Table;
 use refusals::Refusal;
 
 // The first number of a table of weights, row by row: 5 before 4 at each weight.
-pub(super) fn judge_weights(weights: &[u8], n: usize) -> Result<(), Refusal>
-    requires { Tabled weights.now n }
-    ensures { number_of result ≡ first_broken (in_turn (weight_rules n weights.now) (n * n)) }
+pub(super) fn judge_weights(table: &Table) -> Result<(), Refusal>
+    ensures { number_of result
+        ≡ first_broken (in_turn (weight_rules table.now.n table.now.weights.now) (table.now.n * table.now.n)) }
 {
+    let Table { n, weights } = *table;
     for (p, weight) in weights.iter().enumerate() {
         if *weight > 0 && p / n == p % n {
             return Err(Refusal::Diagonal);
@@ -52,12 +54,12 @@ fn put_join(out: &mut [u8], at: usize, from: usize, to: usize, weight: u8) -> us
 }
 
 // The bytes of the joins of a table, row by row; answers the place after them.
-pub(super) fn put_joins(out: &mut [u8], at: usize, weights: &[u8], n: usize) -> usize
-    requires tabled { Tabled weights.now n }
-    requires weights_in_bounds { at + length (each join_bytes (joins_of n weights.now)) ≤ length out.old }
-    ensures place { result ≡ at + length (each join_bytes (joins_of n weights.now)) }
-    ensures out_after { out.new ≡ sets out.old at (each join_bytes (joins_of n weights.now)) }
+pub(super) fn put_joins(out: &mut [u8], at: usize, table: &Table) -> usize
+    requires { at + length (each join_bytes (joins_of table.now.n table.now.weights.now)) ≤ length out.old }
+    ensures place { result ≡ at + length (each join_bytes (joins_of table.now.n table.now.weights.now)) }
+    ensures out_after { out.new ≡ sets out.old at (each join_bytes (joins_of table.now.n table.now.weights.now)) }
 {
+    let Table { n, weights } = *table;
     let mut place = at;
     for from in 0..n {
         let row = &weights[from * n..from * n + n];

@@ -1,144 +1,124 @@
 // The judge of a job that is to be written: 1, then 2, then its parts in the image's order, a count before its items, then 6 and 7.
-ghost use Rattle.std.specs.Prelude.{◌≡◌, ◌∷◌, ◌*◌, ◌≤◌, length, take};
+ghost use Rattle.std.specs.Prelude.{◌≡◌, ◌∷◌, ◌*◌, take};
 ghost use Rattle.whole.specs.Rules.{first_broken, in_turn};
 ghost use Rattle.refusals.specs.Refusals.{number_of};
 ghost use Rattle.places.specs.Places.{places_in_turn};
 ghost use Rattle.image.specs.Joins.{weight_rules};
 ghost use Rattle.image.specs.Image.{none_or_all_rule, band_count_rule, shuffle_count_rule};
 ghost use Rattle.image.specs.Image.{value_rules, category_rules, band_rules, shuffle_rules};
-ghost use Rattle.image.specs.Reader.{buffers};
-ghost use Rattle.image.specs.Writer.{lent_job, part_rules};
-ghost use Rattle.writer.specs.Steps.{Sized, Tabled, judged_rules};
+ghost use Rattle.image.specs.Writer.{listed, lent_job, part_rules};
+ghost use Rattle.writer.specs.Steps.{judged_rules};
 
 use crate::joining;
-use image::Given;
+use crate::lists::{SizedLists, Table};
+use image::{Given, Lists};
 use judges::Places;
 use refusals::Refusal;
 
-// 3: n values.
-fn judge_values(values: &[i32]) -> Result<(), Refusal>
-    ensures { number_of result ≡ first_broken (value_rules values.now) }
+// 3: the values.
+fn judge_values(job: &SizedLists) -> Result<(), Refusal>
+    ensures { number_of result ≡ first_broken (value_rules (take job.now.given.values job.now.lists.values.now)) }
 {
-    if judges::any_beyond(100000, values) {
+    if judges::any_beyond(100000, &job.lists.values[..job.given.values]) {
         return Err(Refusal::Value);
     }
     Ok(())
 }
 
-// 15 and 8: k categories of n zones.
-fn judge_categories(categories: &[u8], n: usize, k: usize) -> Result<(), Refusal>
-    requires n_bound { n ≤ 64 }
-    requires categories_len { length categories.now ≡ 64 }
+// 15 and 8: the categories.
+fn judge_categories(job: &SizedLists) -> Result<(), Refusal>
     ensures { number_of result
-        ≡ first_broken (none_or_all_rule n k ∷ category_rules (take k categories.now)) }
+        ≡ first_broken (none_or_all_rule job.now.given.values job.now.given.categories
+        ∷ category_rules (take job.now.given.categories job.now.lists.categories.now)) }
 {
-    image::judge_none_or_all(n, k)?;
-    if judges::any_above(7, &categories[..k]) {
+    let k = job.given.categories;
+    image::judge_none_or_all(job.given.values, k)?;
+    if judges::any_above(7, &job.lists.categories[..k]) {
         return Err(Refusal::Category);
     }
     Ok(())
 }
 
-// 5 and 4: the weights of n zones. Which of them comes first, row by row, is asked only where a search of the table finds one.
-fn judge_weights(weights: &[u8], n: usize) -> Result<(), Refusal>
-    requires { Tabled weights.now n }
-    ensures { number_of result ≡ first_broken (in_turn (weight_rules n weights.now) (n * n)) }
+// 5 and 4: the weights. Which of them comes first, row by row, is asked only where a search of the table finds one.
+fn judge_weights(table: &Table) -> Result<(), Refusal>
+    ensures { number_of result
+        ≡ first_broken (in_turn (weight_rules table.now.n table.now.weights.now) (table.now.n * table.now.n)) }
 {
-    if judges::any_above(9, weights) || judges::any_on_diagonal(n, weights) {
-        return joining::judge_weights(weights, n);
+    if judges::any_above(9, table.weights) || judges::any_on_diagonal(table.n, table.weights) {
+        return joining::judge_weights(table);
     }
     Ok(())
 }
 
-// 15, 10 and 11: k places of n zones.
-fn judge_places(places: &[i32], n: usize, k: usize) -> Result<(), Refusal>
-    requires n_bound { n ≤ 64 }
-    requires places_len { length places.now ≡ 128 }
+// 15, 10 and 11: the places.
+fn judge_places(job: &SizedLists) -> Result<(), Refusal>
     ensures { number_of result
-        ≡ first_broken (none_or_all_rule n k ∷ places_in_turn (take (2 * k) places.now)) }
+        ≡ first_broken (none_or_all_rule job.now.given.values job.now.given.places
+        ∷ places_in_turn (take (2 * job.now.given.places) job.now.lists.places.now)) }
 {
-    image::judge_none_or_all(n, k)?;
-    let coordinates = 2 * k;
-    places::judge_in_turn(&places[..coordinates])
+    image::judge_none_or_all(job.given.values, job.given.places)?;
+    let coordinates = 2 * job.given.places;
+    places::judge_in_turn(&job.lists.places[..coordinates])
 }
 
-// 12: k bands of a job with so many places.
-fn judge_bands(bands: &[u32], places: usize, k: usize) -> Result<(), Refusal>
-    requires { length bands.now ≡ 8 }
-    ensures { number_of result ≡ first_broken (band_count_rule places k ∷ band_rules (take k bands.now)) }
+// 12: the bands.
+fn judge_bands(job: &SizedLists) -> Result<(), Refusal>
+    ensures { number_of result
+        ≡ first_broken (band_count_rule job.now.given.places job.now.given.bands
+        ∷ band_rules (take job.now.given.bands job.now.lists.bands.now)) }
 {
-    image::judge_band_count(places, k)?;
-    if places::any_misplaced(&bands[..k]) {
+    let k = job.given.bands;
+    image::judge_band_count(job.given.places, k)?;
+    if places::any_misplaced(&job.lists.bands[..k]) {
         return Err(Refusal::Bands);
     }
     Ok(())
 }
 
-// 15 and 13: k shuffles of n zones.
-fn judge_shuffles(shuffles: &[u8], n: usize, k: usize) -> Result<(), Refusal>
-    requires le_n { 2 ≤ n }
-    requires n_bound { n ≤ 64 }
-    requires shuffles_len { length shuffles.now ≡ 31936 }
+// 15 and 13: the shuffles.
+fn judge_shuffles(job: &SizedLists) -> Result<(), Refusal>
     ensures { number_of result
-        ≡ first_broken (shuffle_count_rule k ∷ shuffle_rules n (take (k * n) shuffles.now)) }
+        ≡ first_broken (shuffle_count_rule job.now.given.shuffles
+        ∷ shuffle_rules job.now.given.values (take (job.now.given.shuffles * job.now.given.values) job.now.lists.shuffles.now)) }
 {
-    image::judge_shuffle_count(k)?;
-    let entries = k * n;
-    shuffles::judge_shuffles(n, &shuffles[..entries])
+    let n = job.given.values;
+    image::judge_shuffle_count(job.given.shuffles)?;
+    let entries = job.given.shuffles * n;
+    shuffles::judge_shuffles(n, &job.lists.shuffles[..entries])
 }
 
 // The parts, where 1 and 2 are judged.
-fn judge_parts(
-    values: &[i32],
-    categories: &[u8],
-    weights: &[u8],
-    places: &[i32],
-    bands: &[u32],
-    shuffles: &[u8],
-    given: Given,
-) -> Result<(), Refusal>
-    requires { Sized given (buffers values.now categories.now weights.now places.now bands.now shuffles.now) }
-    ensures { number_of result ≡ first_broken (part_rules given (lent_job given
-        (buffers values.now categories.now weights.now
-        places.now bands.now shuffles.now))) }
+fn judge_parts(job: &SizedLists) -> Result<(), Refusal>
+    ensures { number_of result ≡ first_broken (part_rules job.now.given (lent_job job.now.given (listed job.now.lists))) }
 {
-    let n = given.values;
-    judge_values(&values[..n])?;
-    judge_categories(categories, n, given.categories)?;
-    let pairs = n * n;
-    judge_weights(&weights[..pairs], n)?;
-    judge_places(places, n, given.places)?;
-    judge_bands(bands, given.places, given.bands)?;
-    judge_shuffles(shuffles, n, given.shuffles)
+    judge_values(job)?;
+    judge_categories(job)?;
+    judge_weights(&job.table())?;
+    judge_places(job)?;
+    judge_bands(job)?;
+    judge_shuffles(job)
 }
 
 // All but 19.
-pub(super) fn judge(
-    values: &[i32],
-    categories: &[u8],
-    weights: &[u8],
-    places: &[i32],
-    bands: &[u32],
-    shuffles: &[u8],
-    given: Given,
-) -> Result<(), Refusal>
-    ensures { number_of result ≡ first_broken (judged_rules given
-        (buffers values.now categories.now weights.now
-        places.now bands.now shuffles.now)) }
+pub(super) fn judge(lists: Lists, given: Given) -> Result<(), Refusal>
+    ensures { number_of result ≡ first_broken (judged_rules given (listed lists.entry)) }
 {
     judges::judge_lent(
         given.values,
         &[
-            (values.len(), Places::Fixed(64)),
-            (categories.len(), Places::Fixed(64)),
-            (weights.len(), Places::Fixed(4096)),
-            (places.len(), Places::Fixed(128)),
-            (bands.len(), Places::Fixed(8)),
-            (shuffles.len(), Places::Fixed(31936)),
+            (lists.values.len(), Places::Fixed(64)),
+            (lists.categories.len(), Places::Fixed(64)),
+            (lists.weights.len(), Places::Fixed(4096)),
+            (lists.places.len(), Places::Fixed(128)),
+            (lists.bands.len(), Places::Fixed(8)),
+            (lists.shuffles.len(), Places::Fixed(31936)),
         ],
     )?;
-    judge_parts(values, categories, weights, places, bands, shuffles, given)?;
-    let n = given.values;
-    let pairs = n * n;
-    account::judge(n, &values[..n], &weights[..pairs])
+    let job = SizedLists { given, lists };
+    judge_parts(&job)?;
+    account::judge(
+        given.values,
+        &lists.values[..given.values],
+        job.table().weights,
+    )
 }

@@ -7,16 +7,15 @@ use borrow.Author.Rules.{rules}
 use lib.ListN.{length}
 use Rattle.std.specs.Prelude.{Err}
 use Rattle.whole.specs.Rules.{first_broken}
-use Rattle.whole.proofs.Lists.{few}
 use Rattle.refusals.specs.declared.Refusal.TheVariants.{Output}
 use Rattle.refusals.specs.Refusals.{number_of}
 use Rattle.image.specs.Image.{job_bytes}
-use Rattle.image.specs.Reader.{Buffers, buffers}
-use Rattle.image.specs.Writer.{lent_job, part_rules}
+use Rattle.image.specs.Reader.{Buffers}
+use Rattle.image.specs.Writer.{listed, lent_job, part_rules}
 use Rattle.image.specs.declared.Given.{Given}
 use Rattle.writer.specs.Steps.{Sized, judged_rules}
 use Rattle.writer.specs.Answers.{length_of}
-use Rattle.writer.proofs.Parts.{Whole, whole, weights_there}
+use Rattle.writer.proofs.Parts.{Whole, whole}
 use Rattle.writer.proofs.Lengths.{all_length}
 use Rattle.writer.proofs.Answered as A
 use Rattle.writer.proofs.write.Goals as goal
@@ -28,9 +27,7 @@ module _ (s : Start) where
   given = s.args.given
 
   abbrev lent : Buffers
-  lent =
-      buffers s.args.values.now s.args.categories.now s.args.weights.now
-      s.args.places.now s.args.bands.now s.args.shuffles.now
+  lent = listed s.args.lists
 
   abbrev out : List ℕ
   out = s.args.out.now
@@ -56,7 +53,8 @@ module _ (c : After-count_joins-joins) where
   parts : Whole (given s) (lent s) c.count_joins-joins.result
   unfolding lent_job
   parts =
-      whole (given s) (lent s) c.count_joins-joins.result sized parts_sound (c.count_joins-joins.ensures (given s).values)
+      whole (given s) (lent s) c.count_joins-joins.result sized parts_sound
+      (rw c.table.ensures.weights at c.count_joins-joins.ensures (given s).values)
 
 -- and their image has its length
 measured :
@@ -77,16 +75,6 @@ returns-in_err-judge c =
     let kept = A.kept (given s) (lent s) (out s) e.field-0.0 number in
     record { number = ap number_of same ∙ number; length = ap length_of same ∙ kept.length; lent = kept.left }
 
-pub overflow_mul-pairs : goal.overflow_mul-pairs
-overflow_mul-pairs c =
-    let s = (goal.at.overflow_mul-pairs c).Start in
-    omega (arith, few (given s).values (A.sized (given s) (lent s) (sound ((goal.at.overflow_mul-pairs c).In_ok-judge))).zones)
-
-pub slice_bounds-count_joins-end : goal.slice_bounds-count_joins-end
-slice_bounds-count_joins-end c =
-    let s = (goal.at.slice_bounds-count_joins-end c).Start in
-    sym (weights_there (given s) (lent s) (A.sized (given s) (lent s) (sound ((goal.at.slice_bounds-count_joins-end c).In_ok-judge))))
-
 pub image_length-length-requires : goal.image_length-length-requires
 image_length-length-requires c = (parts ((goal.at.image_length-length-requires c).After-count_joins-joins)).counted
 
@@ -105,7 +93,6 @@ pub store-requires : goal.store-requires
 unfolding lent_job
 store-requires c =
     let j = (goal.at.store-requires c).After-count_joins-joins in record {
-      sized = sized j;
       sound = parts_sound j;
       counted = (parts j).joins;
       fits = omega (arith, measured ((goal.at.store-requires c).After-image_length-length), c.if-out-length.false);

@@ -47,15 +47,15 @@ loop-p-init c = (omega arith, turn_none (weight_rules _ _) (weight_numbered _ _)
 
 pub returns-then-p-n : goal.returns-then-p-n
 returns-then-p-n c =
-    let n = c.args.n in
-    let weights = c.args.weights.now in
+    let n = c.args.table.now.n in
+    let weights = c.args.table.now.weights.now in
     turn_found (weight_rules n weights) (weight_numbered n weights) (n * n) c.loop-p.p 5 (omega arith) c.loop-p.invariant.1
     (diagonal n weights c.loop-p.p c.if-weight-gt0.true c.if-p-n.true) (λ z. omega arith)
 
 pub returns-then-weight-gt9 : goal.returns-then-weight-gt9
 returns-then-weight-gt9 c =
-    let n = c.args.n in
-    let weights = c.args.weights.now in
+    let n = c.args.table.now.n in
+    let weights = c.args.table.now.weights.now in
     let p = c.loop-p.p in
     let clear : on_diagonal n weights p ≡ false = elim c.else-weight-gt0.branch [
       | else-weight-gt0-via-then-weight-gt0+else-p-n w ↦ elsewhere n weights p w.if-p-n.false
@@ -66,8 +66,8 @@ returns-then-weight-gt9 c =
 
 pub loop-p-preserved : goal.loop-p-preserved
 loop-p-preserved c =
-    let n = c.args.n in
-    let weights = c.args.weights.now in
+    let n = c.args.table.now.n in
+    let weights = c.args.table.now.weights.now in
     let p = c.loop-p.p in
     let clear : on_diagonal n weights p ≡ false = elim c.else-weight-gt0.branch [
       | else-weight-gt0-via-then-weight-gt0+else-p-n w ↦ elsewhere n weights p w.if-p-n.false

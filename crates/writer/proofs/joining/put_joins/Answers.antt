@@ -11,19 +11,18 @@ use Rattle.writer.proofs.joining.put_joins.Goals as goal
 
 pub loop-from-init : goal.loop-from-init
 loop-from-init c =
-    let a = c.args in
+    let a = c.args.table.now in
     behind_none _ (ap (bytes_before a.n a.weights.now) {x = 0 * a.n} {y = 0} (omega arith) ∙ none_put a.n a.weights.now)
 
 pub put_join-place-requires-clause-weight_in_bounds : goal.put_join-place-requires-clause-weight_in_bounds
 put_join-place-requires-clause-weight_in_bounds c =
-    let a = c.args in
-    let r = c.requires in
-    let within = more_within a.n a.weights.now c.loop-from.from c.loop-to.to _ c.loop-to-test.true c.loop-from-test.true r.tabled.there refl in
-    behind_room _ (each join_bytes (joins_of a.n a.weights.now)) c.loop-to.invariant within r.weights_in_bounds
+    let a = c.args.table.now in
+    let within = more_within a.n a.weights.now c.loop-from.from c.loop-to.to _ c.loop-to-test.true c.loop-from-test.true a.tabled.there refl in
+    behind_room _ (each join_bytes (joins_of a.n a.weights.now)) c.loop-to.invariant within c.requires
 
 pub loop-to-preserved : goal.loop-to-preserved
 loop-to-preserved c =
-    let a = c.args in
+    let a = c.args.table.now in
     let put = c.put_join-place.ensures in
-    let more = more_put a.n a.weights.now c.loop-from.from c.loop-to.to _ c.loop-to-test.true c.loop-from-test.true c.requires.tabled.there refl in
+    let more = more_put a.n a.weights.now c.loop-from.from c.loop-to.to _ c.loop-to-test.true c.loop-from-test.true a.tabled.there refl in
     behind_next _ c.loop-to.invariant put.out_after put.value more

@@ -7,8 +7,8 @@ use Rattle.whole.proofs.Rules.{sizes_hold}
 use Rattle.refusals.specs.Refusals.{number_by, number_of}
 use Rattle.account.specs.Refusals.{sum_rules}
 use Rattle.image.specs.Image.{Job}
-use Rattle.image.specs.Reader.{Buffers, buffers, buffer_lengths}
-use Rattle.image.specs.Writer.{lent_job, part_rules}
+use Rattle.image.specs.Reader.{Buffers, buffer_lengths}
+use Rattle.image.specs.Writer.{listed, lent_job, part_rules}
 use Rattle.image.specs.declared.Given.{Given}
 use Rattle.image.proofs.Parts.{parts_numbered}
 use Rattle.writer.specs.Steps.{Sized, judged_rules}
@@ -22,9 +22,7 @@ module _ (s : Start) where
   given = s.args.given
 
   abbrev lent : Buffers
-  lent =
-      buffers s.args.values.now s.args.categories.now s.args.weights.now
-      s.args.places.now s.args.bands.now s.args.shuffles.now
+  lent = listed s.args.lists
 
   abbrev job : Job
   job = lent_job given lent
@@ -60,6 +58,6 @@ returns c =
     let l = (goal.at.returns c).In_ok-judge_lent in
     let parts = part_rules (given (s l)) (job (s l)) in
     let sound = c.in_ok-judge_parts.ensures in
-    c.judge.ensures
+    (rw c.table.ensures.weights at c.judge.ensures)
     ∙ sums_last (given (s l)) (lent (s l)) (sized l) (sym sound)
     ∙ sym (past_sizes l ∙ passes parts (sums (s l)) (parts_numbered (given (s l)) (job (s l))) sound)

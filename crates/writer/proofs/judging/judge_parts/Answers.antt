@@ -6,35 +6,29 @@ use borrow.Author.Rules.{rules}
 use Rattle.whole.specs.Rules.{Rule, first_broken}
 use Rattle.refusals.specs.Refusals.{number_by, number_of}
 use Rattle.image.specs.Image.{Job, value_rules}
-use Rattle.image.specs.Reader.{Buffers, buffers}
-use Rattle.image.specs.Writer.{lent_job, part_rules}
+use Rattle.image.specs.Reader.{Buffers}
+use Rattle.image.specs.Writer.{listed, lent_job, part_rules}
 use Rattle.image.specs.declared.Given.{Given}
 use Rattle.image.proofs.Accepted.{places_numbered}
-use Rattle.image.proofs.Buffers.{Exact, exact}
 use Rattle.image.proofs.Parts as parts
 use Rattle.image.proofs.Parts.{weights_numbered}
 use Rattle.writer.proofs.Judged.{stops, passes}
 use Rattle.writer.proofs.judging.judge_parts.Goals as goal
-use Rattle.writer.proofs.judging.judge_parts.Goals.{Start, In_ok-judge_values, In_ok-judge_categories, In_ok-judge_weights, In_ok-judge_places, In_ok-judge_bands}
+use Rattle.writer.proofs.judging.judge_parts.Goals.{Start, In_ok-judge_values, In_ok-judge_categories, After-table, In_ok-judge_weights, In_ok-judge_places, In_ok-judge_bands}
 
 -- what is known at the start
 module _ (s : Start) where
   abbrev given : Given
-  given = s.args.given
+  given = s.args.job.now.given
 
   abbrev lent : Buffers
-  lent =
-      buffers s.args.values.now s.args.categories.now s.args.weights.now
-      s.args.places.now s.args.bands.now s.args.shuffles.now
+  lent = listed s.args.job.now.lists
 
   abbrev job : Job
   job = lent_job given lent
 
   abbrev rules_of : (Given → Job → List Rule) → List Rule
   rules_of part = part given job
-
-  lengths : Exact lent
-  lengths = exact lent s.requires.fits
 
 -- the rules after a part decide where it breaks none
 past_values :
@@ -60,9 +54,10 @@ past_weights :
 unfolding lent_job
 past_weights c =
     let s = (goal.at.In_ok-judge_weights c).Start in
+    let t = (goal.at.In_ok-judge_weights c).After-table.table.ensures in
     past_categories ((goal.at.In_ok-judge_weights c).In_ok-judge_categories)
     ∙ passes (rules_of s parts.of_weights) (rules_of s parts.after_weights) (weights_numbered (given s) (job s))
-    c.in_ok-judge_weights.ensures
+    (rw (t.n, t.weights) at c.in_ok-judge_weights.ensures)
 
 past_places :
     (c : In_ok-judge_places) → let s = (goal.at.In_ok-judge_places c).Start in
@@ -105,9 +100,10 @@ unfolding lent_job
 returns-in_err-judge_weights c =
     let s = (goal.at.returns-in_err-judge_weights c).Start in
     let e = c.in_err-judge_weights in
+    let t = (goal.at.returns-in_err-judge_weights c).After-table.table.ensures in
     let same : number_of c.from_residual-in_err-judge_weights.result ≡ number_by e.field-0.0 = search rules in
     same
-    ∙ stops (rules_of s parts.of_weights) (rules_of s parts.after_weights) e.field-0.0 e.ensures
+    ∙ stops (rules_of s parts.of_weights) (rules_of s parts.after_weights) e.field-0.0 (rw (t.n, t.weights) at e.ensures)
     ∙ sym (past_categories ((goal.at.returns-in_err-judge_weights c).In_ok-judge_categories))
 
 pub returns-in_err-judge_places : goal.returns-in_err-judge_places

@@ -7,4 +7,5 @@ pub returns : goal.returns
 returns c =
     let light = sym c.any_above.ensures ∙ c.if-any_above.false in
     let clear = sym c.any_on_diagonal.ensures ∙ c.if-any_on_diagonal.false in
-    sym (weights_sound c.args.n c.args.weights.now c.requires.there light clear)
+    let t = c.args.table.now in
+    sym (weights_sound t.n t.weights.now t.tabled.there light clear)

@@ -6,7 +6,7 @@ use Rattle.writer.proofs.storing.put_joins_section.Goals as goal
 
 pub put_count-items-requires-clause-k_bound : goal.put_count-items-requires-clause-k_bound
 put_count-items-requires-clause-k_bound c =
-    let n = c.args.n in
-    let some = joins_few n c.args.weights.now in
-    let pairs = few n c.requires.tabled.zones in
-    omega arith
+    let t = c.args.table.now in
+    let some = joins_few t.n t.weights.now in
+    let pairs = few t.n t.tabled.zones in
+    omega (arith, t.tabled.there)

@@ -6,8 +6,8 @@ use native.Mathlib.Omega.{arith}
 use lib.ListN.{length}
 use Rattle.whole.specs.Table.{over}
 use Rattle.image.specs.Image.{job_bytes}
-use Rattle.image.specs.Reader.{Buffers, buffers}
-use Rattle.image.specs.Writer.{lent_job}
+use Rattle.image.specs.Reader.{Buffers}
+use Rattle.image.specs.Writer.{listed, lent_job}
 use Rattle.image.specs.declared.Given.{Given}
 use Rattle.writer.specs.Steps.{length_with}
 use Rattle.whole.proofs.Stores.{stored_over}
@@ -15,17 +15,15 @@ use Rattle.writer.proofs.Behind.{Behind, behind_next, behind_room}
 use Rattle.writer.proofs.Parts.{Whole, whole}
 use Rattle.writer.proofs.Lengths as L
 use Rattle.writer.proofs.storing.store.Goals as goal
-use Rattle.writer.proofs.storing.store.Goals.{Start, After-put_section-at_categories, After-put_section-at_joins, After-put_joins_section-at_places, After-put_section-at_bands, After-put_section-at_shuffles, After-put_section}
+use Rattle.writer.proofs.storing.store.Goals.{Start, After-put_section-at_categories, After-put_section-at_joins, After-table, After-put_joins_section-at_places, After-put_section-at_bands, After-put_section-at_shuffles, After-put_section}
 
 -- what is known at the start
 module _ (s : Start) where
   abbrev given : Given
-  given = s.args.given
+  given = s.args.job.now.given
 
   abbrev lent : Buffers
-  lent =
-      buffers s.args.values.now s.args.categories.now s.args.weights.now
-      s.args.places.now s.args.bands.now s.args.shuffles.now
+  lent = listed s.args.job.now.lists
 
   abbrev out : List ℕ
   out = s.args.out.now
@@ -38,7 +36,7 @@ module _ (s : Start) where
   part sections = sections given lent joins
 
   parts : Whole given lent joins
-  parts = whole given lent joins s.requires.sized s.requires.sound s.requires.counted
+  parts = whole given lent joins s.args.job.now.sized s.requires.sound s.requires.counted
 
   all_there : job_bytes given (lent_job given lent) ≡ part L.sections
   all_there = L.all_sections given lent joins parts.joins
@@ -73,9 +71,10 @@ joins_put :
     let r = c.put_joins_section-at_places in Behind (out s) 0 (part s L.to_places) r.result r.new.out
 joins_put c =
     let s = (goal.at.After-put_joins_section-at_places c).Start in
+    let t = (goal.at.After-put_joins_section-at_places c).After-table.table.ensures in
     let r = c.put_joins_section-at_places.ensures in
     let before = categories_put ((goal.at.After-put_joins_section-at_places c).After-put_section-at_joins) in
-    behind_next (part s L.joins_section) before r.out_after r.place refl
+    behind_next (part s L.joins_section) before (rw (t.n, t.weights) at r.out_after) (rw (t.n, t.weights) at r.place) refl
 
 places_put :
     (c : After-put_section-at_bands) → let s = (goal.at.After-put_section-at_bands c).Start in
@@ -126,11 +125,11 @@ put_joins_section-at_places-requires c =
     let s = (goal.at.put_joins_section-at_places-requires c).Start in
     let before = categories_put ((goal.at.put_joins_section-at_places-requires c).After-put_section-at_joins) in
     let g = grown s in
-    let p = parts s in record {
-      tabled = record { two = c.requires.sized.two; zones = c.requires.sized.zones; there = p.weights };
-      k_value = p.joins;
+    let t = c.table.ensures in
+    rw (t.n, t.weights) (record {
+      k_value = (parts s).joins;
       joins_in_bounds = behind_room (part s L.joins_section) (part s L.sections) before (omega arith) (room s);
-    }
+    })
 
 pub overflow_mul-coordinates : goal.overflow_mul-coordinates
 overflow_mul-coordinates c = omega (arith, (parts ((goal.at.overflow_mul-coordinates c).Start)).counted.places)
