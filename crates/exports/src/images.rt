@@ -6,6 +6,7 @@ ghost use Rattle.exports.specs.Images.{read_number, buffers_after, counts_after}
 ghost use Rattle.exports.specs.Images.{write_number, out_after, length_after, text_number, text_after, text_length_after};
 
 use crate::storing;
+use image::Lists;
 use refusals::Refusal;
 
 // What `dca_read` answers, as a Result.
@@ -102,9 +103,15 @@ fn write_into(
     if filled.len() != 1 {
         return Err(Refusal::Length);
     }
-    let bytes = writer::write(
-        values, categories, weights, places, bands, shuffles, given, out,
-    )?;
+    let lists = Lists {
+        values,
+        categories,
+        weights,
+        places,
+        bands,
+        shuffles,
+    };
+    let bytes = writer::write(lists, given, out)?;
     storing::put_length(bytes, filled);
     Ok(())
 }
