@@ -9,7 +9,7 @@ use Rattle.refusals.specs.declared.Refusal.TheVariants.{Length}
 use Rattle.refusals.specs.Refusals.{number_by}
 use Rattle.refusals.proofs.Refusals.{not_refused, left_by, worked_by}
 use Rattle.image.specs.Image.{zone_count_rule, job_bytes}
-use Rattle.image.specs.Reader.{Buffers}
+use Rattle.image.specs.Reader.{Buffers, buffers}
 use Rattle.image.specs.Writer.{lent_job, write_rules, write_refusal, write_length, write_left}
 use Rattle.image.specs.declared.Given.{Given}
 use Rattle.writer.specs.Answers.{length_of}
@@ -47,6 +47,12 @@ module _ (lent : Buffers) (counts out bytes : List ℕ) where
       by_writer fit =
           ap (λ g. first_broken (write_rules g lent (length out))) told
           ∙ rw (eq-eqb (length counts) 5 five, inside, eq-eqb (length bytes) 1 fit) refl
+
+-- and so is the image that it writes
+same_image :
+    (lent : Buffers) (counts : List ℕ) (given : Given) → given ≡ given_by counts →
+    job_bytes given (lent_job given lent) ≡ job_bytes (given_by counts) (lent_job (given_by counts) lent)
+same_image lent counts given told = ap (λ g. job_bytes g (lent_job g lent)) told
 
 pub returns-then-counts-ne5 : goal.returns-then-counts-ne5
 unfolding out_after length_after
@@ -86,17 +92,20 @@ returns c =
     let own = c.in_ok-bytes.ensures in
     let zones = c.in_ok-judge_zone_count.ensures in
     let told = c.given-given.ensures in
+    let a = c.args in
+    let lent = buffers a.values.now a.categories.now a.weights.now a.places.now a.bands.now a.shuffles.now in
+    let image = same_image lent a.counts.now _ told in
     let z = own.number ∙ by_writer _ _ _ _ _ told c.if-counts-ne5.false zones c.if-filled-ne1.false in record {
       number = z;
       out =
           own.lent
           ∙ worked_by _ _ _ own.number
-          ∙ ap (λ g. over (job_bytes g (lent_job g _)) _) told
+          ∙ ap (λ (image : List ℕ). over image a.out.now) image
           ∙ sym (worked_by _ _ _ z);
       filled =
           c.put_length.ensures
           ∙ own.length
           ∙ worked_by _ _ _ own.number
-          ∙ ap (λ g. length (job_bytes g (lent_job g _)) ∷ []) told
+          ∙ ap (λ (image : List ℕ). length image ∷ []) image
           ∙ sym (worked_by _ _ _ z);
     }
