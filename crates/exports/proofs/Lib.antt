@@ -2,5 +2,4 @@ pub mod Puts
 pub mod Numbers
 pub mod JobAnswers
 pub mod FloatAnswers
-pub mod ImageAnswers
 pub mod PairList

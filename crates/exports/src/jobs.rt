@@ -1,11 +1,41 @@
 // The account, the class account, the hot list and the rank.
 ghost use Rattle.std.specs.Prelude.{◌≡◌};
+ghost use Rattle.refusals.specs.Refusals.{number_of};
 ghost use Rattle.account.specs.Refusals.{account_refusal};
 ghost use Rattle.hot_list.specs.HotList.{hot_zones};
 ghost use Rattle.exports.specs.Jobs.{account_number, locals_after, sums_after, rank_number, rank_after};
 ghost use Rattle.exports.specs.Jobs.{class_number, rows_after, class_locals_after};
 
 use crate::storing;
+use judges::Places;
+use refusals::Refusal;
+
+// What `dca_account` answers, as a Result.
+fn account_into(
+    n: usize,
+    values: &[i32],
+    weights: &[u8],
+    locals: &mut [i64],
+    sums: &mut [i64],
+) -> Result<(), Refusal>
+    ensures number { number_of result ≡ account_number n values.now weights.now locals.old sums.old }
+    ensures locals { locals.new
+        ≡ locals_after n values.now weights.now locals.old sums.old }
+    ensures sums { sums.new
+        ≡ sums_after n values.now weights.now locals.old sums.old }
+{
+    judges::judge_lent(
+        n,
+        &[
+            (values.len(), Places::Zones),
+            (weights.len(), Places::Pairs),
+            (sums.len(), Places::Fixed(6)),
+        ],
+    )?;
+    let figures = account::account(n, values, weights, locals)?;
+    storing::put_sums(figures, sums);
+    Ok(())
+}
 
 // The local numerators go to `locals`, n places, and S, M, W, P, G and the number of zones kept to `sums`, 6 places.
 #[unsafe(no_mangle)]
@@ -22,17 +52,45 @@ pub extern "C" fn dca_account(
     ensures sums { sums.new
         ≡ sums_after n values.now weights.now locals.old sums.old }
 {
-    let sizes = judges::judge_sizes(n, values.len(), weights.len(), sums.len(), 6);
-    if sizes != 0 {
-        return sizes;
-    }
-    match account::account(n, values, weights, locals) {
-        account::Answer::Refused(number) => number,
-        account::Answer::Accounted(figures) => {
-            storing::put_sums(figures, sums);
-            0
-        }
-    }
+    refusals::number_of(account_into(n, values, weights, locals, sums))
+}
+
+// What `dca_class_account` answers, as a Result.
+fn class_account_into(
+    n: usize,
+    values: &[i32],
+    weights: &[u8],
+    classes: &[u8],
+    rows: &mut [i64],
+    class_locals: &mut [i64],
+) -> Result<(), Refusal>
+    ensures number { number_of result ≡ class_number n values.now weights.now classes.now
+        rows.old class_locals.old }
+    ensures rows { rows.new ≡ rows_after n values.now weights.now classes.now
+        rows.old class_locals.old }
+    ensures numerators { class_locals.new ≡ class_locals_after n
+        values.now weights.now classes.now rows.old class_locals.old }
+{
+    judges::judge_lent(
+        n,
+        &[
+            (values.len(), Places::Zones),
+            (weights.len(), Places::Pairs),
+            (rows.len(), Places::Fixed(27)),
+        ],
+    )?;
+    // The job's own local numerators are not asked for.
+    let mut space: [i64; 64] = [0; 64];
+    account::class_account(
+        n,
+        values,
+        weights,
+        classes,
+        rows,
+        class_locals,
+        &mut space[..n],
+    )?;
+    Ok(())
 }
 
 // W, P and G of class 0, of class 1, .. go to `rows`, 27 places, and the local numerators of class 0, of class 1, .. to `class_locals`,
@@ -53,24 +111,7 @@ pub extern "C" fn dca_class_account(
     ensures numerators { class_locals.new ≡ class_locals_after n
         values.now weights.now classes.now rows.old class_locals.old }
 {
-    let sizes = judges::judge_sizes(n, values.len(), weights.len(), rows.len(), 27);
-    if sizes != 0 {
-        return sizes;
-    }
-    // The job's own local numerators are not asked for.
-    let mut space: [i64; 64] = [0; 64];
-    match account::class_account(
-        n,
-        values,
-        weights,
-        classes,
-        rows,
-        class_locals,
-        &mut space[..n],
-    ) {
-        account::Answer::Refused(number) => number,
-        account::Answer::Accounted(_) => 0,
-    }
+    refusals::number_of(class_account_into(n, values, weights, classes, rows, class_locals))
 }
 
 // The zone numbers by falling L(i), equal ones by rising zone number, go to `zones`, n places.
@@ -79,7 +120,32 @@ pub extern "C" fn dca_hot_list(n: usize, values: &[i32], weights: &[u8], zones: 
     ensures number { result ≡ account_refusal n values.now weights.now zones.old }
     ensures lent { zones.new ≡ hot_zones n values.now weights.now zones.old }
 {
-    hot_list::hot_list(n, values, weights, zones)
+    refusals::number_of(hot_list::hot_list(n, values, weights, zones))
+}
+
+// What `dca_rank` answers, as a Result.
+fn rank_into(
+    n: usize,
+    values: &[i32],
+    weights: &[u8],
+    shuffles: &[u8],
+    counts: &mut [u64],
+) -> Result<(), Refusal>
+    ensures number { number_of result ≡ rank_number n values.now weights.now shuffles.now counts.old }
+    ensures lent { counts.new
+        ≡ rank_after n values.now weights.now shuffles.now counts.old }
+{
+    judges::judge_lent(
+        n,
+        &[
+            (values.len(), Places::Zones),
+            (weights.len(), Places::Pairs),
+            (counts.len(), Places::Fixed(3)),
+        ],
+    )?;
+    let three = account::rank(n, values, weights, shuffles)?;
+    storing::put_rank(three, counts);
+    Ok(())
 }
 
 // Of 0 to 499 shuffles, a row of n zone numbers each, the numbers of those whose P is less than, equal to and greater than the job's own
@@ -96,15 +162,5 @@ pub extern "C" fn dca_rank(
     ensures lent { counts.new
         ≡ rank_after n values.now weights.now shuffles.now counts.old }
 {
-    let sizes = judges::judge_sizes(n, values.len(), weights.len(), counts.len(), 3);
-    if sizes != 0 {
-        return sizes;
-    }
-    match account::rank(n, values, weights, shuffles) {
-        account::RankAnswer::Refused(number) => number,
-        account::RankAnswer::Counted(three) => {
-            storing::put_rank(three, counts);
-            0
-        }
-    }
+    refusals::number_of(rank_into(n, values, weights, shuffles, counts))
 }

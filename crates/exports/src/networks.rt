@@ -19,7 +19,7 @@ pub extern "C" fn dca_join_table(
     ensures number { result ≡ join_refusal n categories.now weights.now (length table.old) }
     ensures lent { table.new ≡ joins_left n categories.now weights.now table.old }
 {
-    joins::join_table(n, categories, weights, table)
+    refusals::number_of(joins::join_table(n, categories, weights, table))
 }
 
 // The Gabriel network of the places, two coordinates a zone, goes to `weights`, n × n places.
@@ -28,7 +28,7 @@ pub extern "C" fn dca_gabriel(n: usize, places: &[i32], weights: &mut [u8]) -> u
     ensures number { result ≡ gabriel_refusal n places.now (length weights.old) }
     ensures lent { weights.new ≡ gabriel_left n places.now weights.old }
 {
-    places::gabriel(n, places, weights)
+    refusals::number_of(places::gabriel(n, places, weights))
 }
 
 // The classes of the pairs by 1 to 8 bands go to `classes`, n × n places.
@@ -37,7 +37,7 @@ pub extern "C" fn dca_bands(n: usize, places: &[i32], bands: &[u32], classes: &m
     ensures number { result ≡ band_refusal n places.now bands.now (length classes.old) }
     ensures lent { classes.new ≡ bands_left n places.now bands.now classes.old }
 {
-    places::bands(n, places, bands, classes)
+    refusals::number_of(places::bands(n, places, bands, classes))
 }
 
 // The network of a grid, (rows × columns) squared places in `weights`, by one function for each kind of move.
@@ -46,7 +46,7 @@ pub extern "C" fn dca_grid_rook(rows: usize, columns: usize, weights: &mut [u8])
     ensures number { result ≡ grid_refusal rows columns (length weights.old) }
     ensures lent { weights.new ≡ grid_left rows columns Rook weights.old }
 {
-    grid::grid(rows, columns, Move::Rook, weights)
+    refusals::number_of(grid::grid(rows, columns, Move::Rook, weights))
 }
 
 #[unsafe(no_mangle)]
@@ -54,7 +54,7 @@ pub extern "C" fn dca_grid_bishop(rows: usize, columns: usize, weights: &mut [u8
     ensures number { result ≡ grid_refusal rows columns (length weights.old) }
     ensures lent { weights.new ≡ grid_left rows columns Bishop weights.old }
 {
-    grid::grid(rows, columns, Move::Bishop, weights)
+    refusals::number_of(grid::grid(rows, columns, Move::Bishop, weights))
 }
 
 #[unsafe(no_mangle)]
@@ -62,5 +62,5 @@ pub extern "C" fn dca_grid_queen(rows: usize, columns: usize, weights: &mut [u8]
     ensures number { result ≡ grid_refusal rows columns (length weights.old) }
     ensures lent { weights.new ≡ grid_left rows columns Queen weights.old }
 {
-    grid::grid(rows, columns, Move::Queen, weights)
+    refusals::number_of(grid::grid(rows, columns, Move::Queen, weights))
 }

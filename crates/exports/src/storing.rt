@@ -20,18 +20,16 @@ pub(super) fn put_sums(account: Sums, sums: &mut [i64])
     requires sums_len { length sums.old ≡ 6 }
     ensures { sums.new ≡ listed account }
 {
-    let total = account.total;
-    let spread = account.spread;
-    let weight = account.weight;
-    let cross = account.cross;
-    let squares = account.squares;
+    // no From leads here from a usize
     let kept = account.kept as i64;
-    sums[0] = total;
-    sums[1] = spread;
-    sums[2] = weight;
-    sums[3] = cross;
-    sums[4] = squares;
-    sums[5] = kept;
+    sums.copy_from_slice(&[
+        account.total,
+        account.spread,
+        account.weight,
+        account.cross,
+        account.squares,
+        kept,
+    ]);
 }
 
 // Less, equal, greater.
@@ -39,12 +37,8 @@ pub(super) fn put_rank(rank: Counts, counts: &mut [u64])
     requires { length counts.old ≡ 3 }
     ensures { counts.new ≡ three rank }
 {
-    let less = rank.less as u64;
-    let equal = rank.equal as u64;
-    let greater = rank.greater as u64;
-    counts[0] = less;
-    counts[1] = equal;
-    counts[2] = greater;
+    // no From leads here from a usize
+    counts.copy_from_slice(&[rank.less as u64, rank.equal as u64, rank.greater as u64]);
 }
 
 // The numbers of values, categories, joins, places, bands and shuffles.
@@ -52,18 +46,15 @@ pub(super) fn put_counts(read: reader::Counts, counts: &mut [u64])
     requires { length counts.old ≡ 6 }
     ensures { counts.new ≡ six read }
 {
-    let values = read.values as u64;
-    let categories = read.categories as u64;
-    let joins = read.joins as u64;
-    let places = read.places as u64;
-    let bands = read.bands as u64;
-    let shuffles = read.shuffles as u64;
-    counts[0] = values;
-    counts[1] = categories;
-    counts[2] = joins;
-    counts[3] = places;
-    counts[4] = bands;
-    counts[5] = shuffles;
+    // no From leads here from a usize
+    counts.copy_from_slice(&[
+        read.values as u64,
+        read.categories as u64,
+        read.joins as u64,
+        read.places as u64,
+        read.bands as u64,
+        read.shuffles as u64,
+    ]);
 }
 
 // How long an image or a text is.
@@ -118,16 +109,13 @@ pub(super) fn put_pair(figures: &mut [u64], k: usize, pair: Pair)
 }
 
 // The pairs of the nine classes.
-pub(super) fn put_pairs(figures: &mut [u64], pairs: [Pair; 9])
+pub(super) fn put_pairs(figures: &mut [u64], pairs: &[Pair; 9])
     requires figures_len { length figures.old ≡ 18 }
-    requires readable_pairs { ReadablePairs pairs }
-    ensures { figures.new ≡ pairs_over 9 (λ k. get_or pairs k no_pair) figures.old }
+    requires readable_pairs { ReadablePairs pairs.now }
+    ensures { figures.new ≡ pairs_over 9 (λ k. get_or pairs.now k no_pair) figures.old }
 {
-    let mut k: usize = 0;
-    while k < 9 {
-        let pair = pairs[k];
-        put_pair(figures, k, pair);
-        k += 1;
+    for (k, pair) in pairs.iter().enumerate() {
+        put_pair(figures, k, *pair);
     }
 }
 
@@ -135,22 +123,18 @@ pub(super) fn put_pairs(figures: &mut [u64], pairs: [Pair; 9])
 fn having(pair: Pair) -> u8
     ensures { result ≡ tells pair.moran }
 {
-    let moran = pair.moran;
-    match moran {
+    match pair.moran {
         Coefficient::Figure(_) => 1,
         Coefficient::Weightless => 0,
     }
 }
 
 // Which of the nine classes have a pair.
-pub(super) fn put_having(has: &mut [u8], pairs: [Pair; 9])
+pub(super) fn put_having(has: &mut [u8], pairs: &[Pair; 9])
     requires { length has.old ≡ 9 }
-    ensures { has.new ≡ table (λ k. tells (get_or pairs k no_pair).moran) 9 }
+    ensures { has.new ≡ table (λ k. tells (get_or pairs.now k no_pair).moran) 9 }
 {
-    let mut k: usize = 0;
-    while k < 9 {
-        let pair = pairs[k];
-        has[k] = having(pair);
-        k += 1;
+    for (k, one) in has.iter_mut().enumerate() {
+        *one = having(pairs[k]);
     }
 }
