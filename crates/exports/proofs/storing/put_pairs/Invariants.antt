@@ -1,11 +1,7 @@
-use Prim.Native.Nat.{◌-◌}
-use lib.ListN.{get_or}
+use Rattle.std.proofs.Common.{get_or}
 use Rattle.coefficients.specs.FloatReport.{no_pair}
 use Rattle.exports.proofs.PairList.{PutSoFar}
 use Rattle.exports.proofs.storing.put_pairs.Given as goal
 
 abbrev pub invariant-loop-k : goal.invariant-loop-k
 invariant-loop-k l = PutSoFar 9 (λ i. get_or l.pairs i no_pair) l.initial.figures l.figures l.k
-
-abbrev pub decreases-loop-k : goal.decreases-loop-k
-decreases-loop-k l = 9 - l.k
