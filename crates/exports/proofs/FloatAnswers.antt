@@ -1,97 +1,66 @@
--- The ways out of the float calls: what is refused below is refused here and leaves every list, and what is answered there is put into the
--- lent lists. Assumes nothing.
+-- The ways out of the float calls: the number of each, and what an answer below puts into the lent lists. Assumes nothing.
 use mathlib.Core.Path.{◌≡◌, refl, sym, ap, ◌∙◌}
-use mathlib.Core.Bool.{Bool, true, false, not, cond}
-use mathlib.Core.List.{List, [], ◌∷◌, ◌++◌}
-use Prim.Native.Nat.{ℕ, ◌*◌, ◌<◌}
+use mathlib.Core.Bool.{Bool, true, false, not, cond, ◌||◌}
+use mathlib.Core.List.{List, [], ◌∷◌}
+use Prim.Native.Nat.{ℕ, ◌*◌, ◌≤◌, ◌<◌}
 use native.Mathlib.Omega.{arith}
 use borrow.Author.Tests.{eq-eqb, ne_eqb}
-use lib.Dec.{T, eqb}
-use lib.Ieee.{Float, binary64, to_bits, is_nan}
+use lib.Dec.{eqb}
+use lib.Ieee.{Float, binary64, to_bits}
 use lib.IntN.{ℤ}
 use lib.ListN.{length, get_or, set}
+use Rattle.std.specs.Prelude.{Ok}
 use Rattle.whole.specs.Integer.{is_zero}
-use Rattle.whole.specs.Rules.{Rule, misfits, outside}
-use Rattle.whole.specs.Search.{any_above}
+use Rattle.whole.specs.Rules.{first_broken, misfits, size_rules}
 use Rattle.whole.specs.Table.{table}
-use Rattle.whole.proofs.Rules.{kept_when_refused, worked_when_taken, holds, beside, sizes_first}
+use Rattle.whole.proofs.Rules.{beside, fits, sizes_hold}
 use Rattle.whole.proofs.Table.{table_cong, table_held}
-use Rattle.nearest.specs.Answers.{number_of, figures_of, nearest_refusal, nearest_float, nearest_figures}
-use Rattle.nearest.proofs.Theorems.{not_nan}
-use Rattle.nearest.specs.declared.Answer.{Answer}
-use Rattle.nearest.specs.declared.Answer.TheVariants.{Refused, Rounded}
-use Rattle.account.specs.Classes.{class_rules, class_row_of}
-use Rattle.account.specs.Refusals.{job_rules, job_lengths, call_rules}
+use Rattle.refusals.specs.Refusals.{number_of}
+use Rattle.refusals.proofs.Refusals.{worked_by}
+use Rattle.nearest.specs.Answers.{figures_of, nearest_refusal, nearest_float, nearest_figures}
+use Rattle.account.specs.Classes.{class_row_of}
+use Rattle.account.specs.Refusals.{job_lengths}
 use Rattle.coefficients.specs.Coefficients.{coefficient, pair_of, job_pair, class_pair}
-use Rattle.coefficients.specs.FloatReport as report
-use Rattle.coefficients.specs.FloatReport.{no_pair, plain_refusal, plain_whole, plain_classes, plain_figures}
-use Rattle.coefficients.specs.declared.Answer as report-answer
-use Rattle.coefficients.specs.declared.Answer.TheVariants as reported
-use Rattle.coefficients.specs.declared.Coefficient.TheVariants.{Figure, Weightless}
+use Rattle.coefficients.specs.FloatReport.{no_pair, pair_in, pairs_in, plain_refusal, plain_whole, plain_classes}
 use Rattle.coefficients.specs.Steps.{ReadablePair, ReadablePairs}
+use Rattle.coefficients.specs.declared.Coefficient.TheVariants.{Figure, Weightless}
 use Rattle.coefficients.specs.declared.Pair.{Pair}
-use Rattle.coefficients.specs.declared.Whole.{Whole}
+use Rattle.coefficients.specs.declared.Report.{Report}
+use Rattle.coefficients.proofs.Answered.{alike, sizes_number}
 use Rattle.coefficients.proofs.Readable.{job_readable, classes_readable}
 use Rattle.exports.specs.Floats.{nearest_number, nearest_after, pairs_over}
-use Rattle.exports.specs.Floats.{report_number, globals_after, figures_after, pairs_after, has_pair_after}
+use Rattle.exports.specs.Floats.{report_number, globals_after, pairs_after, has_pair_after}
 use Rattle.exports.specs.Steps.{put_figure, tells}
-use Rattle.exports.proofs.Numbers.{own, own_fits, among}
 use Rattle.exports.proofs.PairList.{one_pair, pairs_same}
-use Rattle.exports.proofs.Puts.{all_set}
 
 -- ---- the nearest float
+
+-- a store into the only place
+sole : (l : List ℕ) (v : ℕ) → length l ≡ 1 → set l 0 v ≡ v ∷ []
+sole [] v e = let z : ⊥ = omega (arith, e) in absurd z
+sole (x ∷ []) v e = refl
+sole (x ∷ y ∷ l) v e = let z : ⊥ = omega (arith, e) in absurd z
+
 module _ (p q : ℤ) (out : List ℕ) where
-  abbrev Nearest : ℕ → List ℕ → Type 0
-  Nearest number left = (number ≡ nearest_number p q out) × (left ≡ nearest_after p q out)
-
-  nearest_refused : (k : ℕ) → k ≡ nearest_number p q out → (k ≡ 0 → ⊥) → Nearest k out
-  unfolding nearest_after
-  nearest_refused k e f = (e, sym (kept_when_refused _ _ _ (λ z. f (e ∙ z))))
-
-  pub nearest_by_length : (length out ≡ 1 → ⊥) → Nearest 2 out
+  pub nearest_by_length : (length out ≡ 1 → ⊥) → 2 ≡ nearest_number p q out
   unfolding nearest_number
-  nearest_by_length f = nearest_refused 2 (rw (ne_eqb (length out) 1 f) refl) (λ z. omega arith)
+  nearest_by_length f = rw (ne_eqb (length out) 1 f) refl
 
-  -- what is promised below of the answer r
-  module _
-      (fit : length out ≡ 1) (r : Answer) (number : number_of r ≡ nearest_refusal p q) (figures : figures_of r ≡ nearest_figures p q) where
-    below : nearest_number p q out ≡ nearest_refusal p q
+  module _ (fit : length out ≡ 1) where
+    pub nearest_below : nearest_refusal p q ≡ nearest_number p q out
     unfolding nearest_number nearest_refusal
-    below = rw (eq-eqb (length out) 1 fit) refl
+    nearest_below = rw (eq-eqb (length out) 1 fit) refl
 
-    answered : nearest_refusal p q ≡ 0 → figures_of r ≡ nearest_float p q ∷ []
-    unfolding nearest_figures
-    answered taken = figures ∙ worked_when_taken _ _ _ taken
-
-    pub nearest_by_refusal : (k : ℕ) → r ≡ Refused k → Nearest k out
-    unfolding number_of figures_of
-    nearest_by_refusal k e =
-        let found : k ≡ nearest_refusal p q = sym (ap number_of e) ∙ number in
-        let none : k ≡ 0 → ⊥ = λ z. let f : ◌≡◌ {A = ℕ} 0 1 = ap length (sym (ap figures_of e) ∙ answered (sym found ∙ z)) in omega arith in
-        nearest_refused k (found ∙ sym below) none
-
-    -- the float that is answered is the nearest, which is no NaN
-    module _ (x : Float) (e : r ≡ Rounded x) where
-      taken_float : nearest_refusal p q ≡ 0
-      unfolding number_of
-      taken_float = sym number ∙ ap number_of e
-
-      pub float_is : x ≡ nearest_float p q
-      unfolding figures_of
-      float_is = let f = sym (ap figures_of e) ∙ answered taken_float in cc
-
-      pub float_readable : T (not (is_nan x))
-      float_readable = rw float_is (not_nan p q)
-
-      pub nearest_by_float : Nearest 0 (set out 0 (to_bits binary64 x))
-      unfolding nearest_after
-      nearest_by_float =
-          let z = below ∙ taken_float in (
-            sym z,
-            all_set out (to_bits binary64 x ∷ []) (sym fit)
-                ∙ ap (λ (v : Float). to_bits binary64 v ∷ []) float_is
-                ∙ sym (worked_when_taken _ _ _ z),
-          )
+    -- what is promised below of an answer that is the float x
+    pub nearest_put :
+        (x : Float) → 0 ≡ nearest_refusal p q → figures_of (Ok x) ≡ nearest_figures p q → set out 0 (to_bits binary64 x) ≡ nearest_after p q out
+    unfolding figures_of nearest_figures nearest_after
+    nearest_put x taken figures =
+        let f : x ∷ [] ≡ nearest_float p q ∷ [] = figures ∙ worked_by _ _ _ taken in
+        let same : x ≡ nearest_float p q = cc in
+        sole out (to_bits binary64 x) fit
+        ∙ ap (λ (v : Float). to_bits binary64 v ∷ []) same
+        ∙ sym (worked_by _ _ _ (taken ∙ nearest_below))
 
 -- ---- the float report
 
@@ -100,166 +69,117 @@ tells_weight : (b : Bool) (x : Float) → tells (cond b Weightless (Figure x)) �
 tells_weight true x = refl
 tells_weight false x = refl
 
+-- where some lists do not fit, they and two others do not
+among :
+    (a b c d e : Bool) (others : Bool) → (a || (b || (d || others))) ≡ true → (a || (b || (c || (d || (e || others))))) ≡ true
+among true b c d e others h = refl
+among false true c d e others h = refl
+among false false c true e others h = beside c true refl
+among false false c false e others h = beside c (e || others) (beside e others h)
+
 module _ (n : ℕ) (values : List ℤ) (weights classes : List ℕ) (globals locals pairs has_pair : List ℕ) where
+  -- the lists of four places and more that the call is lent
+  abbrev lent : List (ℕ × ℕ)
+  lent = (length globals, 2) ∷ (length locals, n) ∷ (length pairs, 18) ∷ (length has_pair, 9) ∷ []
+
+  -- those that are judged first
+  abbrev judged : List (ℕ × ℕ)
+  judged = job_lengths n (length values) (length weights) ((length globals, 2) ∷ (length pairs, 18) ∷ (length has_pair, 9) ∷ [])
+
   abbrev said : ℕ
   said = report_number n values weights classes globals locals pairs has_pair
 
-  -- what the call promises of its number and of the four lists that it leaves
-  abbrev Reports : ℕ → List ℕ → List ℕ → List ℕ → List ℕ → Type 0
-  Reports number globals' locals' pairs' has_pair' =
-      (number ≡ said)
-      × ((globals' ≡ globals_after n values weights classes globals locals pairs has_pair)
-      × ((locals' ≡ figures_after n values weights classes globals locals pairs has_pair)
-      × ((pairs' ≡ pairs_after n values weights classes globals locals pairs has_pair)
-      × (has_pair' ≡ has_pair_after n values weights classes globals locals pairs has_pair))))
-
-  report_refused : (k : ℕ) → k ≡ said → (k ≡ 0 → ⊥) → Reports k globals locals pairs has_pair
-  unfolding globals_after figures_after pairs_after has_pair_after
-  report_refused k e f =
-      let some : said ≡ 0 → ⊥ = λ z. f (e ∙ z) in (
-        e,
-        (
-          sym (kept_when_refused _ _ _ some),
-          (sym (kept_when_refused _ _ _ some), (sym (kept_when_refused _ _ _ some), sym (kept_when_refused _ _ _ some))),
-        ),
-      )
-
-  -- 1 and 2, with the list for the job's pair
-  abbrev sizes : ℕ
-  sizes = own n values weights (length globals) 2
-
-  abbrev rest : List Rule
-  rest = job_rules n values weights ++ ((any_above 8 classes, 9) ∷ [])
-
-  pub report_by_sizes : (k : ℕ) → k ≡ sizes → (k ≡ 0 → ⊥) → Reports k globals locals pairs has_pair
-  unfolding report_number class_rules call_rules
-  report_by_sizes k e f =
-      report_refused k
-      (sizes_first n ((length values, n) ∷ (length weights, n * n) ∷ (length globals, 2) ∷ [])
-      (job_lengths n (length values) (length weights)
-      ((length classes, n * n) ∷ (length globals, 2) ∷ (length locals, n) ∷ (length pairs, 18) ∷ (length has_pair, 9) ∷ []))
-      rest
-      k
+  pub report_by_sizes : (r : ℕ) → r ≡ first_broken (size_rules n judged) → (r ≡ 0 → ⊥) → r ≡ said
+  unfolding report_number
+  report_by_sizes r =
+      sizes_number n values weights classes lent judged r
       (among (not (eqb (length values) n)) (not (eqb (length weights) (n * n))) (not (eqb (length classes) (n * n)))
-      (not (eqb (length globals) 2))
-      (misfits ((length locals, n) ∷ (length pairs, 18) ∷ (length has_pair, 9) ∷ [])))
-      e
-      f)
-      f
+      (not (eqb (length globals) 2)) (not (eqb (length locals) n)) _)
 
-  module _ (fit : sizes ≡ 0) where
-    -- n is in its range, so that a list that does not fit is 2
-    misfit_is_2 :
-        misfits ((length locals, n) ∷ (length pairs, 18) ∷ (length has_pair, 9) ∷ []) ≡ true → Reports 2 globals locals pairs has_pair
-    unfolding report_number class_rules call_rules
-    misfit_is_2 e =
-        let inside = (holds (outside 2 64 n) 0 _ fit).0 in
-        let own_lists = beside (not (eqb (length globals) 2)) _ e in
-        let all = beside (not (eqb (length values) n)) _
-        (beside (not (eqb (length weights) (n * n))) _ (beside (not (eqb (length classes) (n * n))) _ own_lists)) in
-        report_refused 2 (rw (inside, all) refl) (λ z. omega arith)
+  -- where those have no number, there are at most 64 zones, and the lists fit
+  pub record Judged : Type 0 where
+    pub zones : n ≤ 64
+    pub globals_fit : length globals ≡ 2
+    pub pairs_fit : length pairs ≡ 18
+    pub has_fit : length has_pair ≡ 9
 
-    pub report_by_pairs : (length pairs ≡ 18 → ⊥) → Reports 2 globals locals pairs has_pair
-    report_by_pairs f = misfit_is_2 (rw (ne_eqb (length pairs) 18 f) (beside (not (eqb (length locals) n)) true refl))
+  pub report_judged : 0 ≡ first_broken (size_rules n judged) → Judged
+  report_judged e =
+      let all = sizes_hold n judged (sym e) in
+      let from_has : List (ℕ × ℕ) = (length has_pair, 9) ∷ [] in
+      let from_pairs : List (ℕ × ℕ) = (length pairs, 18) ∷ from_has in
+      let from_globals : List (ℕ × ℕ) = (length globals, 2) ∷ from_pairs in
+      let of_values = fits (length values) n ((length weights, n * n) ∷ from_globals) all.fitting in
+      let of_globals = fits (length globals) 2 from_pairs (fits (length weights) (n * n) from_globals of_values.1).1 in
+      let of_pairs = fits (length pairs) 18 from_has of_globals.1 in
+      record { zones = all.zones; globals_fit = of_globals.0; pairs_fit = of_pairs.0; has_fit = (fits (length has_pair) 9 [] of_pairs.1).0 }
 
-    pub report_by_having : (length has_pair ≡ 9 → ⊥) → Reports 2 globals locals pairs has_pair
-    report_by_having f =
-        misfit_is_2
-        (rw (ne_eqb (length has_pair) 9 f)
-        (beside (not (eqb (length locals) n)) _ (beside (not (eqb (length pairs) 18)) true refl)))
+  module _ (fit : Judged) where
+    -- and the plain report, whose own lists fit, has the call's number
+    pub report_below :
+        (rows own : List ℤ) → length rows ≡ 27 → length own ≡ n → plain_refusal n values weights classes rows own locals ≡ said
+    unfolding report_number plain_refusal
+    report_below rows own r o =
+        alike n values weights classes ((length rows, 27) ∷ (length own, n) ∷ (length locals, n) ∷ []) lent
+        (rw (
+          eq-eqb (length rows) 27 r,
+          eq-eqb (length own) n o,
+          eq-eqb (length globals) 2 fit.globals_fit,
+          eq-eqb (length pairs) 18 fit.pairs_fit,
+          eq-eqb (length has_pair) 9 fit.has_fit,
+        ) refl)
 
+    -- its report is that of the job
     module _
-        (eighteen : length pairs ≡ 18) (nine : length has_pair ≡ 9)
-        (rows own_locals : List ℤ) (rows_fit : length rows ≡ 27) (own_locals_fit : length own_locals ≡ n) where
-      plainly : said ≡ plain_refusal n values weights classes rows own_locals locals
-      unfolding report_number plain_refusal class_rules call_rules
-      plainly =
-          rw (
-            eq-eqb (length globals) 2 (own_fits n values weights (length globals) 2 fit),
-            eq-eqb (length pairs) 18 eighteen,
-            eq-eqb (length has_pair) 9 nine,
-            eq-eqb (length rows) 27 rows_fit,
-            eq-eqb (length own_locals) n own_locals_fit,
-          )
-          refl
+        (report : Report) (rows own : List ℤ)
+        (taken : 0 ≡ plain_refusal n values weights classes rows own locals)
+        (whole : pair_in (Ok report) ≡ plain_whole n values weights classes rows own locals)
+        (in_classes : pairs_in (Ok report) ≡ plain_classes n values weights classes rows own locals) where
+      pair_is : report.whole.pair ≡ job_pair n values weights
+      unfolding pair_in plain_whole
+      pair_is =
+          let f : report.whole.pair ∷ [] ≡ job_pair n values weights ∷ [] = whole ∙ worked_by _ _ _ taken in cc
 
-      -- what the plain report promises of its answer, of the pairs of the classes and of the list that it leaves
-      module _
-          (r : report-answer.Answer) (of_classes : List Pair) (left : List ℕ)
-          (number : report.number_of r ≡ plain_refusal n values weights classes rows own_locals locals)
-          (whole : report.pair_in r ≡ plain_whole n values weights classes rows own_locals locals)
-          (in_classes : of_classes ≡ plain_classes n values weights classes rows own_locals locals)
-          (lent : left ≡ plain_figures n values weights classes rows own_locals locals) where
-        one_pair_told : plain_refusal n values weights classes rows own_locals locals ≡ 0 → report.pair_in r ≡ job_pair n values weights ∷ []
-        unfolding plain_whole
-        one_pair_told taken = whole ∙ worked_when_taken _ _ _ taken
+      classes_are : report.classes ≡ table (class_pair n values weights classes) 9
+      unfolding pairs_in plain_classes
+      classes_are = in_classes ∙ worked_by _ _ _ taken
 
-        pub report_by_refusal : (k : ℕ) → r ≡ reported.Refused k → Reports k globals left pairs has_pair
-        unfolding report.number_of report.pair_in plain_figures
-        report_by_refusal k e =
-            let found : k ≡ plain_refusal n values weights classes rows own_locals locals = sym (ap report.number_of e) ∙ number in
-            let some : k ≡ 0 → ⊥ = λ z.
-            let f : ◌≡◌ {A = ℕ} 0 1 = ap length (sym (ap report.pair_in e) ∙ one_pair_told (sym found ∙ z)) in omega arith in
-            let kept : left ≡ locals = lent ∙ kept_when_refused _ _ _ (λ z. some (found ∙ z)) in
-            let all = report_refused k (found ∙ sym plainly) some in
-            (all.0, (all.1.0, (kept ∙ all.1.1.0, all.1.1.1)))
+      class_is : (k : ℕ) → k < 9 → get_or report.classes k no_pair ≡ class_pair n values weights classes k
+      class_is = table_held (class_pair n values weights classes) 9 no_pair report.classes classes_are
 
-        module _ (whole_job : Whole) (e : r ≡ reported.Reported whole_job) where
-          abbrev pair : Pair
-          pair = whole_job.pair
+      pub pair_readable : ReadablePair report.whole.pair
+      pair_readable = job_readable n values weights report.whole.pair pair_is
 
-          taken : plain_refusal n values weights classes rows own_locals locals ≡ 0
-          unfolding report.number_of
-          taken = sym number ∙ ap report.number_of e
+      pub pairs_readable : ReadablePairs report.classes
+      pairs_readable = classes_readable n values weights classes report.classes classes_are
 
-          none : said ≡ 0
-          none = plainly ∙ taken
+      weight_told :
+          (k : ℕ) →
+          tells (class_pair n values weights classes k).moran ≡ cond (is_zero (class_row_of n values weights classes k).weight) 0 1
+      unfolding class_pair pair_of coefficient
+      weight_told k = tells_weight (is_zero (class_row_of n values weights classes k).weight) _
 
-          pair_is : pair ≡ job_pair n values weights
-          unfolding report.pair_in
-          pair_is = let f = sym (ap report.pair_in e) ∙ one_pair_told taken in cc
+      -- and is put into the lent lists
+      module _ (none : 0 ≡ said) where
+        pub globals_put :
+            put_figure (put_figure globals 0 report.whole.pair.moran) 1 report.whole.pair.geary
+            ≡ globals_after n values weights classes globals locals pairs has_pair
+        unfolding globals_after
+        globals_put =
+            one_pair report.whole.pair globals fit.globals_fit
+            ∙ ap (λ (v : Pair). pairs_over 1 (λ k. v) globals) pair_is
+            ∙ sym (worked_by _ _ _ none)
 
-          class_is : (k : ℕ) → k < 9 → get_or of_classes k no_pair ≡ class_pair n values weights classes k
-          unfolding plain_classes
-          class_is k h =
-              table_held (class_pair n values weights classes) 9 no_pair of_classes (in_classes ∙ worked_when_taken _ _ _ taken) k h
+        pub pairs_put :
+            pairs_over 9 (λ k. get_or report.classes k no_pair) pairs
+            ≡ pairs_after n values weights classes globals locals pairs has_pair
+        unfolding pairs_after
+        pairs_put = pairs_same 9 _ _ pairs class_is ∙ sym (worked_by _ _ _ none)
 
-          pub pair_readable : ReadablePair whole_job.pair
-          pair_readable = job_readable n values weights whole_job.pair pair_is
-
-          pub pairs_readable : ReadablePairs of_classes
-          unfolding plain_classes
-          pairs_readable =
-              classes_readable n values weights classes of_classes (in_classes ∙ worked_when_taken _ _ _ taken)
-
-          weight_told :
-              (k : ℕ) →
-              tells (class_pair n values weights classes k).moran ≡ cond (is_zero (class_row_of n values weights classes k).weight) 0 1
-          unfolding class_pair pair_of coefficient
-          weight_told k = tells_weight (is_zero (class_row_of n values weights classes k).weight) _
-
-          pub report_by_pair :
-              (globals' pairs' : List ℕ) (has_pair' : List ℕ) →
-              globals' ≡ put_figure (put_figure globals 0 pair.moran) 1 pair.geary →
-              pairs' ≡ pairs_over 9 (λ k. get_or of_classes k no_pair) pairs →
-              has_pair' ≡ table (λ k. tells (get_or of_classes k no_pair).moran) 9 →
-              Reports 0 globals' left pairs' has_pair'
-          unfolding globals_after figures_after pairs_after has_pair_after plain_figures
-          report_by_pair globals' pairs' has_pair' f g h = (
-            sym none,
-            (
-              f
-                  ∙ one_pair pair globals (own_fits n values weights (length globals) 2 fit)
-                  ∙ ap (λ (v : Pair). pairs_over 1 (λ k. v) globals) pair_is
-                  ∙ sym (worked_when_taken _ _ _ none),
-              (
-                lent ∙ worked_when_taken _ _ _ taken ∙ sym (worked_when_taken _ _ _ none),
-                (
-                  g ∙ pairs_same 9 _ _ pairs class_is ∙ sym (worked_when_taken _ _ _ none),
-                  h
-                      ∙ table_cong _ _ 9 0 (λ k p. ap (λ (v : Pair). tells v.moran) (class_is k p) ∙ weight_told k)
-                      ∙ sym (worked_when_taken _ _ _ none),
-                ),
-              ),
-            ),
-          )
+        pub having_put :
+            table (λ k. tells (get_or report.classes k no_pair).moran) 9
+            ≡ has_pair_after n values weights classes globals locals pairs has_pair
+        unfolding has_pair_after
+        having_put =
+            table_cong _ _ 9 0 (λ k p. ap (λ (v : Pair). tells v.moran) (class_is k p) ∙ weight_told k)
+            ∙ sym (worked_by _ _ _ none)
