@@ -1,6 +1,5 @@
 pub mod Puts
 pub mod Numbers
-pub mod JobAnswers
 pub mod FloatAnswers
 pub mod ImageAnswers
 pub mod PairList
