@@ -1,5 +1,4 @@
 pub mod Puts
 pub mod Numbers
-pub mod JobAnswers
 pub mod FloatAnswers
 pub mod PairList
