@@ -1,5 +1,5 @@
 // The joins of an image, three bytes each: from, to, weight. Their judge, and the table of weights that they make.
-ghost use Rattle.std.specs.Prelude.{◌≡◌, ◌*◌, ◌≤◌, ◌<◌, length, replicate};
+ghost use Rattle.std.specs.Prelude.{◌≡◌, ◌*◌, length};
 ghost use Rattle.whole.specs.Rules.{first_broken, in_turn};
 ghost use Rattle.whole.specs.Table.{table};
 ghost use Rattle.image.specs.Joins.{weights_of, join_rules};
