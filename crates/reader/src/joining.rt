@@ -1,18 +1,19 @@
 // The joins of an image, three bytes each: from, to, weight. Their judge, and the table of weights that they make.
-ghost use Rattle.std.specs.Prelude.{◌≡◌, ◌*◌, ◌≤◌, ◌<◌, length, replicate};
+ghost use Rattle.std.specs.Prelude.{◌≡◌, ◌*◌, length};
 ghost use Rattle.whole.specs.Rules.{first_broken, in_turn};
 ghost use Rattle.whole.specs.Table.{table};
 ghost use Rattle.image.specs.Joins.{weights_of, join_rules};
 ghost use Rattle.refusals.specs.Refusals.{number_of};
 ghost use Rattle.reader.specs.Steps.{Joinable, join_at, rules_by_place};
 
+use crate::zones::Zones;
 use refusals::Refusal;
 
 // 16, 5, 16 and 4 of one join; `next` is the first place after those of the joins before it.
-fn judge_join(n: usize, next: usize, from: usize, to: usize, weight: u8) -> Result<(), Refusal>
-    requires { n ≤ 64 }
-    ensures { number_of result ≡ first_broken (rules_by_place n next from to weight) }
+fn judge_join(zones: Zones, next: usize, from: usize, to: usize, weight: u8) -> Result<(), Refusal>
+    ensures { number_of result ≡ first_broken (rules_by_place zones.n next from to weight) }
 {
+    let n = zones.n;
     if from >= n || to >= n {
         return Err(Refusal::Joins);
     }
@@ -29,15 +30,14 @@ fn judge_join(n: usize, next: usize, from: usize, to: usize, weight: u8) -> Resu
 }
 
 // 16, 5, 16 and 4 of each join in turn.
-pub(super) fn judge_joins(n: usize, joins: &[[u8; 3]]) -> Result<(), Refusal>
-    requires { n ≤ 64 }
-    ensures { number_of result ≡ first_broken (in_turn (join_rules n (join_at joins.now)) (length joins.now)) }
+pub(super) fn judge_joins(zones: Zones, joins: &[[u8; 3]]) -> Result<(), Refusal>
+    ensures { number_of result ≡ first_broken (in_turn (join_rules zones.n (join_at joins.now)) (length joins.now)) }
 {
     let mut next = 0;
     for &[from, to, weight] in joins {
         let (from, to) = (usize::from(from), usize::from(to));
-        judge_join(n, next, from, to, weight)?;
-        next = from * n + to + 1;
+        judge_join(zones, next, from, to, weight)?;
+        next = from * zones.n + to + 1;
     }
     Ok(())
 }

@@ -13,6 +13,7 @@ ghost use Rattle.reader.specs.Steps.{Summable, LaidOut, join_at, sizes};
 use crate::sections::{
     Section, in_bands, in_categories, in_joins, in_places, in_shuffles, in_values,
 };
+use crate::zones::Zones;
 use crate::{Counts, joining};
 use refusals::Refusal;
 
@@ -64,16 +65,16 @@ pub(super) fn judge(image: &[u8]) -> Result<Sections<'_>, Refusal>
     ensures laid { IfOk result (LaidOut image.now) }
 {
     let (values, rest) = in_values(image)?;
-    let n = values.count;
-    let (categories, rest) = in_categories(n, rest)?;
-    let (joins, rest) = in_joins(n, rest)?;
-    let (places, rest) = in_places(n, rest)?;
+    let zones = Zones { n: values.count };
+    let (categories, rest) = in_categories(zones, rest)?;
+    let (joins, rest) = in_joins(zones, rest)?;
+    let (places, rest) = in_places(zones, rest)?;
     let (bands, rest) = in_bands(places.count, rest)?;
-    let (shuffles, rest) = in_shuffles(n, rest)?;
+    let (shuffles, rest) = in_shuffles(zones, rest)?;
     if !rest.is_empty() {
         return Err(Refusal::Trailing);
     }
-    judge_sums(n, values.items, joins)?;
+    judge_sums(zones.n, values.items, joins)?;
     Ok(Sections {
         values,
         categories,

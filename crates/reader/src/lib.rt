@@ -6,6 +6,7 @@ mod joining;
 mod judging;
 mod sections;
 mod storing;
+mod zones;
 
 ghost use Rattle.std.specs.Prelude.{◌≡◌};
 ghost use Rattle.image.specs.Reader.{buffers, read_refusal, read_counts, read_left};

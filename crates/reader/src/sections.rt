@@ -8,6 +8,7 @@ ghost use Rattle.refusals.specs.Refusals.{number_by, number_of};
 ghost use Rattle.reader.specs.Steps.{Held, Joins};
 
 use crate::joining;
+use crate::zones::Zones;
 use refusals::Refusal;
 
 // A section: the count of its items, and their bytes.
@@ -108,12 +109,12 @@ pub(super) fn in_values(image: &[u8]) -> Result<(Section<'_>, &[u8]), Refusal>
 
 // The categories of n zones.
 #[tactic(auto, using(std::proofs::lemmas::Grind::common_steps, crate::proofs::Items::categories_held), unfolding(image::specs::Image::in_categories))]
-pub(super) fn in_categories(n: usize, left: &[u8]) -> Result<(Section<'_>, &[u8]), Refusal>
-    ensures number { number_of result ≡ first_broken (in_categories n left.now) }
+pub(super) fn in_categories(zones: Zones, left: &[u8]) -> Result<(Section<'_>, &[u8]), Refusal>
+    ensures number { number_of result ≡ first_broken (in_categories zones.n left.now) }
     ensures taken { IfOk result (λ p. Held 1 left.now p.0 × (p.1.now ≡ after 1 left.now)) }
 {
     let (count, items) = count_of(left)?;
-    image::judge_none_or_all(n, count)?;
+    image::judge_none_or_all(zones.n, count)?;
     let (categories, rest) = cut_off(count, 1, items)?;
     judge_categories(categories.items)?;
     Ok((categories, rest))
@@ -121,28 +122,26 @@ pub(super) fn in_categories(n: usize, left: &[u8]) -> Result<(Section<'_>, &[u8]
 
 // The joins of n zones, three bytes each.
 #[tactic(auto, unfolding(image::specs::Image::in_joins))]
-pub(super) fn in_joins(n: usize, left: &[u8]) -> Result<(&[[u8; 3]], &[u8]), Refusal>
-    requires { n ≤ 64 }
-    ensures number { number_of result ≡ first_broken (in_joins n left.now) }
+pub(super) fn in_joins(zones: Zones, left: &[u8]) -> Result<(&[[u8; 3]], &[u8]), Refusal>
+    ensures number { number_of result ≡ first_broken (in_joins zones.n left.now) }
     ensures taken { IfOk result (λ p. Joins left.now p.0.now × (p.1.now ≡ after 3 left.now)) }
 {
     let (count, items) = count_of(left)?;
     image::judge_join_count(count)?;
     let (joins, rest) = cut_off(count, 3, items)?;
     let (joins, _) = joins.items.as_chunks::<3>();
-    joining::judge_joins(n, joins)?;
+    joining::judge_joins(zones, joins)?;
     Ok((joins, rest))
 }
 
 // The places of n zones.
 #[tactic(auto, using(std::proofs::lemmas::Grind::common_steps, crate::proofs::Items::places_held), unfolding(image::specs::Image::in_places))]
-pub(super) fn in_places(n: usize, left: &[u8]) -> Result<(Section<'_>, &[u8]), Refusal>
-    requires { n ≤ 64 }
-    ensures number { number_of result ≡ first_broken (in_places n left.now) }
+pub(super) fn in_places(zones: Zones, left: &[u8]) -> Result<(Section<'_>, &[u8]), Refusal>
+    ensures number { number_of result ≡ first_broken (in_places zones.n left.now) }
     ensures taken { IfOk result (λ p. Held 8 left.now p.0 × (p.1.now ≡ after 8 left.now)) }
 {
     let (count, items) = count_of(left)?;
-    image::judge_none_or_all(n, count)?;
+    image::judge_none_or_all(zones.n, count)?;
     let (places, rest) = cut_off(count, 8, items)?;
     judge_places(count, places.items)?;
     Ok((places, rest))
@@ -163,15 +162,13 @@ pub(super) fn in_bands(places: usize, left: &[u8]) -> Result<(Section<'_>, &[u8]
 
 // The shuffles of n zones.
 #[tactic(auto, using(std::proofs::lemmas::Grind::common_steps, crate::proofs::Items::shuffles_held), unfolding(image::specs::Image::in_shuffles))]
-pub(super) fn in_shuffles(n: usize, left: &[u8]) -> Result<(Section<'_>, &[u8]), Refusal>
-    requires le_n { 2 ≤ n }
-    requires n_bound { n ≤ 64 }
-    ensures number { number_of result ≡ first_broken (in_shuffles n left.now) }
-    ensures taken { IfOk result (λ p. Held n left.now p.0 × (p.1.now ≡ after n left.now)) }
+pub(super) fn in_shuffles(zones: Zones, left: &[u8]) -> Result<(Section<'_>, &[u8]), Refusal>
+    ensures number { number_of result ≡ first_broken (in_shuffles zones.n left.now) }
+    ensures taken { IfOk result (λ p. Held zones.n left.now p.0 × (p.1.now ≡ after zones.n left.now)) }
 {
     let (count, items) = count_of(left)?;
     image::judge_shuffle_count(count)?;
-    let (shuffles, rest) = cut_off(count, n, items)?;
-    shuffles::judge_shuffles(n, shuffles.items)?;
+    let (shuffles, rest) = cut_off(count, zones.n, items)?;
+    shuffles::judge_shuffles(zones.n, shuffles.items)?;
     Ok((shuffles, rest))
 }

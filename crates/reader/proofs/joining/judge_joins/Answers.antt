@@ -15,7 +15,7 @@ use Rattle.reader.proofs.joining.judge_joins.Goals.{After-judge_join}
 -- the join at hand is judged by its rules
 module _ (c : After-judge_join) where
   abbrev n : ℕ
-  n = c.args.n
+  n = c.args.zones.n
 
   abbrev join : ℕ → Join
   join = join_at c.args.joins.now
@@ -30,7 +30,7 @@ module _ (c : After-judge_join) where
 
 pub loop-from-init : goal.loop-from-init
 loop-from-init c =
-    let join = join_at c.args.joins.now in (turn_none (join_rules c.args.n join) (join_numbered c.args.n join), none_passed c.args.n join)
+    let join = join_at c.args.joins.now in (turn_none (join_rules c.args.zones.n join) (join_numbered c.args.zones.n join), none_passed c.args.zones.n join)
 
 pub returns-in_err-judge_join : goal.returns-in_err-judge_join
 returns-in_err-judge_join c =

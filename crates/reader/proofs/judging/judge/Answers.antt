@@ -205,20 +205,10 @@ returns-in_err-shuffles-clause-number c =
     c.in_err-shuffles.field-0.0 c.in_err-shuffles.ensures.number)
 
 -- ---- the zones are as many as a section that passed has
-pub in_joins-requires : goal.in_joins-requires
-in_joins-requires c =
-    let l = to_1 ((goal.at.in_joins-requires c).In_ok-categories) in
-    (zones (image l) _ [] l.in_ok-values.ensures.taken.0 l.in_ok-values.ensures.number).1
-
-pub in_places-requires : goal.in_places-requires
-in_places-requires c =
-    let l = to_1 (to_2 ((goal.at.in_places-requires c).In_ok-joins)) in
-    (zones (image l) _ [] l.in_ok-values.ensures.taken.0 l.in_ok-values.ensures.number).1
-
-pub in_shuffles-requires : goal.in_shuffles-requires
-in_shuffles-requires c =
-    let l = to_1 (to_2 (to_3 (to_4 ((goal.at.in_shuffles-requires c).In_ok-bands)))) in
-    let z = zones (image l) _ [] l.in_ok-values.ensures.taken.0 l.in_ok-values.ensures.number in record { le_n = z.0; n_bound = z.1 }
+pub invariant_of-zones : goal.invariant_of-zones
+invariant_of-zones c =
+    let l = (goal.at.invariant_of-zones c).In_ok-values in
+    let z = zones (image l) _ [] l.in_ok-values.ensures.taken.0 l.in_ok-values.ensures.number in record { some = z.0; few = z.1 }
 
 -- ---- the end
 module _ (c : In_ok-shuffles) where

@@ -15,13 +15,13 @@ seen c =
 pub returns-in_err-judge_joins-clause-number : goal.returns-in_err-judge_joins-clause-number
 unfolding in_joins
 returns-in_err-judge_joins-clause-number c =
-    let e = joins_judged c.args.left.now _ (seen ((goal.at.returns-in_err-judge_joins-clause-number c).After-judge_joins)) c.args.n in
+    let e = joins_judged c.args.left.now _ (seen ((goal.at.returns-in_err-judge_joins-clause-number c).After-judge_joins)) c.args.zones.n in
     grind (arith, common_steps, e)
 
 pub returns-clause-number : goal.returns-clause-number
 unfolding in_joins
 returns-clause-number c =
-    let e = joins_judged c.args.left.now _ (seen ((goal.at.returns-clause-number c).After-judge_joins)) c.args.n in
+    let e = joins_judged c.args.left.now _ (seen ((goal.at.returns-clause-number c).After-judge_joins)) c.args.zones.n in
     grind (arith, common_steps, e)
 
 pub returns-clause-taken : goal.returns-clause-taken
