@@ -44,11 +44,6 @@ pub record Prints (image old new : List ℕ) (r : Result ℕ Refusal) : Type 0 w
 
 -- ---- what can be printed
 
--- a word of at most eight letters, and at most four numbers, which a line has besides its figures
-pub record Short (word : List ℕ) (list : List ℤ) : Type 0 where
-  pub letters : length word ≤ 8
-  pub items : length list ≤ 4
-
 -- sums of 2 to 64 zones whose values vary and whose numerators and divisors are within the limit
 pub record Within (sums : Sums) : Type 0 where
   pub two : 2 ≤ sums.kept

@@ -11,6 +11,7 @@ ghost use Rattle.refusals.specs.Refusals.{number_of};
 ghost use Rattle.report.specs.Text.{length_in, print_refusal, print_length, page_left};
 ghost use Rattle.report.specs.Text.{line_refusal, line_length, line_left};
 
+use putting::Line;
 use refusals::Refusal;
 
 // The page has 16,384 places.
@@ -45,6 +46,9 @@ pub fn refusal(number: u8, page: &mut [u8]) -> Result<usize, Refusal>
     ensures page { page.new ≡ line_left number page.old }
 {
     judge_page(page)?;
-    let list = [i64::from(number)];
-    Ok(putting::put_line(page, 0, b"refused", &list))
+    let line = Line {
+        word: b"refused",
+        numbers: &[i64::from(number)],
+    };
+    Ok(putting::put_line(page, 0, &line))
 }

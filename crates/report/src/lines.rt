@@ -6,7 +6,7 @@ ghost use Rattle.report.specs.Steps.{Put, Room, Within, Listed};
 ghost use Rattle.coefficients.specs.Steps.{ReadablePair, ReadablePairs};
 ghost use Rattle.report.specs.Steps.{sum_lines, ratio_lines, zone_line, table_line, row_line};
 
-use crate::putting;
+use crate::putting::{self, Line};
 use account::Sums;
 use coefficients::Pair;
 
@@ -23,10 +23,16 @@ pub(super) fn put_sums(page: &mut [u8], at: usize, sums: Sums) -> usize
     let cross = sums.cross;
     let squares = sums.squares;
     // no From leads here from a usize
-    let zones = [kept as i64, total, spread];
-    let joins = [weight, cross, squares];
-    let place = putting::put_line(page, at, b"zones", &zones);
-    putting::put_line(page, place, b"joins", &joins)
+    let zones = Line {
+        word: b"zones",
+        numbers: &[kept as i64, total, spread],
+    };
+    let joins = Line {
+        word: b"joins",
+        numbers: &[weight, cross, squares],
+    };
+    let place = putting::put_line(page, at, &zones);
+    putting::put_line(page, place, &joins)
 }
 
 // Moran's I, Geary's c and the expected I, each as a ratio.
@@ -40,16 +46,25 @@ pub(super) fn put_ratios(page: &mut [u8], at: usize, sums: Sums, pair: Pair) -> 
     let moran = pair.moran;
     let geary = pair.geary;
     let cross = sums.cross;
-    let of_moran = [cross, sums.weight * sums.spread];
+    let of_moran = Line {
+        word: b"moran",
+        numbers: &[cross, sums.weight * sums.spread],
+    };
     // no From leads here from a usize
-    let of_geary = [
-        ((kept - 1) * kept) as i64 * sums.squares,
-        2 * sums.weight * sums.spread,
-    ];
-    let expected = [-1, (kept - 1) as i64];
-    let place = putting::put_figure_line(page, at, b"moran", &of_moran, moran);
-    let end = putting::put_figure_line(page, place, b"geary", &of_geary, geary);
-    putting::put_line(page, end, b"expected", &expected)
+    let of_geary = Line {
+        word: b"geary",
+        numbers: &[
+            ((kept - 1) * kept) as i64 * sums.squares,
+            2 * sums.weight * sums.spread,
+        ],
+    };
+    let expected = Line {
+        word: b"expected",
+        numbers: &[-1, (kept - 1) as i64],
+    };
+    let place = putting::put_figure_line(page, at, &of_moran, moran);
+    let end = putting::put_figure_line(page, place, &of_geary, geary);
+    putting::put_line(page, end, &expected)
 }
 
 // The zones as they are listed, each with its local numerator, M and its local Moran.
@@ -69,8 +84,11 @@ pub(super) fn put_zones(
     let mut place = at;
     for &zone in zones {
         let of_zone = usize::from(zone);
-        let list = [i64::from(zone), locals[of_zone], spread];
-        place = putting::put_bits_line(page, place, b"local", &list, figures[of_zone]);
+        let line = Line {
+            word: b"local",
+            numbers: &[i64::from(zone), locals[of_zone], spread],
+        };
+        place = putting::put_bits_line(page, place, &line, figures[of_zone]);
     }
     place
 }
@@ -86,8 +104,11 @@ fn put_table_row(page: &mut [u8], at: usize, table: &[i64], r: u8) -> usize
     for s in 0..8 {
         let joins = table[usize::from(r * 8 + s)];
         if joins > 0 {
-            let list = [i64::from(r), i64::from(s), joins];
-            place = putting::put_line(page, place, b"pair", &list);
+            let line = Line {
+                word: b"pair",
+                numbers: &[i64::from(r), i64::from(s), joins],
+            };
+            place = putting::put_line(page, place, &line);
         }
     }
     place
@@ -126,8 +147,11 @@ pub(super) fn put_rows(
     for k in 0..=last {
         let pair = pairs[k];
         // no From leads here from a usize
-        let list = [k as i64, rows[k * 3], rows[k * 3 + 1], rows[k * 3 + 2]];
-        place = putting::put_pair_line(page, place, b"class", &list, pair);
+        let line = Line {
+            word: b"class",
+            numbers: &[k as i64, rows[k * 3], rows[k * 3 + 1], rows[k * 3 + 2]],
+        };
+        place = putting::put_pair_line(page, place, &line, pair);
     }
     place
 }

@@ -8,7 +8,8 @@ ghost use Rattle.report.specs.Text.{numbered, pair_lines, rank_line, where_given
 ghost use Rattle.report.specs.Steps.{Put, Room, Within, Zoned, SoundLists, Joinable, Bandable, Classed};
 ghost use Rattle.report.specs.Steps.{sum_lines, ratio_lines, zone_line, row_line, lists};
 
-use crate::{lines, putting};
+use crate::lines;
+use crate::putting::{self, Line};
 use coefficients::{Pair, Whole};
 
 // Each pair of zones in the class of its band, and in class 0 where there are no bands.
@@ -112,12 +113,15 @@ fn put_rank(page: &mut [u8], at: usize, values: &[i32], weights: &[u8], shuffles
     }
     let counts = account::rank(values.len(), values, weights, shuffles).unwrap();
     // no From leads here from a usize
-    let list = [
-        counts.less as i64,
-        counts.equal as i64,
-        counts.greater as i64,
-    ];
-    putting::put_line(page, at, b"rank", &list)
+    let line = Line {
+        word: b"rank",
+        numbers: &[
+            counts.less as i64,
+            counts.equal as i64,
+            counts.greater as i64,
+        ],
+    };
+    putting::put_line(page, at, &line)
 }
 
 // The lines of a job.

@@ -28,4 +28,4 @@ pub returns : goal.returns
 returns c =
     let a = c.args in
     let put = put_then (put_then c.put_start-place.ensures (bits_put ((goal.at.returns c).After-put_bits-end))) c.put_end.ensures in
-    put_as (put_most put (omega arith)) (line_parts a.word.now (numbers a.list.now) (bits a.bits) (10 ∷ []))
+    put_as (put_most put (omega arith)) (line_parts a.line.now.word.now (numbers a.line.now.numbers.now) (bits a.bits) (10 ∷ []))

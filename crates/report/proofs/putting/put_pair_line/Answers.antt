@@ -12,4 +12,4 @@ returns c =
     let pair = put_then c.put_coefficient-middle.ensures c.put_coefficient-end.ensures in
     let put = put_then (put_then c.put_start-place.ensures pair) c.put_end.ensures in
     put_as (put_most put (omega arith))
-    (line_parts a.word.now (numbers a.list.now) (coefficient a.pair.moran ++ coefficient a.pair.geary) (10 ∷ []))
+    (line_parts a.line.now.word.now (numbers a.line.now.numbers.now) (coefficient a.pair.moran ++ coefficient a.pair.geary) (10 ∷ []))

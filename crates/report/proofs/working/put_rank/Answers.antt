@@ -27,14 +27,14 @@ ranked c = ranked_counts _ _ _ _ c.requires.shuffles_value _ c.rank.ensures.coun
 few : (c : After-unwrap-counts) → let t = c.unwrap-counts.result in t.less + t.equal + t.greater ≤ 499
 few c = few_counted _ _ _ _ _ (ranked c)
 
-pub overflow_cast-list : goal.overflow_cast-list
-overflow_cast-list c = fits_le w64 _ 499 (omega (arith, few ((goal.at.overflow_cast-list c).After-unwrap-counts))) tt
+pub overflow_cast-line : goal.overflow_cast-line
+overflow_cast-line c = fits_le w64 _ 499 (omega (arith, few ((goal.at.overflow_cast-line c).After-unwrap-counts))) tt
 
-pub overflow_cast-list-2 : goal.overflow_cast-list-2
-overflow_cast-list-2 c = fits_le w64 _ 499 (omega (arith, few ((goal.at.overflow_cast-list-2 c).After-unwrap-counts))) tt
+pub overflow_cast-line-2 : goal.overflow_cast-line-2
+overflow_cast-line-2 c = fits_le w64 _ 499 (omega (arith, few ((goal.at.overflow_cast-line-2 c).After-unwrap-counts))) tt
 
-pub overflow_cast-list-3 : goal.overflow_cast-list-3
-overflow_cast-list-3 c = fits_le w64 _ 499 (omega (arith, few ((goal.at.overflow_cast-list-3 c).After-unwrap-counts))) tt
+pub overflow_cast-line-3 : goal.overflow_cast-line-3
+overflow_cast-line-3 c = fits_le w64 _ 499 (omega (arith, few ((goal.at.overflow_cast-line-3 c).After-unwrap-counts))) tt
 
 pub returns : goal.returns
 returns c =
