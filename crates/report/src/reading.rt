@@ -10,6 +10,7 @@ use reader::Counts;
 use refusals::Refusal;
 
 // The lines of the job in the buffers: the first entries of each, as many as the counts say.
+// Each layer says the page's room: no type carries it, for of a slice taken as arrays (`as_chunks_mut`) it is not known what it ends as.
 fn put_read(
     page: &mut [u8],
     counts: Counts,
