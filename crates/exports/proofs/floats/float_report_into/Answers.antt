@@ -25,8 +25,8 @@ returns-in_err-judge_lent c =
     let a = c.args in
     let p = err_from_is_err_and c.from_residual.result c.from_residual.ensures.1 in
     let e =
-        report_by_sizes a.n a.values.now a.weights.now a.classes.now a.globals.now a.locals.now a.pairs.now a.has_pair.now
-        _ c.in_err-judge_lent.ensures (not_refused _) in
+    report_by_sizes a.n a.values.now a.weights.now a.classes.now a.globals.now a.locals.now a.pairs.now a.has_pair.now
+    _ c.in_err-judge_lent.ensures (not_refused _) in
     rw (p.1, p.2) (record {
       number = e;
       globals = sym (left_by _ _ _ _ e);

@@ -35,7 +35,7 @@ returns-in_err-figure c =
     let s = (goal.at.returns-in_err-figure c).Start in
     let p = err_from_is_err_and c.from_residual.result c.from_residual.ensures.1 in
     let e =
-        c.in_err-figure.ensures.number ∙ asked s nearest_refusal ∙ nearest_below a.p a.q a.out.now c.if-out-ne1.false in
+    c.in_err-figure.ensures.number ∙ asked s nearest_refusal ∙ nearest_below a.p a.q a.out.now c.if-out-ne1.false in
     rw (p.1, p.2) (record { number = e; lent = sym (left_by _ _ _ _ e) })
 
 pub float_to_bits-out : goal.float_to_bits-out
