@@ -11,11 +11,10 @@ use lib.IntN.{ℤ}
 use lib.ListN.{length, get_or, set}
 use Rattle.std.specs.Prelude.{Ok}
 use Rattle.whole.specs.Integer.{is_zero}
-use Rattle.whole.specs.Rules.{first_broken, misfits, size_rules}
+use Rattle.whole.specs.Rules.{first_broken, size_rules}
 use Rattle.whole.specs.Table.{table}
 use Rattle.whole.proofs.Rules.{beside, fits, sizes_hold}
 use Rattle.whole.proofs.Table.{table_cong, table_held}
-use Rattle.refusals.specs.Refusals.{number_of}
 use Rattle.refusals.proofs.Refusals.{worked_by}
 use Rattle.nearest.specs.Answers.{figures_of, nearest_refusal, nearest_float, nearest_figures}
 use Rattle.account.specs.Classes.{class_row_of}

@@ -1,11 +1,11 @@
 -- `float_report_into` meets its contract: the sizes are judged with the lists that the float report is not lent, then it judges and works,
 -- and its pairs are put. Assumes nothing.
-use Rattle.std.proofs.Common.{◌≡◌, refl, sym, ◌∙◌, length}
+use Rattle.std.proofs.Common.{refl, sym, ◌∙◌}
 use lib.Seq.{length-take-le}
 use Rattle.std.proofs.lemmas.Result.{err_from_is_err_and}
 use Rattle.refusals.proofs.Refusals.{not_refused, left_by, worked_by}
-use Rattle.coefficients.specs.FloatReport.{plain_refusal, plain_figures}
-use Rattle.exports.specs.Floats.{report_number, globals_after, figures_after, pairs_after, has_pair_after}
+use Rattle.coefficients.specs.FloatReport.{plain_figures}
+use Rattle.exports.specs.Floats.{globals_after, figures_after, pairs_after, has_pair_after}
 use Rattle.exports.proofs.FloatAnswers.{Judged, report_by_sizes, report_judged, report_below, pair_readable, pairs_readable, globals_put, pairs_put, having_put}
 use Rattle.exports.proofs.floats.float_report_into.Goals as goal
 use Rattle.exports.proofs.floats.float_report_into.Goals.{In_ok-judge_lent, In_ok-report}

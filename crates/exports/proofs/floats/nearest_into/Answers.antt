@@ -1,6 +1,5 @@
 -- `nearest_into` meets its contract: the place is judged, then the call below judges and divides. Assumes nothing.
 use Rattle.std.proofs.Common.{◌≡◌, refl, sym, ap, ◌∙◌, w64}
-use mathlib.Core.List.{[], ◌∷◌}
 use lib.IntN.{ℤ}
 use mir.ValLaws.{to_z-of_z}
 use Rattle.std.specs.Prelude.{Ok}
