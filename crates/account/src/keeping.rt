@@ -49,11 +49,10 @@ pub(super) fn gather_pairs(n: usize, pairs: &[u8], zones: &[u8], out: &mut [u8])
     }
 }
 
-// The place of each of n zones among those in the list; one that does not stand there has the list's length.
-pub(super) fn find_places(n: usize, zones: &[u8], places: &mut [u8])
-    requires zones { Zones zones.now n }
-    requires places_len { length places.old ≡ n }
-    ensures { places.new ≡ table (place_in zones.now) n }
+// The place of each zone among those in the list; one that does not stand there has the list's length.
+pub(super) fn find_places(zones: &[u8], places: &mut [u8])
+    requires { Zones zones.now (length places.old) }
+    ensures { places.new ≡ table (place_in zones.now) (length places.old) }
 {
     // no From leads here from a usize; a place is at most 64
     places.fill(zones.len() as u8);

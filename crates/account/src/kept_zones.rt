@@ -41,7 +41,7 @@ fn gather<'a>(
     let kept_weights = &mut weight_space[..pairs];
     keeping::gather_pairs(n, weights, zones, kept_weights);
     let places = &mut place_space[..n];
-    keeping::find_places(n, zones, places);
+    keeping::find_places(zones, places);
     Gathered {
         job: JobLists {
             n: many,

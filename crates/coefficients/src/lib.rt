@@ -14,7 +14,8 @@ ghost use Rattle.coefficients.specs.FloatReport.{plain_rows, plain_locals, plain
 use account::Sums;
 use refusals::Refusal;
 
-// A coefficient: the nearest float to its exact ratio. A class without weight has none, and says so.
+// A coefficient: the nearest float to its exact ratio. A class without weight has none, and says so: a rule of the project asks for an enum
+// with a case for that, and no Option.
 #[derive(Clone, Copy)]
 pub enum Coefficient {
     Figure(f64),

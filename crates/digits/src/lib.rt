@@ -10,6 +10,7 @@ fn digit(d: u64) -> u8
     requires { d < 16 }
     ensures { result ≡ digit d }
 {
+    // no From leads here from a u64
     if d < 10 {
         b'0' + d as u8
     } else {

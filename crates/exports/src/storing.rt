@@ -62,6 +62,7 @@ pub(super) fn put_length(bytes: usize, filled: &mut [u64])
     requires { length filled.old ≡ 1 }
     ensures { filled.new ≡ bytes ∷ [] }
 {
+    // no From leads here from a usize
     filled[0] = bytes as u64;
 }
 
@@ -70,6 +71,7 @@ pub(super) fn given(counts: &[u64]) -> Given
     requires { length counts.now ≡ 5 }
     ensures { result ≡ given_by counts.now }
 {
+    // no From leads from here to a usize
     Given {
         values: counts[0] as usize,
         categories: counts[1] as usize,

@@ -1,7 +1,9 @@
 -- `gather` meets its contract: the zones kept are few enough for the room that is lent, and what is gathered is a job. Assumes nothing.
+use Rattle.std.proofs.Common.{sym, subst}
 use Prim.Native.Nat.{◌*◌, ◌≤◌}
 use native.Mathlib.Omega.{arith}
 use lib.ListN.{length}
+use lib.Seq.{length-take-le}
 use Rattle.account.specs.Steps.{Zones}
 use Rattle.account.specs.declared.lists.KeptLists.{KeptLists}
 use Rattle.account.proofs.KeptWork.{zones_rise, zones_few, pairs_few, zones_rise_in, gathered_job}
@@ -38,8 +40,10 @@ slice_bounds-kept_weights-end c = few_pairs c.args.kept.now
 pub gather_pairs-requires-clause-zones : goal.gather_pairs-requires-clause-zones
 gather_pairs-requires-clause-zones c = rise c.args.kept.now
 
-pub find_places-requires-clause-zones : goal.find_places-requires-clause-zones
-find_places-requires-clause-zones c = rise c.args.kept.now
+pub find_places-requires : goal.find_places-requires
+find_places-requires c =
+    let k = c.args.kept.now in
+    subst (Zones k.zones.now) (sym (length-take-le k.job.n c.args.place_space.now (omega (arith, most k, c.told-place_space)))) (rise k)
 
 pub invariant_of-result : goal.invariant_of-result
 invariant_of-result c =
