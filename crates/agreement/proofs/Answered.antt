@@ -49,6 +49,19 @@ answer_unique (Err k) (Ok w) e f g h = absurd (not_refused k e)
 answer_unique (Ok v) (Err l) e f g h = absurd (not_refused l (sym e))
 answer_unique (Ok v) (Ok w) e f g h = ap Ok (report_same (whole_same (sums_same v.whole.sums w.whole.sums f) (cc)) h)
 
+-- what it says of the whole job is known without its classes
+abbrev pub whole_in : Result Report Refusal → Result Whole Refusal
+whole_in (Ok report) = Ok report.whole
+whole_in (Err refusal) = Err refusal
+
+pub whole_unique :
+    (a b : Result Report Refusal) → number_of a ≡ number_of b → sums_in a ≡ sums_in b → pair_in a ≡ pair_in b → whole_in a ≡ whole_in b
+unfolding sums_in pair_in
+whole_unique (Err k) (Err l) e f g = ap Err (cause_unique k l e)
+whole_unique (Err k) (Ok w) e f g = absurd (not_refused k e)
+whole_unique (Ok v) (Err l) e f g = absurd (not_refused l (sym e))
+whole_unique (Ok v) (Ok w) e f g = ap Ok (whole_same (sums_same v.whole.sums w.whole.sums f) (cc))
+
 -- ---- and the four answers by their number and their value
 pub every_unique : (a b : Result Every Refusal) → number_of a ≡ number_of b → answer_in a ≡ answer_in b → a ≡ b
 unfolding answer_in

@@ -18,7 +18,7 @@ use Rattle.agreement.specs.EveryFigure.{Lent, lent_lengths, every_refusal}
 use Rattle.agreement.proofs.Fitting.{fit_alike}
 -- stated where it is proved: an answer of the report is known by its number, its sums, its pair and those of its classes, so that its
 -- contract leaves no second answer open; and so are the four answers by their number and their value
-pub use Rattle.agreement.proofs.Answered.{answer_unique, every_unique}
+pub use Rattle.agreement.proofs.Answered.{answer_unique, whole_unique, every_unique}
 
 -- ---- every job that the account accepts, under every assignment of classes 0 to 8, is accepted by all four calls together
 pub every_taken :

@@ -65,24 +65,44 @@ module _ (n : ℕ) (shuffles : List ℕ) (two : 2 ≤ n) (zones : n ≤ 64) wher
   unfolding shuffle_refusal
   two_rules = rw (le-ltb n 2 two, le-ltb 64 n zones) refl
 
+  pub refused_by_2 : shuffle_refusal n shuffles ≡ 2 → misfit ≡ true
+  refused_by_2 e = go misfit (any_lacking n shuffles) (sym two_rules ∙ e)
+    where
+      go : (a b : Bool) → ◌≡◌ {A = ℕ} (cond a 2 (cond b 13 0)) 2 → a ≡ true
+      go true b e = refl
+      go false true e = let z : ⊥ = omega arith in absurd z
+      go false false e = let z : ⊥ = omega arith in absurd z
+
+  module _ (not_2 : shuffle_refusal n shuffles ≡ 2 → ⊥) where
+    pub list_fits : misfit ≡ false
+    list_fits = go misfit (λ e. not_2 (two_rules ∙ ap (λ (a : Bool). cond {A = ℕ} a 2 lacking) e))
+      where
+        go : (a : Bool) → (a ≡ true → ⊥) → a ≡ false
+        go true f = absurd (f refl)
+        go false f = refl
+
+    pub decided_by_13 : shuffle_refusal n shuffles ≡ lacking
+    decided_by_13 = two_rules ∙ ap (λ (a : Bool). cond {A = ℕ} a 2 lacking) list_fits
+
+  -- ---- the same by the judge of the rows alone
   rows_rule : row_refusal n (length shuffles) ≡ cond misfit 2 0
   unfolding row_refusal
   rows_rule = rw (le-ltb n 2 two, le-ltb 64 n zones) refl
 
   -- a number that is not 0 says that the list does not fit, and is 2
-  pub refused_by_2 : (r : ℕ) → r ≡ row_refusal n (length shuffles) → (r ≡ 0 → ⊥) → (r ≡ 2) × (misfit ≡ true)
-  refused_by_2 r e some = go misfit (e ∙ rows_rule)
+  pub rows_refused_by_2 : (r : ℕ) → r ≡ row_refusal n (length shuffles) → (r ≡ 0 → ⊥) → (r ≡ 2) × (misfit ≡ true)
+  rows_refused_by_2 r e some = go misfit (e ∙ rows_rule)
     where
       go : (a : Bool) → r ≡ cond a 2 0 → (r ≡ 2) × (a ≡ true)
       go true h = (h, refl)
       go false h = absurd (some h)
 
-  pub list_fits : 0 ≡ row_refusal n (length shuffles) → misfit ≡ false
-  list_fits e = go misfit (e ∙ rows_rule)
+  pub rows_taken : 0 ≡ row_refusal n (length shuffles) → misfit ≡ false
+  rows_taken e = go misfit (e ∙ rows_rule)
     where
       go : (a : Bool) → ◌≡◌ {A = ℕ} 0 (cond a 2 0) → a ≡ false
       go true h = let z : ⊥ = omega (arith, h) in absurd z
       go false h = refl
 
-  pub decided_by_13 : misfit ≡ false → shuffle_refusal n shuffles ≡ lacking
-  decided_by_13 fit = two_rules ∙ ap (λ (a : Bool). cond {A = ℕ} a 2 lacking) fit
+  pub then_13 : misfit ≡ false → shuffle_refusal n shuffles ≡ lacking
+  then_13 fit = two_rules ∙ ap (λ (a : Bool). cond {A = ℕ} a 2 lacking) fit

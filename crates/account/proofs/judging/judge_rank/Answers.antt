@@ -6,7 +6,7 @@ use Rattle.refusals.proofs.Refusals.{not_refused}
 use Rattle.whole.specs.Rules.{Rule, first_broken, misfits}
 use Rattle.whole.proofs.Rules.{sizes_first}
 use Rattle.shuffles.specs.Shuffles.{shuffle_count, any_lacking, shuffle_refusal}
-use Rattle.shuffles.proofs.Theorems.{refused_by_2, list_fits, decided_by_13}
+use Rattle.shuffles.proofs.Theorems.{rows_refused_by_2, rows_taken, then_13}
 use Rattle.account.specs.Refusals.{job_rules, job_lengths, call_rules}
 use Rattle.account.specs.Rank.{rank_rules, rank_refusal}
 use Rattle.account.proofs.Accepted.{Fitting, fitting, fitted, unfitted, also_misfits}
@@ -36,11 +36,11 @@ module _ (c : In_ok-judge_rows) where
   f = sized ((goal.at.In_ok-judge_rows c).In_ok-judge_lent)
 
   abbrev fit : misfits (lent s) ≡ false
-  fit = list_fits c.args.n c.args.shuffles.now f.two f.zones c.in_ok-judge_rows.ensures
+  fit = rows_taken c.args.n c.args.shuffles.now f.two f.zones c.in_ok-judge_rows.ensures
 
   -- so that 13 decides
   listed : shuffle_refusal c.args.n c.args.shuffles.now ≡ first_broken (last s)
-  listed = decided_by_13 c.args.n c.args.shuffles.now f.two f.zones fit
+  listed = then_13 c.args.n c.args.shuffles.now f.two f.zones fit
 
   sizes_good :
       let a = c.args in first_broken (sizes_of a.n a.values.now a.weights.now (lent s) (last s)) ≡ 0
@@ -65,7 +65,7 @@ returns-in_err-judge_rows c =
     let s = (goal.at.returns-in_err-judge_rows c).Start in
     let f = sized ((goal.at.returns-in_err-judge_rows c).In_ok-judge_lent) in
     let a = c.args in
-    let r = refused_by_2 a.n a.shuffles.now f.two f.zones _ c.in_err-judge_rows.ensures (not_refused _) in
+    let r = rows_refused_by_2 a.n a.shuffles.now f.two f.zones _ c.in_err-judge_rows.ensures (not_refused _) in
     let p = err_from_is_err_and c.from_residual-in_err-judge_rows.result c.from_residual-in_err-judge_rows.ensures.1 in
     rw (p.1, p.2) (by_number _ _ _ _
     (by_sizes _ _ _ (lent s) (last s) _ (r.0 ∙ sym (unfitted _ _ _ _ (lent s) f r.1)) (not_refused _)))
