@@ -3,6 +3,7 @@
 // its values. All of them are taken over the zones kept, those whose row or column of weights holds some weight.
 #![tactic(auto)]
 
+mod class_row;
 mod classes;
 mod deviations;
 mod differences;

@@ -1,22 +1,9 @@
 // The nine class rows as structs, from the sums that the class account puts into one list.
-ghost use Rattle.std.specs.Prelude.{◌≡◌, ◌<◌, length};
+ghost use Rattle.std.specs.Prelude.{◌≡◌, length};
 ghost use Rattle.whole.specs.Table.{table};
 ghost use Rattle.account.specs.Classes.{row_at};
 
 use account::ClassRow;
-
-// The row of class k, from the three sums in its places.
-fn row_of(sums: &[i64; 27], k: usize) -> ClassRow
-    requires { k < 9 }
-    ensures { result ≡ row_at sums.now k }
-{
-    let place = k * 3;
-    ClassRow {
-        weight: sums[place],
-        cross: sums[place + 1],
-        squares: sums[place + 2],
-    }
-}
 
 // Stores the nine rows. The rows are numbered, since after a zip with the sums by threes nothing is known of what was stored.
 pub(super) fn store_rows(sums: &[i64; 27], rows: &mut [ClassRow])
@@ -24,6 +11,6 @@ pub(super) fn store_rows(sums: &[i64; 27], rows: &mut [ClassRow])
     ensures { rows.new ≡ table (row_at sums.now) 9 }
 {
     for (k, row) in rows.iter_mut().enumerate() {
-        *row = row_of(sums, k);
+        *row = ClassRow::nth(sums, k);
     }
 }

@@ -19,7 +19,7 @@ use Rattle.account.specs.declared.Sums.{Sums}
 use Rattle.account.proofs.Theorems.{accepted_limits, kept_least, kept_most, spread_one, weight_above}
 use Rattle.account.proofs.Theorems.{job_locals_length, job_locals_at}
 use Rattle.account.proofs.ClassTheorems.{account_taken, zones_in_range, class_limits}
-use Rattle.account.proofs.ClassTheorems.{class_sums_length, class_sums_row, class_locals_length}
+use Rattle.account.proofs.ClassTheorems.{class_sums_row, class_locals_length}
 use Rattle.coefficients.specs.Steps.{Ratio, Formable, FormableRows, Numerators, whole_row, Reportable}
 use Rattle.coefficients.proofs.Ratios.{formable_same, rows_same, numerators_same}
 
@@ -90,10 +90,7 @@ module _ (n : ℕ) (values : List ℤ) (weights classes : List ℕ) (lent : List
   class_formable k = within (class_weight w c m k) (class_limits n values weights classes lent taken k)
 
   class_rows : FormableRows (job_kept n values weights) (job_spread n values weights) (class_sums n values weights classes)
-  class_rows = record {
-    count = class_sums_length n values weights classes;
-    each = λ k h. rw (class_sums_row n values weights classes k h) (class_formable k);
-  }
+  class_rows k h = rw (class_sums_row n values weights classes k h) (class_formable k)
 
   -- a local numerator of a zone kept, and the 0 of one left out
   local_within :

@@ -37,9 +37,8 @@ pub record Formable (n : ℕ) (spread : ℤ) (row : ClassRow) : Type 0 where
   pub geary_divisor : nat_abs ((pos 2 *ℤ row.weight) *ℤ spread) ≤ ratio_limit
 
 -- the nine class rows
-pub record FormableRows (n : ℕ) (spread : ℤ) (rows : List ℤ) : Type 0 where
-  pub count : length rows ≡ 27
-  pub each : (k : ℕ) → k < 9 → Formable n spread (row_at rows k)
+abbrev pub FormableRows : ℕ → ℤ → List ℤ → Type 0
+FormableRows n spread rows = (k : ℕ) → k < 9 → Formable n spread (row_at rows k)
 
 -- local numerators, and the spread that divides them
 pub record Numerators (spread : ℤ) (numerators : List ℤ) : Type 0 where
@@ -61,9 +60,8 @@ pub record Reportable (sums : Sums) (rows class_locals_of locals : List ℤ) : T
 -- ---- what a call answers
 
 -- lists that the report's work can be lent
-pub record Lists (n : ℕ) (rows class_locals_of locals : List ℤ) (figures parts : List ℕ) : Type 0 where
+pub record Lists (n : ℕ) (class_locals_of locals : List ℤ) (figures parts : List ℕ) : Type 0 where
   pub zones : n ≤ 64
-  pub rows_fit : length rows ≡ 27
   pub class_locals_fit : length class_locals_of ≡ 9 * n
   pub locals_fit : length locals ≡ n
   pub figures_fit : length figures ≡ n

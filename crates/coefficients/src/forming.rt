@@ -33,7 +33,7 @@ pub(super) fn pair(n: usize, spread: i64, row: ClassRow) -> Pair
         };
     }
     let moran = ratio(cross, weight * spread);
-    let ordered = ((n - 1) * n) as i64; // no From leads here from a usize
+    let ordered = ((n - 1) * n) as i64; // no From leads here from a usize; TryFrom and an unwrap is no plainer
     let twice = 2 * weight;
     let geary = ratio(ordered * squares, twice * spread);
     Pair {
@@ -42,27 +42,15 @@ pub(super) fn pair(n: usize, spread: i64, row: ClassRow) -> Pair
     }
 }
 
-// The pair of class k, from the list of the nine rows.
-pub(super) fn class_pair(n: usize, spread: i64, rows: &[i64], k: usize) -> Pair
-    requires formable_rows { FormableRows n spread rows.now }
-    requires k_bound { k < 9 }
-    ensures { result ≡ pair_of n spread (row_at rows.now k) }
-{
-    let place = k * 3;
-    let row = ClassRow {
-        weight: rows[place],
-        cross: rows[place + 1],
-        squares: rows[place + 2],
-    };
-    pair(n, spread, row)
-}
-
 // The pairs of the nine classes.
-pub(super) fn class_pairs(n: usize, spread: i64, rows: &[i64]) -> [Pair; 9]
+pub(super) fn class_pairs(n: usize, spread: i64, rows: &[i64; 27]) -> [Pair; 9]
     requires { FormableRows n spread rows.now }
     ensures { result ≡ table (λ k. pair_of n spread (row_at rows.now k)) 9 }
 {
-    array::from_fn(|k| class_pair(n, spread, rows, k))
+    array::from_fn(|k| {
+        let row = ClassRow::nth(rows, k);
+        pair(n, spread, row)
+    })
 }
 
 // The local Moran of each local numerator of a list, by its bits.

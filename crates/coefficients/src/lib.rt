@@ -12,6 +12,7 @@ ghost use Rattle.coefficients.specs.FloatReport.{plain_refusal, plain_sums, plai
 ghost use Rattle.coefficients.specs.FloatReport.{plain_rows, plain_locals, plain_figures};
 
 use account::Sums;
+use judges::Places;
 use refusals::Refusal;
 
 // A coefficient: the nearest float to its exact ratio. A class without weight has none, and says so: a rule of the project asks for an enum
@@ -66,7 +67,13 @@ pub fn float_report(
     ensures parts { parts.new ≡ report_parts n
         values.now weights.now classes.now figures.old parts.old }
 {
-    working::judge_lent(n, figures.len(), parts.len())?;
+    judges::judge_lent(
+        n,
+        &[
+            (figures.len(), Places::Zones),
+            (parts.len(), Places::ClassZones),
+        ],
+    )?;
     let places = 9 * n;
     let mut rows: [i64; 27] = [0; 27];
     let mut class_locals: [i64; 576] = [0; 576];
@@ -111,7 +118,14 @@ pub fn plain_report(
     ensures figures { figures.new ≡ plain_figures n values.now weights.now classes.now
         rows.old locals.old figures.old }
 {
-    working::judge_plain(n, rows.len(), locals.len(), figures.len())?;
+    judges::judge_lent(
+        n,
+        &[
+            (rows.len(), Places::Fixed(27)),
+            (locals.len(), Places::Zones),
+            (figures.len(), Places::Zones),
+        ],
+    )?;
     let places = 9 * n;
     let mut class_locals: [i64; 576] = [0; 576];
     // The local figures of the classes get no place.
@@ -121,7 +135,7 @@ pub fn plain_report(
         values,
         weights,
         classes,
-        rows,
+        rows.as_mut_array().unwrap(),
         &mut class_locals[..places],
         locals,
         figures,

@@ -1,49 +1,19 @@
-// The report's own judges, and its work on a job that was accepted.
-ghost use Rattle.std.specs.Prelude.{◌≡◌, [], ◌∷◌, ◌*◌, ◌≤◌, length, take};
-ghost use Rattle.whole.specs.Rules.{first_broken, size_rules};
+// The report's work on lists that were judged.
+ghost use Rattle.std.specs.Prelude.{◌≡◌, ◌≤◌, length, take};
 ghost use Rattle.whole.specs.Table.{table};
-ghost use Rattle.refusals.specs.Refusals.{number_of};
 ghost use Rattle.account.specs.Classes.{row_at};
 ghost use Rattle.coefficients.specs.Coefficients.{pair_of, local_figures};
 ghost use Rattle.coefficients.specs.Steps.{whole_row, Reportable, Lists, rest_refusal, Reports};
 
 use crate::{Report, Whole, forming};
 use account::{ClassRow, Sums};
-use judges::Places;
 use refusals::Refusal;
-
-// 1 and 2, of n and the two lists of floats.
-pub(super) fn judge_lent(n: usize, figures: usize, parts: usize) -> Result<(), Refusal>
-    ensures { number_of result ≡ first_broken (size_rules n ((figures, n) ∷ (parts, 9 * n) ∷ [])) }
-{
-    judges::judge_lent(n, &[(figures, Places::Zones), (parts, Places::ClassZones)])
-}
-
-// 1 and 2, of n and the lists of the plain report.
-pub(super) fn judge_plain(
-    n: usize,
-    rows: usize,
-    locals: usize,
-    figures: usize,
-) -> Result<(), Refusal>
-    ensures { number_of result ≡ first_broken
-        (size_rules n ((rows, 27) ∷ (locals, n) ∷ (figures, n) ∷ [])) }
-{
-    judges::judge_lent(
-        n,
-        &[
-            (rows, Places::Fixed(27)),
-            (locals, Places::Zones),
-            (figures, Places::Zones),
-        ],
-    )
-}
 
 // The report of an accepted job, from what its class account answered and left. `parts` has places for the figures of the first of the
 // local numerators of the classes.
 pub(super) fn report_job(
     sums: Sums,
-    rows: &[i64],
+    rows: &[i64; 27],
     class_locals: &[i64],
     locals: &[i64],
     figures: &mut [u64],
@@ -62,11 +32,7 @@ pub(super) fn report_job(
 {
     let spread = sums.spread;
     let kept = sums.kept;
-    let row = ClassRow {
-        weight: sums.weight,
-        cross: sums.cross,
-        squares: sums.squares,
-    };
+    let row = ClassRow::from(sums);
     forming::put_figures(spread, locals, figures);
     let wanted = parts.len();
     forming::put_figures(spread, &class_locals[..wanted], parts);
@@ -84,13 +50,13 @@ pub(super) fn report_sized(
     values: &[i32],
     weights: &[u8],
     classes: &[u8],
-    rows: &mut [i64],
+    rows: &mut [i64; 27],
     class_locals: &mut [i64],
     locals: &mut [i64],
     figures: &mut [u64],
     parts: &mut [u64],
 ) -> Result<Report, Refusal>
-    requires { Lists n rows.old class_locals.old locals.old figures.old parts.old }
+    requires { Lists n class_locals.old locals.old figures.old parts.old }
     ensures { Reports (rest_refusal n values.now weights.now classes.now) n
         values.now weights.now classes.now
         rows.old locals.old figures.old parts.old result

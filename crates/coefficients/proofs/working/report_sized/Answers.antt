@@ -48,7 +48,7 @@ module _ (c : After-class_account) where
 
   rest_is : refusal ≡ rest_refusal n values weights classes
   rest_is =
-      account_number n values weights classes c.args.rows.now c.args.class_locals.now c.args.locals.now c.requires.rows_fit
+      account_number n values weights classes c.args.rows.now c.args.class_locals.now c.args.locals.now c.told-rows
       c.requires.class_locals_fit c.requires.locals_fit
 
   -- where there is one, the lists are as they were
