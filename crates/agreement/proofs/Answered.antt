@@ -90,9 +90,9 @@ module _ (n : ℕ) (values : List ℤ) (weights classes : List ℕ) where
   reported r e f g h = answer_unique r (Ok (job_report n values weights classes)) e f g h
 
   pub answers_are :
-      {own sums : Sums} {report plain : Report} → own ≡ job_sums n values weights → sums ≡ job_sums n values weights →
+      {whole sums : Sums} {report plain : Report} → whole ≡ job_sums n values weights → sums ≡ job_sums n values weights →
       report ≡ job_report n values weights classes → plain ≡ job_report n values weights classes →
-      ◌≡◌ {A = Every} (record { account = own; classes = sums; report = report; plain = plain })
+      ◌≡◌ {A = Every} (record { account = whole; classes = sums; report = report; plain = plain })
       (job_answers n values weights classes)
   unfolding job_answers
   answers_are e f g h = rw (e, f, g, h) refl

@@ -2,7 +2,6 @@
 // they hand out together: a layer above them, which relies on their promises alone.
 #![tactic(auto)]
 
-mod judging;
 mod working;
 
 ghost use Rattle.std.specs.Prelude.{◌≡◌};
@@ -14,6 +13,7 @@ ghost use Rattle.agreement.specs.Demand3.{Demand3};
 
 use account::Sums;
 use coefficients::Report;
+use judges::Places;
 use refusals::Refusal;
 
 // What the four calls answer of an accepted job: the account, the class account, the float report and the plain report.
@@ -68,17 +68,19 @@ pub fn every_figure(
         figures.new parts.new
         plain_rows.new plain_locals.new plain_figures.new)) }
 {
-    judging::judge_lent(
+    judges::judge_lent(
         n,
-        locals.len(),
-        rows.len(),
-        class_locals.len(),
-        own.len(),
-        figures.len(),
-        parts.len(),
-        plain_rows.len(),
-        plain_locals.len(),
-        plain_figures.len(),
+        &[
+            (locals.len(), Places::Zones),
+            (rows.len(), Places::Fixed(27)),
+            (class_locals.len(), Places::ClassZones),
+            (own.len(), Places::Zones),
+            (figures.len(), Places::Zones),
+            (parts.len(), Places::ClassZones),
+            (plain_rows.len(), Places::Fixed(27)),
+            (plain_locals.len(), Places::Zones),
+            (plain_figures.len(), Places::Zones),
+        ],
     )?;
     let sums = account::class_account(n, values, weights, classes, rows, class_locals, own)?;
     Ok(working::work_others(

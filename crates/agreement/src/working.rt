@@ -8,6 +8,7 @@ use account::Sums;
 
 // The other three calls on a job that the class account accepted, with lists that fit: none of them refuses anything. `sums` is what the
 // class account answered.
+// The lists go one by one: a struct of them would be put together for this one call, and taken apart in it.
 pub(super) fn work_others(
     n: usize,
     values: &[i32],
@@ -29,7 +30,7 @@ pub(super) fn work_others(
         locals.new figures.new parts.new
         plain_rows.new plain_locals.new plain_figures.new }
 {
-    let own = account::account(n, values, weights, locals).unwrap();
+    let accounted = account::account(n, values, weights, locals).unwrap();
     let report = coefficients::float_report(n, values, weights, classes, figures, parts).unwrap();
     let plain = coefficients::plain_report(
         n,
@@ -42,7 +43,7 @@ pub(super) fn work_others(
     )
     .unwrap();
     Every {
-        account: own,
+        account: accounted,
         classes: sums,
         report,
         plain,

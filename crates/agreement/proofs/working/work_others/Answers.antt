@@ -29,14 +29,14 @@ module _ (s : Start) where
   abbrev n : ℕ
   n = s.args.n
 
-  own_none : account_refusal n s.args.values.now s.args.weights.now s.args.locals.now ≡ 0
-  own_none =
+  account_taken : account_refusal n s.args.values.now s.args.weights.now s.args.locals.now ≡ 0
+  account_taken =
       account_none n s.args.values.now s.args.weights.now s.args.classes.now [] tt s.requires.callable.accepted s.args.locals.now
       s.requires.callable.locals_fit
 
-  whole_none :
+  report_taken :
       report_refusal n s.args.values.now s.args.weights.now s.args.classes.now s.args.figures.now s.args.parts.now ≡ 0
-  whole_none =
+  report_taken =
       let job = s.requires.callable in
       report_none n s.args.values.now s.args.weights.now s.args.classes.now [] tt job.accepted s.args.figures.now s.args.parts.now
       job.figures_fit job.parts_fit
@@ -51,10 +51,10 @@ module _ (s : Start) where
       s.args.plain_locals.now s.args.plain_figures.now job.plain_rows_fit job.plain_locals_fit job.plain_figures_fit
 
 -- ---- what they answer
-own_is : (c : After-account) → c.account.result ≡ Ok (job_sums c.args.n c.args.values.now c.args.weights.now)
+account_is : (c : After-account) → c.account.result ≡ Ok (job_sums c.args.n c.args.values.now c.args.weights.now)
 unfolding account_figures
-own_is c =
-    let z = own_none ((goal.at.After-account c).Start) in
+account_is c =
+    let z = account_taken ((goal.at.After-account c).Start) in
     accounted _ _ _ c.args.classes.now _ (c.account.ensures.number ∙ z) (c.account.ensures.figures ∙ worked_when_taken _ _ _ z)
 
 report_is :
@@ -62,7 +62,7 @@ report_is :
     c.float_report.result ≡ Ok (job_report c.args.n c.args.values.now c.args.weights.now c.args.classes.now)
 unfolding report_sums report_whole report_classes
 report_is c =
-    let z = whole_none ((goal.at.After-float_report c).Start) in
+    let z = report_taken ((goal.at.After-float_report c).Start) in
     let said = c.float_report.ensures in
     reported _ _ _ _ _ (said.number ∙ z) (said.sums ∙ worked_when_taken _ _ _ z) (said.whole ∙ worked_when_taken _ _ _ z)
     (said.pairs ∙ worked_when_taken _ _ _ z)
@@ -77,8 +77,8 @@ plain_is c =
     reported _ _ _ _ _ (said.number ∙ z) (said.sums ∙ worked_when_taken _ _ _ z) (said.whole ∙ worked_when_taken _ _ _ z)
     (said.pairs ∙ worked_when_taken _ _ _ z)
 
-pub unwrap-own-requires : goal.unwrap-own-requires
-unwrap-own-requires c = there (own_is ((goal.at.unwrap-own-requires c).After-account))
+pub unwrap-accounted-requires : goal.unwrap-accounted-requires
+unwrap-accounted-requires c = there (account_is ((goal.at.unwrap-accounted-requires c).After-account))
 
 pub unwrap-report-requires : goal.unwrap-report-requires
 unwrap-report-requires c = there (report_is ((goal.at.unwrap-report-requires c).After-float_report))
@@ -93,13 +93,13 @@ returns c =
     let s = t.Start in
     record {
       value =
-          answers_are _ _ _ _ (out (own_is t.After-account) c.unwrap-own.ensures) c.requires.sums_value
+          answers_are _ _ _ _ (out (account_is t.After-account) c.unwrap-accounted.ensures) c.requires.sums_value
           (out (report_is t.After-float_report) c.unwrap-report.ensures)
           (out (plain_is t.After-plain_report) c.unwrap-plain.ensures);
       others_left = record {
-        in_locals = c.account.ensures.lent ∙ worked_when_taken _ _ _ (own_none s);
-        in_figures = c.float_report.ensures.figures ∙ worked_when_taken _ _ _ (whole_none s);
-        in_parts = c.float_report.ensures.parts ∙ worked_when_taken _ _ _ (whole_none s);
+        in_locals = c.account.ensures.lent ∙ worked_when_taken _ _ _ (account_taken s);
+        in_figures = c.float_report.ensures.figures ∙ worked_when_taken _ _ _ (report_taken s);
+        in_parts = c.float_report.ensures.parts ∙ worked_when_taken _ _ _ (report_taken s);
         in_plain_rows = c.plain_report.ensures.rows ∙ worked_when_taken _ _ _ (plain_taken s);
         in_plain_locals = c.plain_report.ensures.locals ∙ worked_when_taken _ _ _ (plain_taken s);
         in_plain_figures = c.plain_report.ensures.figures ∙ worked_when_taken _ _ _ (plain_taken s);
