@@ -1,6 +1,6 @@
 -- The report's two ways out, and what a call promises of each; the numbers on the way. Assumes nothing.
 use mathlib.Core.Path.{◌≡◌, refl, sym, ap, ◌∙◌}
-use mathlib.Core.Bool.{Bool, true, false, not, ◌||◌}
+use mathlib.Core.Bool.{true, false, not}
 use mathlib.Core.List.{List, [], ◌∷◌, ◌++◌}
 use Prim.Native.Nat.{ℕ, ◌*◌}
 use borrow.Author.Tests.{eq-eqb}
@@ -111,16 +111,6 @@ module _ (n : ℕ) (values : List ℤ) (weights classes : List ℕ) (lent : List
   lent_misfits g =
       let last = beside (not (eqb (length classes) (n * n))) _ g in
       beside (not (eqb (length values) n)) _ (beside (not (eqb (length weights) (n * n))) _ last)
-
-  -- nor where the job's own lists and the further ones do not
-  pub others_misfit : misfits (job_lengths n (length values) (length weights) lent) ≡ true → misfits all_lengths ≡ true
-  others_misfit g = go (not (eqb (length values) n)) (not (eqb (length weights) (n * n))) g
-    where
-      go :
-          (a b : Bool) → (a || (b || misfits lent)) ≡ true → (a || (b || (not (eqb (length classes) (n * n)) || misfits lent))) ≡ true
-      go true b e = refl
-      go false true e = refl
-      go false false e = beside (not (eqb (length classes) (n * n))) _ e
 
   -- a number that n or some of its lists give is the call's
   pub sizes_number :

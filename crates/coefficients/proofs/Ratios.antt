@@ -2,12 +2,10 @@
 use mathlib.Core.Path.{◌≡◌, refl, ap, ◌∙◌}
 use mathlib.Core.Bool.{false}
 use mathlib.Core.List.{List}
-use Prim.Native.Nat.{ℕ, ◌*◌, ◌-◌, ◌≤◌, ◌<◌}
+use Prim.Native.Nat.{ℕ, ◌*◌, ◌-◌, ◌≤◌}
 use native.Mathlib.Nat as N
 use native.Mathlib.Omega.{arith}
 use lib.IntN.{ℤ, pos, nat_abs, ◌*ℤ◌}
-use lib.ListN.{length, take}
-use lib.Seq.{length-take-le, get_or-take}
 use lib.Signed.{◌≤ℤ◌}
 use mir.Syntax.{w64}
 use mir.Val.{to_z}
@@ -29,10 +27,6 @@ ratio_same e f r = rw (e, f) r
 
 pub nearest_same : {p p' q q' : ℤ} → p' ≡ p → q' ≡ q → nearest_float p' q' ≡ nearest_float p q
 nearest_same {p} {p'} {q} {q'} e f = ap (λ v. nearest_float v q') e ∙ ap (nearest_float p) f
-
--- a row whose sums are read from locals
-abbrev pub read : ClassRow → ClassRow
-read row = record { weight = r64 row.weight; cross = r64 row.cross; squares = r64 row.squares }
 
 -- up to 64 zones have up to 4,032 ordered pairs off the diagonal, and two zones have two
 pub ordered_le : (n : ℕ) → n ≤ 64 → (n - 1) * n ≤ 4032
@@ -105,10 +99,6 @@ module _ (n : ℕ) (spread : ℤ) (row : ClassRow) (s : Formable n spread row) w
   pub geary_divisor_is : Is (r64 (pos 2 *ℤ r64 row.weight) *ℤ r64 spread) ((pos 2 *ℤ row.weight) *ℤ spread) ratio_limit
   geary_divisor_is = to ratio_limit (is_* (rd w64 twice_is tt) spread_is) refl s.geary_divisor
 
-  -- the sums as they are read from locals are the sums
-  pub row_read : read row ≡ row
-  row_read = rw (weight_is.same, cross_is.same, squares_is.same) refl
-
 -- the same sums and spread by other names
 pub formable_same : {n : ℕ} {m m' : ℤ} {r r' : ClassRow} → m' ≡ m → r' ≡ r → Formable n m r → Formable n m' r'
 formable_same e f s = rw (e, f) s
@@ -118,11 +108,3 @@ rows_same e f r = rw (e, f) r
 
 pub numerators_same : {m m' : ℤ} {l l' : List ℤ} → m' ≡ m → l' ≡ l → Numerators m l → Numerators m' l'
 numerators_same e f r = rw (e, f) r
-
--- and the first of some local numerators
-pub numerators_first : {m : ℤ} {l : List ℤ} (count : ℕ) → count ≤ length l → Numerators m l → Numerators m (take count l)
-numerators_first {m} {l} count h r =
-    let as_many : length (take count l) ≡ count = length-take-le count l h in record {
-      few = omega (arith, r.few);
-      each = λ k p. let q : k < count = omega arith in rw (get_or-take count l k (pos 0) q) (r.each k (omega arith));
-    }

@@ -1,5 +1,5 @@
 // Coefficients from whole numbers, each by one division.
-ghost use Rattle.std.specs.Prelude.{◌≡◌, ◌<◌, length};
+ghost use Rattle.std.specs.Prelude.{◌≡◌, length};
 ghost use Rattle.whole.specs.Table.{table};
 ghost use Rattle.nearest.specs.Answers.{nearest_float};
 ghost use Rattle.account.specs.Classes.{row_at};

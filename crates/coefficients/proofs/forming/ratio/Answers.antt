@@ -7,7 +7,7 @@ use Rattle.std.specs.Result.{IsOk}
 use Rattle.whole.proofs.Machine.{r64}
 use Rattle.nearest.specs.Answers.{nearest_float}
 use Rattle.nearest.proofs.Theorems.{answer_rounded}
-use Rattle.coefficients.proofs.Ratios.{ratio_taken, ratio_same}
+use Rattle.coefficients.proofs.Ratios.{ratio_taken, ratio_same, nearest_same}
 use Rattle.coefficients.proofs.forming.ratio.Goals as goal
 use Rattle.coefficients.proofs.forming.ratio.Goals.{After-nearest}
 
@@ -20,7 +20,7 @@ answered c =
     let f = to_z-of_z w64 q c.ranges.q in
     let said = c.nearest.ensures in
     answer_rounded (r64 p) (r64 q) (ratio_taken (r64 p) (r64 q) (ratio_same e f c.requires)) c.nearest.result said.number said.figures
-    ∙ ap Ok (ap (λ v. nearest_float v (r64 q)) e ∙ ap (nearest_float p) f)
+    ∙ ap Ok (nearest_same e f)
 
 pub unwrap-requires : goal.unwrap-requires
 unwrap-requires c = subst IsOk (sym (answered c)) refl
