@@ -16,6 +16,7 @@ pub fn read_full<R: Read>(reader: &mut R, room: &mut [u8]) -> io::Result<usize>
         (λ end. Consumes (R.remaining reader.old) (R.remaining reader.new) (take end room.new)) }
 {
     let mut end: usize = 0;
+    // no `for`: how many reads it takes, the reader decides
     while end < room.len() {
         let more = reader.read(&mut room[end..])?;
         if more == 0 {

@@ -2,8 +2,8 @@
 ghost use Rattle.std.specs.Prelude.{◌≡◌, ◌+◌, ◌*◌, ◌^◌, ◌≤◌, ◌<◌};
 ghost use Rattle.nearest.specs.Steps.{Widened, Room, Divided};
 
-// 2^52, the least number of 53 binary digits.
-const LEAST: u64 = 4503599627370496;
+// The least number of 53 binary digits.
+const LEAST: u64 = 1 << 52;
 
 // Where the divisor leaves room for fewer digits, a division costs more than doublings do.
 const WORTH: u64 = 5;
@@ -123,6 +123,7 @@ pub(super) fn long_division(a: u64, divisor: u64) -> Quotient
         rest: a % divisor,
         halvings: 0,
     };
+    // no `for`: how many divisions it takes depends on what each gives
     while x.whole < LEAST {
         if most < WORTH {
             x = next_digit(x, divisor);

@@ -4,8 +4,8 @@ ghost use Rattle.std.specs.Float.{binary64};
 ghost use Rattle.std.specs.Float.Ieee.{round};
 ghost use Rattle.std.specs.Float.Ieee.Exact.{HasValue};
 
-// 2^52: the bits of a float have the field of the exponent above the lower 52.
-const FIELD: u64 = 4503599627370496;
+// The bits of a float have the field of the exponent above the lower 52.
+const FIELD: u64 = 1 << 52;
 
 // 1, doubled and halved so often, by its bits: the field of 1 is 1,023, and a power of 2 has no further digits.
 fn power(doublings: u64, halvings: u64) -> f64
@@ -16,13 +16,14 @@ fn power(doublings: u64, halvings: u64) -> f64
     f64::from_bits((1023 + doublings - halvings) * FIELD)
 }
 
+// So many digits, doubled and halved so often.
 pub(super) fn scaled(m: u64, doublings: u64, halvings: u64) -> f64
     requires m_nonzero { 0 < m }
     requires m_bound { m ≤ 2 ^ 53 }
-    requires fact { (doublings ≡ 0) ⊎ (doublings ≡ 10) }
+    requires doublings_value { (doublings ≡ 0) ⊎ (doublings ≡ 10) }
     requires halvings_bound { halvings ≤ 115 }
     ensures { result ≡ round binary64 false (m * 2 ^ doublings) (2 ^ halvings) }
 {
-    // no From leads here from a u64: the cast is exact, since m has at most 53 digits
+    // no From or TryFrom leads here from a u64: the cast is exact, since m has at most 53 digits
     (m as f64) * power(doublings, halvings)
 }

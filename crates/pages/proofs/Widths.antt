@@ -3,13 +3,14 @@ use mathlib.Core.Path.{◌≡◌, refl}
 use mathlib.Core.List.{List, [], ◌∷◌}
 use Prim.Native.Nat.{ℕ, suc, ◌+◌, ◌*◌, ◌≤◌, ◌<◌}
 use native.Mathlib.Omega.{arith}
-use lib.IntN.{ℤ, pos, negsuc}
+use lib.IntN.{ℤ, pos}
 use lib.ListN.{length, get_or, length-append}
 use mir.Syntax.{w64}
 use mir.Val.{SFits}
 use Rattle.whole.specs.Table.{each}
 use Rattle.digits.specs.Digits.{decimal, hexadecimal}
-use Rattle.digits.proofs.DecimalDigits.{places_19, size_most}
+use Rattle.digits.proofs.DecimalDigits.{written}
+use Rattle.std.proofs.lemmas.Fmt.{length_signed_le}
 use Rattle.pages.specs.Lines.{field, numbers, bits}
 use Rattle.pages.specs.Pages.{Puts}
 
@@ -18,11 +19,9 @@ pub fitting :
     {old new text : List ℕ} {at place : ℕ} → Puts old new at place text → at + length text ≤ length old → place ≡ at + length text
 fitting puts h = omega (arith, puts.behind)
 
--- a whole number of 64 bits has at most 19 digits, besides the sign and the space
+-- a whole number of 64 bits has at most 20 bytes, besides the space
 pub number_width : (z : ℤ) → SFits w64 z → length (field (decimal z)) ≤ 21
-unfolding decimal
-number_width (pos n) f = omega (arith, places_19 n (size_most (pos n) f))
-number_width (negsuc n) f = omega (arith, places_19 (suc n) (size_most (negsuc n) f))
+number_width z f = rw (← written z f) (omega (arith, length_signed_le 19 z (omega (arith, f.sfits)) (omega (arith, f.sfits))))
 
 -- every number of a list is one of 64 bits
 abbrev pub EachFits : List ℤ → Type 0

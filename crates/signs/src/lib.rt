@@ -1,4 +1,5 @@
-// The size and the sign of a signed number.
+// The size and the sign of a signed number: the library's methods, under public names that promise what they give in the words that the
+// figures are told in.
 #![tactic(auto)]
 
 ghost use Rattle.std.specs.Prelude.{◌≡◌, nat_abs};

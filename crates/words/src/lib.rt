@@ -50,7 +50,7 @@ pub fn word_at(bytes: &[u8], at: usize) -> u32
     ])
 }
 
-// The number of eight bytes.
+// The number of eight bytes, by its two words as its definition says it: u64::from_le_bytes of eight reads is no plainer.
 #[tactic(auto, using(crate::proofs::Beyond::long_beyond), unfolding(crate::specs::Words::long_at))]
 pub fn long_at(bytes: &[u8], at: usize) -> u64
     ensures { result ≡ long_at bytes.now at }
@@ -61,7 +61,7 @@ pub fn long_at(bytes: &[u8], at: usize) -> u64
     u64::from(word_at(bytes, at)) + 4294967296 * u64::from(word_at(bytes, at + 4))
 }
 
-// The signed number that 32 bits stand for.
+// The signed number that 32 bits stand for: here and below the library's method, under a public name that promises it.
 pub fn signed_word(word: u32) -> i32
     ensures { result ≡ to_z w32 word }
 {

@@ -36,7 +36,7 @@ scaled-requires c =
     let top : m.result ≤ 2 ^ 53 = rw m.ensures (le_trans (nearest-le x.result.whole o) x.ensures.most) in record {
       m_nonzero = some x.result.whole m.result x.ensures.least low;
       m_bound = top;
-      fact = by.ensures.often;
+      doublings_value = by.ensures.often;
       halvings_bound = x.ensures.few;
     }
 

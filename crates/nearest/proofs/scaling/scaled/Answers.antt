@@ -16,7 +16,7 @@ unfolding in_float
 int_to_float-result c = le→leb c.args.m (2 ^ 53) c.requires.m_bound
 
 pub power-requires : goal.power-requires
-power-requires c = record { doublings_bound = few c.args.doublings c.requires.fact; halvings_bound = c.requires.halvings_bound }
+power-requires c = record { doublings_bound = few c.args.doublings c.requires.doublings_value; halvings_bound = c.requires.halvings_bound }
 
 pub returns : goal.returns
 returns c =
