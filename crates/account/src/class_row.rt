@@ -1,21 +1,30 @@
-// A class row out of what holds its three sums: the list of the nine rows, or the sums of a job.
-ghost use Rattle.std.specs.Prelude.{◌≡◌, ◌*◌, ◌+◌, ◌<◌, length};
+// Class rows out of what holds their sums: the list of the nine, or the sums of a job.
+ghost use Rattle.std.specs.Prelude.{◌≡◌, ◌<◌};
+ghost use Rattle.whole.specs.Table.{table};
 ghost use Rattle.account.specs.Classes.{row_at};
 
 use crate::{ClassRow, Sums};
+use std::array;
+
+// The row of class k, from the three sums in its places.
+fn row_of(sums: &[i64; 27], k: usize) -> ClassRow
+    requires { k < 9 }
+    ensures { result ≡ row_at sums.now k }
+{
+    let place = k * 3;
+    ClassRow {
+        weight: sums[place],
+        cross: sums[place + 1],
+        squares: sums[place + 2],
+    }
+}
 
 impl ClassRow {
-    // The row of class k, from a list of class rows, three sums each.
-    pub fn nth(rows: &[i64], k: usize) -> ClassRow
-        requires { k * 3 + 2 < length rows.now }
-        ensures { result ≡ row_at rows.now k }
+    // The rows of class 0, of class 1, .., from the list that the class account puts their sums into.
+    pub fn all(sums: &[i64; 27]) -> [ClassRow; 9]
+        ensures { result ≡ table (row_at sums.now) 9 }
     {
-        let place = k * 3;
-        ClassRow {
-            weight: rows[place],
-            cross: rows[place + 1],
-            squares: rows[place + 2],
-        }
+        array::from_fn(|k| row_of(sums, k))
     }
 }
 

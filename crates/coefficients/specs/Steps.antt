@@ -40,6 +40,10 @@ pub record Formable (n : ℕ) (spread : ℤ) (row : ClassRow) : Type 0 where
 abbrev pub FormableRows : ℕ → ℤ → List ℤ → Type 0
 FormableRows n spread rows = (k : ℕ) → k < 9 → Formable n spread (row_at rows k)
 
+-- the k-th of some class rows
+abbrev pub nth_row : List ClassRow → ℕ → ClassRow
+nth_row rows k = get_or rows k (row_at [] 0)
+
 -- local numerators, and the spread that divides them
 pub record Numerators (spread : ℤ) (numerators : List ℤ) : Type 0 where
   pub few : length numerators ≤ 576

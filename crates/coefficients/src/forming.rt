@@ -1,10 +1,10 @@
 // Coefficients from whole numbers, each by one division.
-ghost use Rattle.std.specs.Prelude.{◌≡◌, length};
+ghost use Rattle.std.specs.Prelude.{◌≡◌, ℕ, ◌<◌, length};
 ghost use Rattle.whole.specs.Table.{table};
 ghost use Rattle.nearest.specs.Answers.{nearest_float};
 ghost use Rattle.account.specs.Classes.{row_at};
 ghost use Rattle.coefficients.specs.Coefficients.{pair_of, local_figures};
-ghost use Rattle.coefficients.specs.Steps.{Ratio, Formable, FormableRows, Numerators};
+ghost use Rattle.coefficients.specs.Steps.{Ratio, Formable, FormableRows, nth_row, Numerators};
 
 use crate::{Coefficient, Pair};
 use account::ClassRow;
@@ -42,15 +42,20 @@ pub(super) fn pair(n: usize, spread: i64, row: ClassRow) -> Pair
     }
 }
 
+// The pairs of nine rows.
+fn row_pairs(n: usize, spread: i64, rows: &[ClassRow; 9]) -> [Pair; 9]
+    requires { (k : ℕ) → k < 9 → Formable n spread (nth_row rows.now k) }
+    ensures { result ≡ table (λ k. pair_of n spread (nth_row rows.now k)) 9 }
+{
+    array::from_fn(|k| pair(n, spread, rows[k]))
+}
+
 // The pairs of the nine classes.
 pub(super) fn class_pairs(n: usize, spread: i64, rows: &[i64; 27]) -> [Pair; 9]
     requires { FormableRows n spread rows.now }
     ensures { result ≡ table (λ k. pair_of n spread (row_at rows.now k)) 9 }
 {
-    array::from_fn(|k| {
-        let row = ClassRow::nth(rows, k);
-        pair(n, spread, row)
-    })
+    row_pairs(n, spread, &ClassRow::all(rows))
 }
 
 // The local Moran of each local numerator of a list, by its bits.

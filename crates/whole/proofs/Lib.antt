@@ -6,6 +6,7 @@ pub mod SumSize
 pub mod Pairs
 pub mod Table
 pub mod TableRows
+pub mod Called
 pub mod Search
 pub mod Compare
 pub mod Counting
