@@ -1,5 +1,5 @@
-// The job image: what it means is in specs/, and that reading and writing it go back and forth in proofs/. Its code is what the reader
-// and the writer judge alike: the counts of the sections, and the lengths of the six buffers.
+// The job image: what it means is in specs/, and that reading and writing it go back and forth in proofs/. Its code is what is judged
+// of a job where it is read or written: the counts of its sections, and the lengths of the six buffers.
 #![tactic(auto)]
 
 ghost use Rattle.std.specs.Prelude.{◌≡◌, [], ◌∷◌};
@@ -34,10 +34,7 @@ pub struct Lists<'a> {
 pub fn judge_zone_count(n: usize) -> Result<(), Refusal>
     ensures { number_of result ≡ first_broken (zone_count_rule n ∷ []) }
 {
-    if n < 2 || n > 64 {
-        return Err(Refusal::Zones);
-    }
-    Ok(())
+    judges::judge_zones(n)
 }
 
 // 15: categories or places for some of n zones only.

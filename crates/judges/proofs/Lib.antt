@@ -1,2 +1,2 @@
 -- Laws that the judges' searches need.
-pub mod Beyond
+pub mod Searched

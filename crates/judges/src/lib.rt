@@ -1,5 +1,5 @@
-// What more than one judge asks: whether n and three lengths are as they must be, whether a number of a list is beyond or above a limit,
-// and whether a weight stands on the diagonal.
+// What more than one judge asks: whether n and the lengths of lent lists are as they must be, whether a number of a list is beyond or
+// above a limit, and whether a weight stands on the diagonal.
 #![tactic(auto)]
 
 mod sizes;
@@ -8,7 +8,7 @@ ghost use Rattle.std.specs.Prelude.{◌≡◌};
 ghost use Rattle.whole.specs.Integer.{beyond};
 ghost use Rattle.whole.specs.Search.{any_beyond, any_above, any_on_diagonal};
 
-pub use sizes::{Places, judge_lent};
+pub use sizes::{Places, judge_lent, judge_zones};
 
 // Whether a number is beyond the limit in size.
 fn is_beyond(limit: u32, number: i32) -> bool
@@ -21,43 +21,25 @@ fn is_beyond(limit: u32, number: i32) -> bool
 pub fn any_beyond(limit: u32, numbers: &[i32]) -> bool
     ensures { result ≡ any_beyond limit numbers.now }
 {
-    for number in numbers {
-        if is_beyond(limit, *number) {
-            return true;
-        }
-    }
-    false
+    numbers.iter().any(|number| is_beyond(limit, *number))
 }
 
-// Whether some number is above the limit.
+// Whether some number is above the limit. Not left at the first one, so that the compiler can look at several at a time.
 pub fn any_above(limit: u8, numbers: &[u8]) -> bool
     ensures { result ≡ any_above limit numbers.now }
 {
-    let mut found = false;
-    for number in numbers {
-        if *number > limit {
-            found = true;
-        }
-    }
-    found
+    numbers
+        .iter()
+        .fold(false, |found, number| found | (*number > limit))
 }
 
 // Whether some weight stands on the diagonal, where each zone has a row of n weights. A place behind the list's end has none.
 pub fn any_on_diagonal(n: usize, weights: &[u8]) -> bool
     ensures { result ≡ any_on_diagonal n weights.now }
 {
-    let mut place: usize = 0;
-    for _ in 0..n {
-        if place >= weights.len() {
-            return false;
-        }
-        if weights[place] > 0 {
-            return true;
-        }
-        if weights.len() - place <= n {
-            return false;
-        }
-        place += n + 1;
-    }
-    false
+    // from one place of the diagonal to the next is a row and a place more
+    weights
+        .chunks(n.saturating_add(1))
+        .take(n)
+        .any(|from| from[0] > 0)
 }

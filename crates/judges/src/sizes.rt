@@ -1,5 +1,5 @@
 // The first two rules of every call that is lent lists: n, and the length of each list.
-ghost use Rattle.std.specs.Prelude.{◌≡◌, ◌≤◌};
+ghost use Rattle.std.specs.Prelude.{◌≡◌, ◌≤◌, []};
 ghost use Rattle.whole.specs.Rules.{first_broken, size_rules};
 ghost use Rattle.refusals.specs.Refusals.{number_of};
 ghost use Rattle.judges.specs.Sizes.{places_for, lengths_for};
@@ -32,13 +32,21 @@ fn places_for(n: usize, places: Places) -> usize
     }
 }
 
-// 1 and 2: n, then the length of each list beside the places that it must have.
-pub fn judge_lent(n: usize, lists: &[(usize, Places)]) -> Result<(), Refusal>
-    ensures { number_of result ≡ first_broken (size_rules n (lengths_for n lists.now)) }
+// 1: n outside 2 to 64.
+pub fn judge_zones(n: usize) -> Result<(), Refusal>
+    ensures { number_of result ≡ first_broken (size_rules n []) }
 {
     if n < 2 || n > 64 {
         return Err(Refusal::Zones);
     }
+    Ok(())
+}
+
+// 1 and 2: n, then the length of each list beside the places that it must have.
+pub fn judge_lent(n: usize, lists: &[(usize, Places)]) -> Result<(), Refusal>
+    ensures { number_of result ≡ first_broken (size_rules n (lengths_for n lists.now)) }
+{
+    judge_zones(n)?;
     for (length, places) in lists {
         if *length != places_for(n, *places) {
             return Err(Refusal::Length);

@@ -6,37 +6,6 @@ use Rattle.refusals.specs.declared.Refusal.{Refusal}
 use Rattle.refusals.specs.declared.Refusal.TheVariants.{Zones, Length, Value, Weight, Diagonal, Weightless, Spreadless, Category, Class, Coordinate, Place, Bands, Shuffle, Cut, Count, Joins, Trailing, Ratio, Output}
 use Rattle.refusals.specs.Refusals.{number_by}
 
--- no cause has the number 0
-pub not_refused : (e : Refusal) → number_by e ≡ 0 → ⊥
-not_refused Zones h = omega (arith, h)
-not_refused Length h = omega (arith, h)
-not_refused Value h = omega (arith, h)
-not_refused Weight h = omega (arith, h)
-not_refused Diagonal h = omega (arith, h)
-not_refused Weightless h = omega (arith, h)
-not_refused Spreadless h = omega (arith, h)
-not_refused Category h = omega (arith, h)
-not_refused Class h = omega (arith, h)
-not_refused Coordinate h = omega (arith, h)
-not_refused Place h = omega (arith, h)
-not_refused Bands h = omega (arith, h)
-not_refused Shuffle h = omega (arith, h)
-not_refused Cut h = omega (arith, h)
-not_refused Count h = omega (arith, h)
-not_refused Joins h = omega (arith, h)
-not_refused Trailing h = omega (arith, h)
-not_refused Ratio h = omega (arith, h)
-not_refused Output h = omega (arith, h)
-
-module _ {B : Type 0} (number : ℕ) (worked kept : B) where
-  -- what is lent stays where the number is a cause's
-  pub left_by : (e : Refusal) → number_by e ≡ number → unless_refused number worked kept ≡ kept
-  left_by e h = kept_when_refused number worked kept (λ z. not_refused e (h ∙ z))
-
-  -- and is worked where an answer that is no refusal has the number
-  pub worked_by : 0 ≡ number → unless_refused number worked kept ≡ worked
-  worked_by h = worked_when_taken number worked kept (sym h)
-
 -- ---- a cause is known by its number
 causes : List Refusal
 causes =
@@ -70,3 +39,20 @@ found_by_place Output = refl
 
 pub cause_unique : (a b : Refusal) → number_by a ≡ number_by b → a ≡ b
 cause_unique a b e = sym (found_by_place a) ∙ ap by_place e ∙ found_by_place b
+
+-- no cause has the number 0: the one at that place has another
+pub not_refused : (e : Refusal) → number_by e ≡ 0 → ⊥
+unfolding by_place causes
+not_refused e h =
+    let zones : number_by e ≡ 1 = ap number_by (sym (found_by_place e) ∙ ap by_place h) in
+    omega (arith, h, zones)
+
+-- ---- what a refused call was lent
+module _ {B : Type 0} (number : ℕ) (worked kept : B) where
+  -- what is lent stays where the number is a cause's
+  pub left_by : (e : Refusal) → number_by e ≡ number → unless_refused number worked kept ≡ kept
+  left_by e h = kept_when_refused number worked kept (λ z. not_refused e (h ∙ z))
+
+  -- and is worked where an answer that is no refusal has the number
+  pub worked_by : 0 ≡ number → unless_refused number worked kept ≡ worked
+  worked_by h = worked_when_taken number worked kept (sym h)

@@ -2,11 +2,11 @@
 use mathlib.Core.Path.{◌≡◌, refl, sym, ap, ◌∙◌}
 use mathlib.Core.Bool.{Bool, true, false, not, cond}
 use mathlib.Core.List.{List}
-use Prim.Native.Nat.{ℕ, ◌+◌, ◌*◌, ◌-◌, ◌≤◌, ◌<◌, ◌/◌}
+use Prim.Native.Nat.{ℕ, min, ◌+◌, ◌*◌, ◌≤◌, ◌<◌, ◌/◌}
 use native.Mathlib.Decide.{ℕ_discrete}
 use native.Mathlib.Nat as N
 use native.Mathlib.Omega.{arith}
-use borrow.Author.Tests.{eq-eqb, ne_eqb, lt-ltb, le-ltb, ltb-false}
+use borrow.Author.Tests.{eq-eqb, ne_eqb, le-ltb, ltb-true, ltb-false}
 use lib.Dec.{ltb, eqb}
 use lib.ListN.{length, get_or, set, take, drop, length-drop}
 use lib.Seq.{get_or-set_same, get_or-set_other, get_or-take, get_or-drop, length-take-le}
@@ -31,13 +31,14 @@ pub all_rows : (n length : ℕ) → length / n ≤ 499 → shuffle_count n lengt
 unfolding shuffle_count
 all_rows n length h = rw (le-ltb 499 (length / n) h) refl
 
--- where there are more, the list does not fit
-pub too_many : (n length : ℕ) → 0 < n → 499 < length / n → length ≡ shuffle_count n length * n → ⊥
+-- as the code counts them
+pub rows_least : (n length : ℕ) → min (length / n) 499 ≡ shuffle_count n length
 unfolding shuffle_count
-too_many n length h k e =
-    let f : length ≡ 499 * n = e ∙ ap (λ b. cond b 499 (length / n) * n) (lt-ltb 499 (length / n) k) in
-    let g : length / n ≡ 499 = ap (λ t. t / n) f ∙ N.mul-div_cancel 499 h in
-    omega arith
+rows_least n length = go (ltb 499 (length / n)) refl
+  where
+    go : (b : Bool) → ltb 499 (length / n) ≡ b → min (length / n) 499 ≡ cond b 499 (length / n)
+    go true e = let h = ltb-true 499 (length / n) e in omega (arith, h)
+    go false e = let h = ltb-false 499 (length / n) e in omega (arith, h)
 
 -- a list that fits has nothing beside its shuffles
 pub whole_rows : (n length : ℕ) → 0 < n → length ≡ shuffle_count n length * n → shuffle_count n length ≡ length / n
@@ -84,15 +85,15 @@ unnamed false = refl
 
 -- ---- row r taken out of the list lacks what the row in the list lacks
 module _ (shuffles : List ℕ) (n r : ℕ) (there : r * n + n ≤ length shuffles) where
-  abbrev part : List ℕ
-  part = take (r * n + n - r * n) (drop (r * n) shuffles)
+  abbrev pub part : List ℕ
+  part = take n (drop (r * n) shuffles)
 
-  pub row_long : length part ≡ n
-  row_long = length-take-le (r * n + n - r * n) (drop (r * n) shuffles) (omega (arith, length-drop (r * n) shuffles)) ∙ omega arith
+  row_long : length part ≡ n
+  row_long = length-take-le n (drop (r * n) shuffles) (omega (arith, length-drop (r * n) shuffles))
 
   row_at : (i : ℕ) → i < n → get_or part i 0 ≡ pair_at shuffles n r i
   unfolding pair_at
-  row_at i h = get_or-take (r * n + n - r * n) (drop (r * n) shuffles) i 0 (omega arith) ∙ get_or-drop (r * n) shuffles i 0
+  row_at i h = get_or-take n (drop (r * n) shuffles) i 0 h ∙ get_or-drop (r * n) shuffles i 0
 
   pub row_lacks : lacks (λ i. get_or part i 0) (length part) ≡ lacks (pair_at shuffles n r) n
   unfolding lacks

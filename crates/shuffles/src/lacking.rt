@@ -1,5 +1,5 @@
 // The search through a list of shuffles: whether some row lacks a zone number.
-ghost use Rattle.std.specs.Prelude.{◌≡◌, ◌*◌, ◌≤◌, eqb, length, get_or};
+ghost use Rattle.std.specs.Prelude.{◌≡◌, ◌/◌, ◌<◌, ◌≤◌, eqb, length, get_or};
 ghost use Rattle.whole.specs.Order.{lacks};
 ghost use Rattle.whole.specs.Search.{some};
 ghost use Rattle.whole.specs.Table.{table, pair_at};
@@ -16,19 +16,6 @@ fn mark(row: &[u8], named: &mut [u8])
     }
 }
 
-// Whether some number is not marked. Not left at the first one, so that the compiler can look at several at a time.
-fn any_unmarked(named: &[u8]) -> bool
-    ensures { result ≡ some (λ k. eqb (get_or named.now k 0) 0) (length named.now) }
-{
-    let mut found = false;
-    for mark in named {
-        if *mark == 0 {
-            found = true;
-        }
-    }
-    found
-}
-
 // Whether the row lacks some zone number.
 fn lacks_zone(row: &[u8]) -> bool
     requires { length row.now ≤ 64 }
@@ -36,22 +23,13 @@ fn lacks_zone(row: &[u8]) -> bool
 {
     let mut named: [u8; 256] = [0; 256];
     mark(row, &mut named);
-    any_unmarked(&named[..row.len()])
+    named[..row.len()].contains(&0)
 }
 
 // Whether some row lacks some zone number.
-pub(super) fn any_lacking(n: usize, shuffles: &[u8], rows: usize) -> bool
-    requires n_bound { n ≤ 64 }
-    requires rows_bound { rows ≤ 499 }
-    requires shuffles_len { length shuffles.now ≡ rows * n }
-    ensures { result ≡ some (λ r. lacks (pair_at shuffles.now n r) n) rows }
+pub(super) fn any_lacking(n: usize, shuffles: &[u8]) -> bool
+    requires { (0 < n) × (n ≤ 64) }
+    ensures { result ≡ some (λ r. lacks (pair_at shuffles.now n r) n) (length shuffles.now / n) }
 {
-    for r in 0..rows {
-        let first = r * n;
-        let end = first + n;
-        if lacks_zone(&shuffles[first..end]) {
-            return true;
-        }
-    }
-    false
+    shuffles.chunks_exact(n).any(lacks_zone)
 }

@@ -7,7 +7,7 @@ use Rattle.whole.specs.Rules.{size_rules}
 use Rattle.whole.specs.Search.{some}
 use Rattle.whole.proofs.Rules.{Sizes, sizes_hold, fits, first_here}
 use Rattle.shuffles.specs.Shuffles.{shuffle_count, any_lacking, row_refusal, shuffle_refusal}
-use Rattle.shuffles.proofs.ShuffleList.{at_most_499, whole_rows}
+use Rattle.shuffles.proofs.ShuffleList.{whole_rows}
 use Rattle.shuffles.proofs.judge_shuffles.Goals as goal
 use Rattle.shuffles.proofs.judge_shuffles.Goals.{In_ok-judge_rows, After-any_lacking}
 
@@ -45,17 +45,10 @@ returns-in_err-judge_rows c =
     rw (p.1, p.2) (first_here ((any_lacking a.n a.shuffles.now, 13) ∷ []) (size_rules a.n ((long, shuffle_count a.n long * a.n) ∷ [])) _
     c.in_err-judge_rows.ensures (not_refused _))
 
-pub nonzero_div-rows : goal.nonzero_div-rows
-nonzero_div-rows c = omega (arith, (sized c).two)
-
 pub any_lacking-requires : goal.any_lacking-requires
 any_lacking-requires c =
     let o = (goal.at.any_lacking-requires c).In_ok-judge_rows in
-    let k = counted o in record {
-      n_bound = (sized o).zones;
-      rows_bound = omega (arith, k, at_most_499 (n o) (long o));
-      shuffles_len = whole o ∙ ap (λ r. r * n o) k;
-    }
+    (omega (arith, (sized o).two), (sized o).zones)
 
 pub returns-then-any_lacking : goal.returns-then-any_lacking
 unfolding shuffle_refusal
