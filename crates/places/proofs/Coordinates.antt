@@ -16,8 +16,8 @@ use Rattle.whole.specs.Search.{some, any_beyond}
 use Rattle.whole.specs.Table.{at}
 use Rattle.whole.proofs.Compare.{equal_same, equal_true}
 use Rattle.whole.proofs.Search.{some_none, none_some, some_cong}
-use Rattle.places.specs.Places.{across, up, squared_distance, at_one_place}
-use Rattle.places.specs.Steps.{coordinates, squared_between}
+use Rattle.places.specs.Places.{across, up, at_one_place}
+use Rattle.places.specs.Steps.{coordinates}
 use Rattle.places.proofs.Any.{any_front}
 
 -- a zone of the list, and no zone past its end
@@ -41,15 +41,14 @@ up_is (zone ∷ zones) (suc a) =
     let e : 2 * suc a + 1 ≡ suc (suc (2 * a + 1)) = omega arith in
     rw e (up_is zones a)
 
-pub distance_is :
-    (zones : List (List ℤ)) (a b : ℕ) → squared_distance (coordinates zones) a b ≡ squared_between (zone_at zones a) (zone_at zones b)
-unfolding squared_distance squared_between
-distance_is zones a b = simp (across_is, up_is)
-
 pub coordinates_length : (zones : List (List ℤ)) → length (coordinates zones) ≡ 2 * length zones
 unfolding coordinates
 coordinates_length [] = refl
 coordinates_length (zone ∷ zones) = omega (arith, coordinates_length zones)
+
+-- where they are places of n zones, they are n
+pub zones_count : (zones : List (List ℤ)) (places : List ℤ) (n : ℕ) → coordinates zones ≡ places → length places ≡ 2 * n → length zones ≡ n
+zones_count zones places n e fits = omega (arith, coordinates_length zones, ap length e)
 
 -- ---- a list of coordinates taken two by two
 pub coordinates_taken : (k : ℕ) (places : List ℤ) → length places ≡ 2 * k → coordinates (first_chunks 2 k places) ≡ places
@@ -60,29 +59,12 @@ coordinates_taken (suc k) [] e = let z : ⊥ = omega arith in absurd z
 coordinates_taken (suc k) (x ∷ []) e = let z : ⊥ = omega arith in absurd z
 coordinates_taken (suc k) (x ∷ y ∷ places) e = ap (λ l. x ∷ y ∷ l) (coordinates_taken k places (omega arith))
 
--- ---- a zone has two coordinates, and where none of the list is beyond 30,000, none of a zone is
+-- ---- a zone is its two coordinates
 pub zone_whole : (zone : List ℤ) → length zone ≡ 2 → zone ≡ at zone 0 ∷ at zone 1 ∷ []
 zone_whole [] e = let z : ⊥ = omega arith in absurd z
 zone_whole (x ∷ []) e = let z : ⊥ = omega arith in absurd z
 zone_whole (x ∷ y ∷ []) e = refl
 zone_whole (x ∷ y ∷ z ∷ rest) e = let z : ⊥ = omega arith in absurd z
-
-pub zone_near :
-    (zones : List (List ℤ)) (a : ℕ) → any_beyond 30000 (coordinates zones) ≡ false → a < length zones →
-    length (zone_at zones a) ≡ 2 → any_beyond 30000 (zone_at zones a) ≡ false
-unfolding any_beyond across up
-zone_near zones a near h two =
-    let held : (k : ℕ) → k < length (coordinates zones) → beyond 30000 (at (coordinates zones) k) ≡ false =
-    λ k p. some_none (λ i. beyond 30000 (at (coordinates zones) i)) (length (coordinates zones)) k near p in
-    let l = coordinates_length zones in
-    none_some (λ i. beyond 30000 (at (zone_at zones a) i)) (length (zone_at zones a)) (λ k p. go k (omega (arith, two)) (held (2 * a) (omega arith)) (held (2 * a + 1) (omega arith)))
-  where
-    go :
-        (k : ℕ) → k < 2 → beyond 30000 (at (coordinates zones) (2 * a)) ≡ false → beyond 30000 (at (coordinates zones) (2 * a + 1)) ≡ false →
-        beyond 30000 (at (zone_at zones a) k) ≡ false
-    go zero p e f = ap (beyond 30000) (sym (across_is zones a)) ∙ e
-    go (suc zero) p e f = ap (beyond 30000) (sym (up_is zones a)) ∙ f
-    go (suc (suc k)) p e f = let z : ⊥ = omega arith in absurd z
 
 -- ---- the zones of a list of coordinates: each is its two coordinates
 abbrev pub Zones : List (List ℤ) → List ℤ → Type 0
