@@ -10,37 +10,34 @@ use mir.Syntax.{w64}
 use Rattle.whole.specs.Integer.{square}
 use Rattle.whole.specs.Search.{any_beyond}
 use Rattle.whole.proofs.Integer.{diff_of, diff_+, diff_*, diff_neg, diff_eq}
-use Rattle.whole.proofs.Machine.{Is, told, rd, r64}
+use Rattle.whole.proofs.Machine.{Is, val, told, rd, is_+, is__, is_*, r64}
 use Rattle.whole.proofs.Search.{none_beyond}
-use Rattle.whole.proofs.Size.{size_+_le, size___le, size_*_le, +_above, square_above}
+use Rattle.whole.proofs.Size.{+_above, square_above}
 use Rattle.places.specs.Places.{across, up, squared_distance}
 use Rattle.places.specs.Steps.{coordinates}
 use Rattle.places.proofs.Coordinates.{coordinates_length}
 
--- ---- the size
-
--- of the squared difference of two coordinates
-difference_size : (x y : ℤ) → nat_abs x ≤ 30000 → nat_abs y ≤ 30000 → nat_abs (square (x -ℤ y)) ≤ 3600000000
-difference_size x y h k = let d = size___le x y 30000 30000 h k in size_*_le (x -ℤ y) (x -ℤ y) 60000 60000 d d
-
--- of what is known of zones none of whose coordinates is beyond 30,000
+-- ---- the size, of zones none of whose coordinates is beyond 30,000
 module _ (zones : List (List ℤ)) (near : any_beyond 30000 (coordinates zones) ≡ false) where
-  pub across_near : (a : ℕ) → a < length zones → nat_abs (across (coordinates zones) a) ≤ 30000
+  pub across_near : (a : ℕ) → a < length zones → Is (across (coordinates zones) a) (across (coordinates zones) a) 30000
   unfolding across
-  across_near a h = let l = coordinates_length zones in none_beyond 30000 (coordinates zones) near (2 * a) (omega arith)
+  across_near a h =
+      let l = coordinates_length zones in
+      val (across (coordinates zones) a) 30000 (none_beyond 30000 (coordinates zones) near (2 * a) (omega arith))
 
-  pub up_near : (a : ℕ) → a < length zones → nat_abs (up (coordinates zones) a) ≤ 30000
+  pub up_near : (a : ℕ) → a < length zones → Is (up (coordinates zones) a) (up (coordinates zones) a) 30000
   unfolding up
-  up_near a h = let l = coordinates_length zones in none_beyond 30000 (coordinates zones) near (2 * a + 1) (omega arith)
+  up_near a h =
+      let l = coordinates_length zones in
+      val (up (coordinates zones) a) 30000 (none_beyond 30000 (coordinates zones) near (2 * a + 1) (omega arith))
 
   module _ (a b : ℕ) (h : a < length zones) (k : b < length zones) where
     distance_size : nat_abs (squared_distance (coordinates zones) a b) ≤ 7200000000
     unfolding squared_distance
     distance_size =
-        let places = coordinates zones in
-        size_+_le (square (across places a -ℤ across places b)) (square (up places a -ℤ up places b)) 3600000000 3600000000
-        (difference_size (across places a) (across places b) (across_near a h) (across_near b k))
-        (difference_size (up places a) (up places b) (up_near a h) (up_near b k))
+        let x = is__ (across_near a h) (across_near b k) in
+        let y = is__ (up_near a h) (up_near b k) in
+        (is_+ (is_* x x) (is_* y y)).size
 
     -- where y was told to be it, it is what is read of y
     pub distance_read : (y : ℤ) → y ≡ squared_distance (coordinates zones) a b → Is (r64 y) (squared_distance (coordinates zones) a b) 7200000000

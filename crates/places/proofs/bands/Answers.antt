@@ -6,10 +6,9 @@ use lib.ListN.{length}
 use Rattle.std.proofs.lemmas.Result.{err_from_is_err_and}
 use Rattle.whole.specs.Rules.{Rule}
 use Rattle.refusals.proofs.Refusals.{left_by, worked_by, not_refused}
-use Rattle.places.specs.Steps.{coordinates}
 use Rattle.places.specs.Bands.{bands_broken, band_classes, band_refusal, bands_left}
 use Rattle.places.proofs.Accepted.{Banded, bands_accepted, by_places, by_rest}
-use Rattle.places.proofs.Coordinates.{zones_count}
+use Rattle.places.proofs.Coordinates.{zones_count, worked_from}
 use Rattle.places.proofs.bands.Goals as goal
 use Rattle.places.proofs.bands.Goals.{Start, In_ok-judge_bands}
 
@@ -41,25 +40,22 @@ module _ (c : In_ok-judge_bands) where
   good : Banded c.args.n c.args.places.now c.args.bands.now (length c.args.classes.now)
   good = bands_accepted _ _ _ _ (sym none)
 
-  count : length c.in_ok-zones.zones.zones.now ≡ c.args.n
-  count = zones_count _ _ _ c.in_ok-zones.ensures.zones good.good.sizes.places_fit
-
 pub class_pairs-requires : goal.class_pairs-requires
 class_pairs-requires c =
-    let t = (goal.at.class_pairs-requires c).In_ok-judge_bands in
-    let g = good t in
-    record { bands_len_bound = g.few_bands; classes_len = g.good.sizes.room_fit ∙ ap (λ k. k * k) (sym (count t)) }
+    let g = good ((goal.at.class_pairs-requires c).In_ok-judge_bands) in
+    record {
+      bands_len_bound = g.few_bands;
+      classes_len = g.sizes.room_fit ∙ ap (λ k. k * k) (sym (zones_count _ _ _ c.in_ok-zones.ensures.zones g.sizes.places_fit));
+    }
 
 pub returns : goal.returns
 unfolding bands_left
 returns c =
     let t = (goal.at.returns c).In_ok-judge_bands in
-    let bands = c.args.bands.now in
     record {
       number = none t;
       lent =
           c.class_pairs.ensures
-          ∙ ap (λ k. band_classes k (coordinates c.in_ok-zones.zones.zones.now) bands) (count t)
-          ∙ ap (λ p. band_classes c.args.n p bands) c.in_ok-zones.ensures.zones
+          ∙ worked_from _ _ _ c.in_ok-zones.ensures.zones (good t).sizes.places_fit (λ k p. band_classes k p c.args.bands.now)
           ∙ sym (worked_by _ _ _ (none t));
     }

@@ -1,15 +1,12 @@
 -- `gabriel` meets its contract: judged first, and worked only where no rule is broken. Assumes nothing.
 use mathlib.Core.Path.{◌≡◌, sym, ap, ◌∙◌}
-use mathlib.Core.List.{List}
 use Prim.Native.Nat.{◌*◌}
-use lib.IntN.{ℤ}
 use lib.ListN.{length}
 use Rattle.std.proofs.lemmas.Result.{err_from_is_err_and}
 use Rattle.refusals.proofs.Refusals.{left_by, worked_by}
-use Rattle.places.specs.Steps.{coordinates}
 use Rattle.places.specs.Gabriel.{gabriel_network, gabriel_refusal, gabriel_left}
-use Rattle.places.proofs.Accepted.{Placed, gabriel_accepted}
-use Rattle.places.proofs.Coordinates.{zones_count}
+use Rattle.places.proofs.Accepted.{Fitting, gabriel_accepted}
+use Rattle.places.proofs.Coordinates.{zones_count, worked_from}
 use Rattle.places.proofs.gabriel.Goals as goal
 use Rattle.places.proofs.gabriel.Goals.{In_ok-zones}
 
@@ -26,16 +23,13 @@ module _ (c : In_ok-zones) where
   unfolding gabriel_refusal
   none = c.in_ok-zones.ensures.number
 
-  good : Placed c.args.n c.args.places.now (length c.args.weights.now)
-  good = gabriel_accepted _ _ _ (sym none)
-
-  count : length c.in_ok-zones.zones.zones.now ≡ c.args.n
-  count = zones_count _ _ _ c.in_ok-zones.ensures.zones good.sizes.places_fit
+  sizes : Fitting c.args.n (length c.args.places.now) (length c.args.weights.now)
+  sizes = gabriel_accepted _ _ _ (sym none)
 
 pub join_pairs-requires : goal.join_pairs-requires
 join_pairs-requires c =
-    let t = (goal.at.join_pairs-requires c).In_ok-zones in
-    (good t).sizes.room_fit ∙ ap (λ k. k * k) (sym (count t))
+    let s = sizes ((goal.at.join_pairs-requires c).In_ok-zones) in
+    s.room_fit ∙ ap (λ k. k * k) (sym (zones_count _ _ _ c.in_ok-zones.ensures.zones s.places_fit))
 
 pub returns : goal.returns
 unfolding gabriel_left
@@ -45,7 +39,6 @@ returns c =
       number = none t;
       lent =
           c.join_pairs.ensures
-          ∙ ap (λ k. gabriel_network k (coordinates c.in_ok-zones.zones.zones.now)) (count t)
-          ∙ ap (gabriel_network c.args.n) c.in_ok-zones.ensures.zones
+          ∙ worked_from _ _ _ c.in_ok-zones.ensures.zones (sizes t).places_fit gabriel_network
           ∙ sym (worked_by _ _ _ (none t));
     }

@@ -1,9 +1,8 @@
 -- `judge_places` meets its contract: the sizes' number where there is one, else 10, 11 or none, and then the zones. Assumes nothing.
 use mathlib.Core.Path.{◌≡◌, refl, sym, ap, ◌∙◌}
 use mathlib.Core.Bool.{false}
-use mathlib.Core.List.{List, [], ◌∷◌}
+use mathlib.Core.List.{[], ◌∷◌}
 use Prim.Native.Nat.{◌*◌}
-use lib.IntN.{ℤ}
 use lib.ListN.{length}
 use Rattle.std.proofs.lemmas.Result.{err_from_is_err_and}
 use Rattle.whole.specs.Rules.{first_broken, size_rules}
@@ -12,7 +11,7 @@ use Rattle.refusals.proofs.Refusals.{not_refused}
 use Rattle.places.specs.Places.{any_at_one_place, place_rules}
 use Rattle.places.specs.Steps.{coordinates}
 use Rattle.places.proofs.Accepted.{sizes_of, fitting, by_sizes, by_halves, then_places}
-use Rattle.places.proofs.Coordinates.{taken_count, taken_all}
+use Rattle.places.proofs.Coordinates.{worked_from, taken_all}
 use Rattle.places.proofs.judging.judge_places.Goals as goal
 use Rattle.places.proofs.judging.judge_places.Goals.{After-as_chunks, After-any_at_one_place, Else-any_beyond, In_ok-judge_lent}
 
@@ -32,25 +31,17 @@ near c = sym c.any_beyond.ensures ∙ c.if-any_beyond.false
 
 -- the zones that were taken are all of the places
 module _ (c : In_ok-judge_lent) where
-  abbrev zones : List (List ℤ)
-  zones = c.as_chunks.result.0.now
-
   places_fit : length c.args.places.now ≡ 2 * c.args.n
   places_fit = (fitting c.args.n (length c.args.places.now) c.args.room (sizes_good c)).places_fit
 
-  count : length zones ≡ c.args.n
-  count = taken_count zones c.args.places.now c.as_chunks.ensures.front c.args.n places_fit
-
-  all : coordinates zones ≡ c.args.places.now
-  all = taken_all zones c.args.places.now c.as_chunks.ensures.front c.args.n places_fit
+  all : coordinates c.as_chunks.result.0.now ≡ c.args.places.now
+  all = taken_all c.as_chunks.result.0.now c.args.places.now c.as_chunks.ensures.front c.args.n places_fit
 
 -- so what is answered of them is that of the places
 placed : (c : After-any_at_one_place) → c.any_at_one_place.result ≡ any_at_one_place c.args.n c.args.places.now
 placed c =
     let t = (goal.at.After-any_at_one_place c).In_ok-judge_lent in
-    c.any_at_one_place.ensures
-    ∙ ap (λ k. any_at_one_place k (coordinates c.as_chunks.result.0.now)) (count t)
-    ∙ ap (any_at_one_place c.args.n) (all t)
+    c.any_at_one_place.ensures ∙ worked_from _ _ _ (all t) (places_fit t) any_at_one_place
 
 pub returns-in_err-judge_lent-clause-number : goal.returns-in_err-judge_lent-clause-number
 returns-in_err-judge_lent-clause-number c =

@@ -1,11 +1,10 @@
 -- `squared_distance` meets its contract: each step is exact. Assumes nothing.
 use mathlib.Core.Path.{◌≡◌, sym, ap, ◌∙◌}
 use mathlib.Core.List.{List}
-use Prim.Native.Nat.{◌≤◌}
-use lib.IntN.{ℤ, nat_abs, ◌+ℤ◌, ◌-ℤ◌}
+use lib.IntN.{ℤ, ◌+ℤ◌, ◌-ℤ◌}
 use mir.Syntax.{w32, w64}
 use Rattle.whole.specs.Integer.{square}
-use Rattle.whole.proofs.Machine.{Is, val, told, rd, is_+, is__, is_*, fit, r32, r64}
+use Rattle.whole.proofs.Machine.{Is, told, rd, is_+, is__, is_*, fit, r32, r64}
 use Rattle.places.specs.Places.{across, up, squared_distance}
 use Rattle.places.specs.Steps.{coordinates}
 use Rattle.places.proofs.Coordinates.{across_is, up_is}
@@ -14,10 +13,8 @@ use Rattle.places.proofs.distances.ZonePlaces.squared_distance.Goals as goal
 use Rattle.places.proofs.distances.ZonePlaces.squared_distance.Goals.{After-from-4}
 
 -- a coordinate that was read
-coordinate : (z held x : ℤ) → z ≡ held → nat_abs z ≤ 30000 → x ≡ r32 held → Is (r64 x) z 30000
-coordinate z held x is near e =
-    let k = rd w32 (val z 30000 near) tt in
-    rd w64 (told z 30000 (e ∙ ap r32 (sym is) ∙ k.same) k.size) tt
+coordinate : (z held x : ℤ) → z ≡ held → Is z z 30000 → x ≡ r32 held → Is (r64 x) z 30000
+coordinate z held x is near e = rd w64 (told z 30000 (e ∙ ap r32 (sym is) ∙ (rd w32 near tt).same) near.size) tt
 
 -- the square of the difference of two
 squared : {x y a b : ℤ} → Is x a 30000 → Is y b 30000 → Is (square (r64 (x -ℤ y))) (square (a -ℤ b)) 3600000000
