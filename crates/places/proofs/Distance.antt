@@ -40,7 +40,8 @@ module _ (zones : List (List ℤ)) (near : any_beyond 30000 (coordinates zones) 
         (is_+ (is_* x x) (is_* y y)).size
 
     -- where y was told to be it, it is what is read of y
-    pub distance_read : (y : ℤ) → y ≡ squared_distance (coordinates zones) a b → Is (r64 y) (squared_distance (coordinates zones) a b) 7200000000
+    pub distance_read :
+        (y : ℤ) → y ≡ squared_distance (coordinates zones) a b → Is (r64 y) (squared_distance (coordinates zones) a b) 7200000000
     distance_read y e = rd w64 (told (squared_distance (coordinates zones) a b) 7200000000 e distance_size) tt
 
 -- ---- both ways

@@ -28,7 +28,8 @@ unfolding band_refusal bands_left
 returns-in_err-judge_bands c =
     let r = c.from_residual-in_err-judge_bands in
     let p = err_from_is_err_and r.result r.ensures.1 in
-    let e = by_rest _ _ _ (last ((goal.at.returns-in_err-judge_bands c).Start)) _ (sym c.in_ok-zones.ensures.number) c.in_err-judge_bands.ensures in
+    let rule = last ((goal.at.returns-in_err-judge_bands c).Start) in
+    let e = by_rest _ _ _ rule _ (sym c.in_ok-zones.ensures.number) c.in_err-judge_bands.ensures in
     rw (p.1, p.2) (record { number = e; lent = sym (left_by _ _ _ _ e) })
 
 -- nothing is refused, and the zones whose pairs are classed are those of the places

@@ -34,4 +34,5 @@ returns-then-contains c = c.if-contains.true ∙ (rw c.if-contains.true at (foun
 pub returns-else-contains : goal.returns-else-contains
 returns-else-contains c =
     let k = c.is_sorted_by.ensures.cases (λ x y. ltb x y) (answers_always _ _ _ (λ f a r f' k. search (rules, tests))) in
-    not_rising c.args.bands.now c.is_sorted_by.result k ∙ (rw c.if-contains.false at (found ((goal.at.returns-else-contains c).After-contains)))
+    not_rising c.args.bands.now c.is_sorted_by.result k
+    ∙ (rw c.if-contains.false at (found ((goal.at.returns-else-contains c).After-contains)))
