@@ -1,36 +1,50 @@
 -- Laws of the class of a squared distance and of a pair of zones. Assumes nothing.
 use mathlib.Core.Path.{◌≡◌, refl, sym, ap, ◌∙◌}
-use mathlib.Core.Bool.{Bool, true, false, cond}
+use mathlib.Core.Bool.{Bool, true, false, not, cond}
 use mathlib.Core.List.{List}
-use Prim.Native.Nat.{ℕ, suc, ◌+◌, ◌≤◌, ◌<◌, zero-le}
-use native.Mathlib.Numerals.{add-one}
+use Prim.Native.Nat.{ℕ, suc, ◌+◌, ◌≤◌, zero-le}
+use native.Mathlib.Numerals.{add-one, one-add}
 use native.Mathlib.Decide.{ℕ_discrete}
-use native.Mathlib.Omega.{arith}
-use borrow.Author.Tests.{lt-ltb, le-ltb, eq-eqb, ne_eqb, ltb-true}
+use borrow.Author.Tests.{eq-eqb, ne_eqb, ltb-true}
 use lib.Dec.{ltb, eqb}
-use lib.IntN.{ℤ}
+use lib.IntN.{ℤ, pos}
 use lib.ListN.{length}
-use Rattle.whole.specs.Search.{some, first}
-use Rattle.whole.proofs.Counting.{first_is, none_first}
-use Rattle.places.specs.Bands.{within_band, class_of_band, band_class, pair_class}
+use lib.Signed.{lt_z}
+use Rattle.std.proofs.Common.{Option, Some, None}
+use Rattle.std.specs.List.{position, position_or_len}
+use Rattle.std.specs.Option.{MatchOption}
+use Rattle.std.proofs.lemmas.List.Recursion.{is_position_or_len}
+use Rattle.whole.specs.Search.{first}
+use Rattle.places.specs.Bands.{band_at, within_band, class_of_band, band_class, pair_class}
 
 -- ---- of a squared distance
-module _ (bands : List ℕ) (distance : ℤ) where
-  -- band k is the first that the distance does not exceed
-  pub class_found :
-      (k : ℕ) → k < length bands → some (within_band bands distance) k ≡ false → within_band bands distance k ≡ true →
-      k + 1 ≡ band_class bands distance
-  unfolding band_class
-  class_found k h p e =
-      let here = first_is (within_band bands distance) (length bands) k h p e in
-      add-one k ∙ sym (ap (class_of_band bands) here ∙ rw (lt-ltb k (length bands) h) refl)
+module _ (distance : ℤ) where
+  -- whether it does not exceed a band
+  abbrev pub within : ℕ → Bool
+  within band = not (lt_z (pos band) distance)
 
-  -- the distance exceeds every band
-  pub class_none : (k : ℕ) → k ≡ length bands → some (within_band bands distance) k ≡ false → 0 ≡ band_class bands distance
-  unfolding band_class
-  class_none k l p =
-      let none = none_first (within_band bands distance) (length bands) (ap (some (within_band bands distance)) (sym l) ∙ p) in
-      sym (ap (class_of_band bands) none ∙ rw (le-ltb (length bands) (length bands) (omega arith)) refl)
+  -- the first such band, found by its number and found in the list
+  first_position : (bands : List ℕ) → first (λ k. within (band_at bands k)) (length bands) ≡ position_or_len within bands
+  unfolding first
+  first_position =
+      is_position_or_len (λ bands. first (λ k. within (band_at bands k)) (length bands)) within refl
+      (λ band bands. ap (cond (within band) 0) (sym (one-add (first (λ k. within (band_at bands k)) (length bands)))))
+
+module _ (bands : List ℕ) (distance : ℤ) where
+  -- its place gives the class
+  pub class_by_place :
+      (place : Option ℕ) (v : ℕ) → place ≡ position (within distance) bands → MatchOption place (v ≡ 0) (λ k. v ≡ k + 1) →
+      v ≡ band_class bands distance
+  unfolding band_class within_band
+  class_by_place place v e told =
+      go (ltb (position_or_len (within distance) bands) (length bands)) (rw e at told)
+      ∙ ap (class_of_band bands) (sym (first_position distance bands))
+    where
+      go :
+          let k = position_or_len (within distance) bands in
+          (b : Bool) → MatchOption (cond b (Some k) None) (v ≡ 0) (λ k. v ≡ k + 1) → v ≡ cond b (suc k) 0
+      go true h = h ∙ add-one _
+      go false h = h
 
   -- there is a class for each band and 0
   class_most : band_class bands distance ≤ length bands

@@ -1,23 +1,23 @@
 -- Laws of zones that are given each by its two coordinates, and of the list of the coordinates. Assumes nothing.
 use mathlib.Core.Path.{◌≡◌, refl, sym, ap, ◌∙◌, subst}
-use mathlib.Core.Bool.{true, false, ◌&&◌, and-true}
+use mathlib.Core.Bool.{true, ◌&&◌, and-true}
 use mathlib.Core.List.{List, [], ◌∷◌}
 use Prim.Native.Nat.{ℕ, zero, suc, ◌+◌, ◌*◌, ◌/◌, ◌≤◌, ◌<◌}
 use native.Mathlib.Omega.{arith}
 use lib.IntN.{ℤ}
-use lib.ListN.{length, get_or, take, drop}
+use lib.ListN.{length, get_or, take}
 use lib.Pointwise.{pointwise}
 use Rattle.std.specs.List.{list_any}
 use Rattle.std.specs.Ordering.{int_eq}
 use Rattle.std.specs.Simd.{first_chunks}
 use Rattle.std.proofs.lemmas.Bool.Decides.{same_from_decides, Decides-int_eq}
-use Rattle.whole.specs.Integer.{beyond, equal}
-use Rattle.whole.specs.Search.{some, any_beyond}
+use Rattle.whole.specs.Integer.{equal}
+use Rattle.whole.specs.Search.{some}
 use Rattle.whole.specs.Table.{at}
 use Rattle.whole.proofs.Compare.{equal_same, equal_true}
-use Rattle.whole.proofs.Search.{some_none, none_some, some_cong}
-use Rattle.places.specs.Places.{across, up, squared_distance, at_one_place}
-use Rattle.places.specs.Steps.{coordinates, squared_between}
+use Rattle.whole.proofs.Search.{some_cong}
+use Rattle.places.specs.Places.{across, up, at_one_place}
+use Rattle.places.specs.Steps.{coordinates}
 use Rattle.places.proofs.Any.{any_front}
 
 -- a zone of the list, and no zone past its end
@@ -41,15 +41,18 @@ up_is (zone ∷ zones) (suc a) =
     let e : 2 * suc a + 1 ≡ suc (suc (2 * a + 1)) = omega arith in
     rw e (up_is zones a)
 
-pub distance_is :
-    (zones : List (List ℤ)) (a b : ℕ) → squared_distance (coordinates zones) a b ≡ squared_between (zone_at zones a) (zone_at zones b)
-unfolding squared_distance squared_between
-distance_is zones a b = simp (across_is, up_is)
-
 pub coordinates_length : (zones : List (List ℤ)) → length (coordinates zones) ≡ 2 * length zones
 unfolding coordinates
 coordinates_length [] = refl
 coordinates_length (zone ∷ zones) = omega (arith, coordinates_length zones)
+
+-- where they are the places of n zones, the zones are n, and what is worked from them is worked from the places
+module _ (zones : List (List ℤ)) (places : List ℤ) (n : ℕ) (e : coordinates zones ≡ places) (fits : length places ≡ 2 * n) where
+  pub zones_count : length zones ≡ n
+  zones_count = omega (arith, coordinates_length zones, ap length e)
+
+  pub worked_from : {A : Type 0} (work : ℕ → List ℤ → A) → work (length zones) (coordinates zones) ≡ work n places
+  worked_from work = ap (λ k. work k (coordinates zones)) zones_count ∙ ap (work n) e
 
 -- ---- a list of coordinates taken two by two
 pub coordinates_taken : (k : ℕ) (places : List ℤ) → length places ≡ 2 * k → coordinates (first_chunks 2 k places) ≡ places
@@ -60,29 +63,12 @@ coordinates_taken (suc k) [] e = let z : ⊥ = omega arith in absurd z
 coordinates_taken (suc k) (x ∷ []) e = let z : ⊥ = omega arith in absurd z
 coordinates_taken (suc k) (x ∷ y ∷ places) e = ap (λ l. x ∷ y ∷ l) (coordinates_taken k places (omega arith))
 
--- ---- a zone has two coordinates, and where none of the list is beyond 30,000, none of a zone is
+-- ---- a zone is its two coordinates
 pub zone_whole : (zone : List ℤ) → length zone ≡ 2 → zone ≡ at zone 0 ∷ at zone 1 ∷ []
 zone_whole [] e = let z : ⊥ = omega arith in absurd z
 zone_whole (x ∷ []) e = let z : ⊥ = omega arith in absurd z
 zone_whole (x ∷ y ∷ []) e = refl
 zone_whole (x ∷ y ∷ z ∷ rest) e = let z : ⊥ = omega arith in absurd z
-
-pub zone_near :
-    (zones : List (List ℤ)) (a : ℕ) → any_beyond 30000 (coordinates zones) ≡ false → a < length zones →
-    length (zone_at zones a) ≡ 2 → any_beyond 30000 (zone_at zones a) ≡ false
-unfolding any_beyond across up
-zone_near zones a near h two =
-    let held : (k : ℕ) → k < length (coordinates zones) → beyond 30000 (at (coordinates zones) k) ≡ false =
-    λ k p. some_none (λ i. beyond 30000 (at (coordinates zones) i)) (length (coordinates zones)) k near p in
-    let l = coordinates_length zones in
-    none_some (λ i. beyond 30000 (at (zone_at zones a) i)) (length (zone_at zones a)) (λ k p. go k (omega (arith, two)) (held (2 * a) (omega arith)) (held (2 * a + 1) (omega arith)))
-  where
-    go :
-        (k : ℕ) → k < 2 → beyond 30000 (at (coordinates zones) (2 * a)) ≡ false → beyond 30000 (at (coordinates zones) (2 * a + 1)) ≡ false →
-        beyond 30000 (at (zone_at zones a) k) ≡ false
-    go zero p e f = ap (beyond 30000) (sym (across_is zones a)) ∙ e
-    go (suc zero) p e f = ap (beyond 30000) (sym (up_is zones a)) ∙ f
-    go (suc (suc k)) p e f = let z : ⊥ = omega arith in absurd z
 
 -- ---- the zones of a list of coordinates: each is its two coordinates
 abbrev pub Zones : List (List ℤ) → List ℤ → Type 0
@@ -90,10 +76,6 @@ Zones zones places = (a : ℕ) → a < length zones → zone_at zones a ≡ acro
 
 pub zones_given : (zones : List (List ℤ)) → ((a : ℕ) → a < length zones → length (zone_at zones a) ≡ 2) → Zones zones (coordinates zones)
 zones_given zones two a h = rw (across_is zones a, up_is zones a) (zone_whole (zone_at zones a) (two a h))
-
-pub zones_length : (k : ℕ) (places : List ℤ) → length (first_chunks 2 k places) ≡ k
-zones_length zero places = refl
-zones_length (suc k) places = ap suc (zones_length k (drop 2 places))
 
 pub zones_taken : (k : ℕ) (places : List ℤ) → 2 * k ≤ length places → Zones (first_chunks 2 k places) places
 unfolding across up
@@ -133,11 +115,7 @@ module _ (zones : List (List ℤ)) (places : List ℤ) (e : zones ≡ first_chun
   taken = subst (λ z. Zones z places) (sym e) (zones_taken (length places / 2) places (omega arith))
 
   -- of a list of the exact length they are all
-  module _ (n : ℕ) (fits : length places ≡ 2 * n) where
-    pub taken_count : length zones ≡ n
-    taken_count = ap length e ∙ zones_length (length places / 2) places ∙ omega arith
-
-    pub taken_all : coordinates zones ≡ places
-    taken_all =
-        let half : length places / 2 ≡ n = omega arith in
-        ap coordinates (e ∙ ap (λ k. first_chunks 2 k places) half) ∙ coordinates_taken n places fits
+  pub taken_all : (n : ℕ) → length places ≡ 2 * n → coordinates zones ≡ places
+  taken_all n fits =
+      let half : length places / 2 ≡ n = omega arith in
+      ap coordinates (e ∙ ap (λ k. first_chunks 2 k places) half) ∙ coordinates_taken n places fits

@@ -2,7 +2,7 @@
 use mathlib.Core.Path.{◌≡◌, ap, ◌∙◌}
 use mathlib.Core.Bool.{false}
 use mathlib.Core.List.{List}
-use Prim.Native.Nat.{ℕ, ◌≤◌, ◌<◌}
+use Prim.Native.Nat.{ℕ, ◌+◌, ◌*◌, ◌≤◌, ◌<◌}
 use native.Mathlib.Omega.{arith}
 use lib.IntN.{ℤ, nat_abs, ◌+ℤ◌, ◌-ℤ◌, pos}
 use lib.ListN.{length}
@@ -10,33 +10,39 @@ use mir.Syntax.{w64}
 use Rattle.whole.specs.Integer.{square}
 use Rattle.whole.specs.Search.{any_beyond}
 use Rattle.whole.proofs.Integer.{diff_of, diff_+, diff_*, diff_neg, diff_eq}
-use Rattle.whole.proofs.Machine.{Is, told, rd, r64}
+use Rattle.whole.proofs.Machine.{Is, val, told, rd, is_+, is__, is_*, r64}
 use Rattle.whole.proofs.Search.{none_beyond}
-use Rattle.whole.proofs.Size.{size_+_le, size___le, size_*_le, +_above, square_above}
-use Rattle.whole.specs.Table.{at}
+use Rattle.whole.proofs.Size.{+_above, square_above}
 use Rattle.places.specs.Places.{across, up, squared_distance}
-use Rattle.places.specs.Steps.{squared_between}
+use Rattle.places.specs.Steps.{coordinates}
+use Rattle.places.proofs.Coordinates.{coordinates_length}
 
--- ---- the size
+-- ---- the size, of zones none of whose coordinates is beyond 30,000
+module _ (zones : List (List ℤ)) (near : any_beyond 30000 (coordinates zones) ≡ false) where
+  pub across_near : (a : ℕ) → a < length zones → Is (across (coordinates zones) a) (across (coordinates zones) a) 30000
+  unfolding across
+  across_near a h =
+      let l = coordinates_length zones in
+      val (across (coordinates zones) a) 30000 (none_beyond 30000 (coordinates zones) near (2 * a) (omega arith))
 
--- of the squared difference of two coordinates
-difference_size : (x y : ℤ) → nat_abs x ≤ 30000 → nat_abs y ≤ 30000 → nat_abs (square (x -ℤ y)) ≤ 3600000000
-difference_size x y h k = let d = size___le x y 30000 30000 h k in size_*_le (x -ℤ y) (x -ℤ y) 60000 60000 d d
+  pub up_near : (a : ℕ) → a < length zones → Is (up (coordinates zones) a) (up (coordinates zones) a) 30000
+  unfolding up
+  up_near a h =
+      let l = coordinates_length zones in
+      val (up (coordinates zones) a) 30000 (none_beyond 30000 (coordinates zones) near (2 * a + 1) (omega arith))
 
--- of the squared distance of two zones, where no coordinate is beyond 30,000
-module _ (a b : List ℤ) (h : any_beyond 30000 a ≡ false) (k : any_beyond 30000 b ≡ false) (p : 1 < length a) (q : 1 < length b) where
-  between_size : nat_abs (squared_between a b) ≤ 7200000000
-  unfolding squared_between
-  between_size =
-      let of_a = none_beyond 30000 a h in
-      let of_b = none_beyond 30000 b k in
-      size_+_le (square (at a 0 -ℤ at b 0)) (square (at a 1 -ℤ at b 1)) 3600000000 3600000000
-      (difference_size (at a 0) (at b 0) (of_a 0 (omega arith)) (of_b 0 (omega arith)))
-      (difference_size (at a 1) (at b 1) (of_a 1 p) (of_b 1 q))
+  module _ (a b : ℕ) (h : a < length zones) (k : b < length zones) where
+    distance_size : nat_abs (squared_distance (coordinates zones) a b) ≤ 7200000000
+    unfolding squared_distance
+    distance_size =
+        let x = is__ (across_near a h) (across_near b k) in
+        let y = is__ (up_near a h) (up_near b k) in
+        (is_+ (is_* x x) (is_* y y)).size
 
-  -- where y was told to be it, it is what is read of y
-  pub between_read : (y : ℤ) → y ≡ squared_between a b → Is (r64 y) (squared_between a b) 7200000000
-  between_read y e = rd w64 (told (squared_between a b) 7200000000 e between_size) tt
+    -- where y was told to be it, it is what is read of y
+    pub distance_read :
+        (y : ℤ) → y ≡ squared_distance (coordinates zones) a b → Is (r64 y) (squared_distance (coordinates zones) a b) 7200000000
+    distance_read y e = rd w64 (told (squared_distance (coordinates zones) a b) 7200000000 e distance_size) tt
 
 -- ---- both ways
 

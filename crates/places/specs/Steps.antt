@@ -1,13 +1,8 @@
 -- What the private functions ask of each other; no part of the public promise. Assumes nothing.
-use Rattle.std.specs.Prelude.{List, [], ◌∷◌, ℤ, ◌+ℤ◌, ◌-ℤ◌}
-use Rattle.whole.specs.Integer.{square}
+use Rattle.std.specs.Prelude.{List, [], ◌∷◌, ℤ}
 use Rattle.whole.specs.Table.{at}
 
 -- zones that are given each by its two coordinates, and the list of the coordinates
 unfoldable pub coordinates : List (List ℤ) → List ℤ
 coordinates [] = []
 coordinates (zone ∷ zones) = at zone 0 ∷ at zone 1 ∷ coordinates zones
-
--- the squared distance of two such zones
-unfoldable pub squared_between : List ℤ → List ℤ → ℤ
-squared_between a b = square (at a 0 -ℤ at b 0) +ℤ square (at a 1 -ℤ at b 1)

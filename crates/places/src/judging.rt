@@ -1,29 +1,30 @@
 // The judges: each answers the refusal of the first broken rule, and stores nothing.
-ghost use Rattle.std.specs.Prelude.{◌≡◌, [], ◌∷◌, ◌+◌, ◌*◌, ◌<◌, ◌≤◌, length};
+ghost use Rattle.std.specs.Prelude.{◌≡◌, [], ◌∷◌, length, IfOk};
 ghost use Rattle.whole.specs.Rules.{first_broken};
 ghost use Rattle.refusals.specs.Refusals.{number_of};
 ghost use Rattle.places.specs.Places.{any_at_one_place, call_rules, places_in_turn};
 ghost use Rattle.places.specs.Steps.{coordinates};
-ghost use Rattle.places.specs.Bands.{any_misplaced, bands_broken, band_refusal};
+ghost use Rattle.places.specs.Bands.{any_misplaced, bands_broken};
 
+use crate::distances::ZonePlaces;
 use judges::Places;
 use refusals::Refusal;
 
 // Whether two of the zones are at one place.
-pub(super) fn any_at_one_place(zones: &[[i32; 2]]) -> bool
+fn any_at_one_place(zones: &[[i32; 2]]) -> bool
     ensures { result ≡ any_at_one_place (length zones.now) (coordinates zones.now) }
 {
-    for (a, zone) in zones.iter().enumerate() {
-        if zones[..a].contains(zone) {
-            return true;
-        }
-    }
-    false
+    zones
+        .iter()
+        .enumerate()
+        .any(|(a, zone)| zones[..a].contains(zone))
 }
 
-// 1, 2, 10 and 11: the Gabriel network's refusal. What the lent entries hold is not judged, so their number is all that is asked for.
-pub(super) fn judge_places(n: usize, places: &[i32], room: usize) -> Result<(), Refusal>
-    ensures { number_of result ≡ first_broken (call_rules n places.now room []) }
+// 1, 2, 10 and 11: the zones of the places, or the Gabriel network's refusal. What the lent entries hold is not judged, so their number is
+// all that is asked for.
+pub(super) fn judge_places(n: usize, places: &[i32], room: usize) -> Result<ZonePlaces<'_>, Refusal>
+    ensures number { number_of result ≡ first_broken (call_rules n places.now room []) }
+    ensures zones { IfOk result (λ judged. coordinates judged.zones.now ≡ places.now) }
 {
     let (zones, odd) = places.as_chunks::<2>();
     judges::judge_lent(
@@ -40,7 +41,7 @@ pub(super) fn judge_places(n: usize, places: &[i32], room: usize) -> Result<(), 
     if any_at_one_place(zones) {
         return Err(Refusal::Place);
     }
-    Ok(())
+    Ok(ZonePlaces { zones })
 }
 
 // 10 and 11 zone by zone: at each its coordinates, then the earlier places.
@@ -68,7 +69,7 @@ pub fn any_misplaced(bands: &[u32]) -> bool
 
 // Whether the bands break rule 12.
 #[tactic(auto, unfolding(crate::specs::Bands::bands_broken))]
-pub(super) fn bands_broken(bands: &[u32]) -> bool
+fn bands_broken(bands: &[u32]) -> bool
     ensures { result ≡ bands_broken bands.now }
 {
     match bands.len() {
@@ -77,16 +78,10 @@ pub(super) fn bands_broken(bands: &[u32]) -> bool
     }
 }
 
-// 1, 2, 10, 11, then 12: the bands' refusal.
-pub(super) fn judge_bands(
-    n: usize,
-    places: &[i32],
-    bands: &[u32],
-    room: usize,
-) -> Result<(), Refusal>
-    ensures { number_of result ≡ band_refusal n places.now bands.now room }
+// 12: the refusal of the bands by themselves.
+pub(super) fn judge_bands(bands: &[u32]) -> Result<(), Refusal>
+    ensures { number_of result ≡ first_broken ((bands_broken bands.now, 12) ∷ []) }
 {
-    judge_places(n, places, room)?;
     if bands_broken(bands) {
         return Err(Refusal::Bands);
     }

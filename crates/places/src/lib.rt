@@ -6,12 +6,12 @@ mod distances;
 mod joining;
 mod judging;
 
-// What the reader and the writer of the job image judge by too.
 ghost use Rattle.std.specs.Prelude.{◌≡◌, length};
 ghost use Rattle.refusals.specs.Refusals.{number_of};
 ghost use Rattle.places.specs.Gabriel.{gabriel_refusal, gabriel_left};
 ghost use Rattle.places.specs.Bands.{band_refusal, bands_left};
 
+// What the reader and the writer of the job image judge by too.
 pub use judging::{any_misplaced, judge_in_turn};
 use refusals::Refusal;
 
@@ -21,9 +21,8 @@ pub fn gabriel(n: usize, places: &[i32], weights: &mut [u8]) -> Result<(), Refus
     ensures number { number_of result ≡ gabriel_refusal n places.now (length weights.old) }
     ensures lent { weights.new ≡ gabriel_left n places.now weights.old }
 {
-    judging::judge_places(n, places, weights.len())?;
-    let (zones, _) = places.as_chunks::<2>();
-    joining::join_pairs(zones, weights);
+    let zones = judging::judge_places(n, places, weights.len())?;
+    joining::join_pairs(&zones, weights);
     Ok(())
 }
 
@@ -33,8 +32,8 @@ pub fn bands(n: usize, places: &[i32], bands: &[u32], classes: &mut [u8]) -> Res
     ensures number { number_of result ≡ band_refusal n places.now bands.now (length classes.old) }
     ensures lent { classes.new ≡ bands_left n places.now bands.now classes.old }
 {
-    judging::judge_bands(n, places, bands, classes.len())?;
-    let (zones, _) = places.as_chunks::<2>();
-    banding::class_pairs(zones, bands, classes);
+    let zones = judging::judge_places(n, places, classes.len())?;
+    judging::judge_bands(bands)?;
+    banding::class_pairs(&zones, bands, classes);
     Ok(())
 }

@@ -1,44 +1,21 @@
--- `band_class` meets its contract. The loop's invariant: the distance exceeds every band passed. Assumes nothing.
-use mathlib.Core.Path.{◌≡◌, sym, ap, ◌∙◌}
-use mathlib.Core.List.{List}
-use Prim.Native.Nat.{ℕ, ◌<◌, ◌^◌}
-use native.Mathlib.Omega.{arith}
-use lib.IntN.{ℤ, pos}
-use lib.Signed.{le_z}
+-- `band_class` meets its contract: the place of the first band that the distance does not exceed, and the class by it. Assumes nothing.
+use mathlib.Core.Path.{◌≡◌, ap, ◌∙◌}
 use mir.Syntax.{w64}
 use mir.ValLaws.{to_z-of_z}
-use Rattle.whole.proofs.Compare.{at_most}
-use Rattle.whole.proofs.Machine.{rd, told, r64}
-use Rattle.whole.proofs.Search.{some_zero, some_more}
-use Rattle.places.specs.Bands.{band_at, within_band, band_class}
-use Rattle.places.proofs.Classes.{class_found, class_none}
+use Rattle.std.proofs.Common.{rules, tests}
+use Rattle.std.specs.List.{position}
+use Rattle.std.proofs.lemmas.Iterator.{YieldsList-from_slice}
+use Rattle.std.proofs.lemmas.Iterator.Search.{position_from_yields_List}
+use Rattle.whole.proofs.Machine.{r64}
+use Rattle.places.proofs.Classes.{within, class_by_place}
 use Rattle.places.proofs.banding.band_class.Goals as goal
+use Rattle.places.proofs.banding.band_class.Goals.{After-position}
 
--- the test of band k, as the code has it
-tested :
-    (bands : List ℕ) (d : ℤ) (k : ℕ) (band : ℤ) → band ≡ pos (band_at bands k) → band_at bands k < 2 ^ 32 →
-    within_band bands d k ≡ le_z d (r64 band)
-unfolding within_band
-tested bands d k band e h =
-    sym (ap (le_z d) (rd w64 (told (pos (band_at bands k)) 4294967295 e (omega arith)) tt).same ∙ at_most d (pos (band_at bands k)))
-
-pub loop-k-init : goal.loop-k-init
-loop-k-init c = some_zero _
-
-pub returns-then-distance-from : goal.returns-then-distance-from
-returns-then-distance-from c =
-    let d = r64 c.args.distance in
-    class_found c.args.bands.now d c.loop-k.k c.loop-k-test.true c.loop-k.invariant
-    (tested c.args.bands.now d c.loop-k.k _ c.from.ensures (omega arith) ∙ c.if-distance-from.true)
-    ∙ ap (band_class c.args.bands.now) (to_z-of_z w64 c.args.distance c.ranges.distance)
-
-pub loop-k-preserved : goal.loop-k-preserved
-loop-k-preserved c =
-    let d = r64 c.args.distance in
-    some_more _ c.loop-k.k c.loop-k.invariant
-    (tested c.args.bands.now d c.loop-k.k _ c.from.ensures (omega arith) ∙ c.if-distance-from.false)
+found : (c : After-position) → c.position.result ≡ position (within c.args.distance) c.args.bands.now
+found c =
+    position_from_yields_List (within (r64 c.args.distance)) _ _ _ c.position.ensures.ran (YieldsList-from_slice c.args.bands.now cc)
+    (λ x b q k. search (rules, tests))
+    ∙ ap (λ d. position (within d) c.args.bands.now) (to_z-of_z w64 c.args.distance c.ranges.distance)
 
 pub returns : goal.returns
-returns c =
-    class_none c.args.bands.now (r64 c.args.distance) c.loop-k.k (omega arith) c.loop-k.invariant
-    ∙ ap (band_class c.args.bands.now) (to_z-of_z w64 c.args.distance c.ranges.distance)
+returns c = class_by_place _ _ c.position.result _ (found ((goal.at.returns c).After-position)) (search rules)

@@ -7,4 +7,5 @@ use Rattle.places.proofs.banding.class_pairs.Given as goal
 
 abbrev pub invariant-loop-p : goal.invariant-loop-p
 invariant-loop-p l =
-    Filled (pair_class l.bands (squared_distance (coordinates l.zones))) (length l.zones) (length l.zones) 0 l.classes l.p
+    let zones = l.zones.zones.now in
+    Filled (pair_class l.bands (squared_distance (coordinates zones))) (length zones) (length zones) 0 l.classes l.p

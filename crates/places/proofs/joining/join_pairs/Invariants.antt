@@ -11,8 +11,8 @@ use Rattle.places.proofs.joining.join_pairs.Given as goal
 
 abbrev pub invariant-pair : goal.invariant-pair
 invariant-pair l =
-    let n = length l.zones in
-    Filled (gabriel_weight (squared_distance (coordinates l.zones)) n) n n 0 l.weights l.p
+    let n = length l.zones.zones.now in
+    Filled (gabriel_weight (squared_distance (coordinates l.zones.zones.now)) n) n n 0 l.weights l.p
 
 abbrev pub invariant-third : goal.invariant-third
-invariant-third l = some (third_in (squared_distance (coordinates l.zones)) l.a l.b) l.c ≡ false
+invariant-third l = some (third_in (squared_distance (coordinates l.zones.zones.now)) l.a l.b) l.c ≡ false

@@ -13,6 +13,7 @@ use Rattle.whole.proofs.Search.{none_some, some_found}
 use Rattle.places.specs.Bands.{any_empty_band, any_not_rising, any_misplaced}
 use Rattle.places.proofs.Any.{any_some}
 use Rattle.places.proofs.judging.any_misplaced.Goals as goal
+use Rattle.places.proofs.judging.any_misplaced.Goals.{After-contains}
 
 -- the bands rise strictly, or not
 not_rising : (bands : List ℕ) (r : Bool) → IsAllAdjacentAnswer (λ x y b. b ≡ ltb x y) bands r → not r ≡ any_not_rising bands
@@ -21,21 +22,17 @@ not_rising bands true h = sym (none_some _ _ (λ k p. ap not (sym (h k 0 (omega 
 not_rising bands false h = some_found _ _ h.0 (omega (arith, h.1)) (ap not (sym (h.2 0)))
 
 -- a 0 is found, or not
-found : (bands : List ℕ) (r : Bool) → r ≡ any_empty_band bands → (r || any_not_rising bands) ≡ any_misplaced bands
-unfolding any_misplaced
-found bands r e = ap (λ t. t || any_not_rising bands) e
+found : (c : After-contains) → (c.contains.result || any_not_rising c.args.bands.now) ≡ any_misplaced c.args.bands.now
+unfolding any_misplaced any_empty_band
+found c =
+    let bands = c.args.bands.now in
+    ap (λ t. t || any_not_rising bands) (c.contains.ensures.value ∙ any_some (λ y. eqb y 0) bands 0)
 
 pub returns-then-contains : goal.returns-then-contains
-unfolding any_empty_band
-returns-then-contains c =
-    let bands = c.args.bands.now in
-    let e = found bands c.contains.result (c.contains.ensures.value ∙ any_some (λ y. eqb y 0) bands 0) in
-    c.if-contains.true ∙ (rw c.if-contains.true at e)
+returns-then-contains c = c.if-contains.true ∙ (rw c.if-contains.true at (found ((goal.at.returns-then-contains c).After-contains)))
 
 pub returns-else-contains : goal.returns-else-contains
-unfolding any_empty_band
 returns-else-contains c =
-    let bands = c.args.bands.now in
-    let e = found bands c.contains.result (c.contains.ensures.value ∙ any_some (λ y. eqb y 0) bands 0) in
     let k = c.is_sorted_by.ensures.cases (λ x y. ltb x y) (answers_always _ _ _ (λ f a r f' k. search (rules, tests))) in
-    not_rising bands c.is_sorted_by.result k ∙ (rw c.if-contains.false at e)
+    not_rising c.args.bands.now c.is_sorted_by.result k
+    ∙ (rw c.if-contains.false at (found ((goal.at.returns-else-contains c).After-contains)))

@@ -43,7 +43,9 @@ module _ (c : In-loop-a) where
   inside : c.loop-a.a < length places / 2
   inside = omega (arith, c.as_chunks.ensures.front_len)
 
-beyond_is : (c : After-any_beyond) → c.any_beyond.result ≡ any_beyond 30000 (across c.args.places.now c.loop-a.a ∷ up c.args.places.now c.loop-a.a ∷ [])
+beyond_is :
+    (c : After-any_beyond) →
+    c.any_beyond.result ≡ any_beyond 30000 (across c.args.places.now c.loop-a.a ∷ up c.args.places.now c.loop-a.a ∷ [])
 beyond_is c = c.any_beyond.ensures ∙ ap (any_beyond 30000) (read ((goal.at.After-any_beyond c).In-loop-a) c.loop-a.a (omega arith))
 
 earlier : (c : After-contains) → c.contains.result ≡ some (at_one_place c.args.places.now c.loop-a.a) c.loop-a.a
@@ -65,7 +67,8 @@ unfolding places_in_turn
 returns-then-contains c =
     let t = goal.at.returns-then-contains c in
     turn_found (place_rules_of _) (numbered _) _ c.loop-a.a 11 (inside t.In-loop-a) c.loop-a.invariant
-    (met _ _ (sym (beyond_is t.After-any_beyond) ∙ c.if-any_beyond.false) (sym (earlier t.After-contains) ∙ c.if-contains.true)) (λ z. omega arith)
+    (met _ _ (sym (beyond_is t.After-any_beyond) ∙ c.if-any_beyond.false) (sym (earlier t.After-contains) ∙ c.if-contains.true))
+    (λ z. omega arith)
 
 pub loop-a-preserved : goal.loop-a-preserved
 loop-a-preserved c =

@@ -1,4 +1,4 @@
--- `judge_places` meets its contract: the sizes' number where there is one, else 10, 11 or none. Assumes nothing.
+-- `judge_places` meets its contract: the sizes' number where there is one, else 10, 11 or none, and then the zones. Assumes nothing.
 use mathlib.Core.Path.{◌≡◌, refl, sym, ap, ◌∙◌}
 use mathlib.Core.Bool.{false}
 use mathlib.Core.List.{[], ◌∷◌}
@@ -11,7 +11,7 @@ use Rattle.refusals.proofs.Refusals.{not_refused}
 use Rattle.places.specs.Places.{any_at_one_place, place_rules}
 use Rattle.places.specs.Steps.{coordinates}
 use Rattle.places.proofs.Accepted.{sizes_of, fitting, by_sizes, by_halves, then_places}
-use Rattle.places.proofs.Coordinates.{taken_count, taken_all}
+use Rattle.places.proofs.Coordinates.{worked_from, taken_all}
 use Rattle.places.proofs.judging.judge_places.Goals as goal
 use Rattle.places.proofs.judging.judge_places.Goals.{After-as_chunks, After-any_at_one_place, Else-any_beyond, In_ok-judge_lent}
 
@@ -29,39 +29,51 @@ sizes_good c = sym (c.in_ok-judge_lent.ensures ∙ sizes ((goal.at.In_ok-judge_l
 near : (c : Else-any_beyond) → any_beyond 30000 c.args.places.now ≡ false
 near c = sym c.any_beyond.ensures ∙ c.if-any_beyond.false
 
-pub returns-in_err-judge_lent : goal.returns-in_err-judge_lent
-returns-in_err-judge_lent c =
-    let p = err_from_is_err_and c.from_residual.result c.from_residual.ensures.1 in
-    let t = (goal.at.returns-in_err-judge_lent c).After-as_chunks in
-    rw (p.1, p.2) (by_sizes _ _ _ [] _ (c.in_err-judge_lent.ensures ∙ sizes t) (not_refused _))
+-- the zones that were taken are all of the places
+module _ (c : In_ok-judge_lent) where
+  places_fit : length c.args.places.now ≡ 2 * c.args.n
+  places_fit = (fitting c.args.n (length c.args.places.now) c.args.room (sizes_good c)).places_fit
 
-pub returns-then-any_beyond : goal.returns-then-any_beyond
-unfolding place_rules
-returns-then-any_beyond c =
-    let t = (goal.at.returns-then-any_beyond c).In_ok-judge_lent in
-    then_places _ _ _ [] _ (sizes_good t) (rw (sym c.any_beyond.ensures ∙ c.if-any_beyond.true) refl)
+  all : coordinates c.as_chunks.result.0.now ≡ c.args.places.now
+  all = taken_all c.as_chunks.result.0.now c.args.places.now c.as_chunks.ensures.front c.args.n places_fit
 
--- what is answered of the zones is that of the places
+-- so what is answered of them is that of the places
 placed : (c : After-any_at_one_place) → c.any_at_one_place.result ≡ any_at_one_place c.args.n c.args.places.now
 placed c =
-    let places = c.args.places.now in
-    let zones = c.as_chunks.result.0.now in
-    let fit = (fitting c.args.n (length places) c.args.room (sizes_good ((goal.at.After-any_at_one_place c).In_ok-judge_lent))).places_fit in
-    let front = c.as_chunks.ensures.front in
-    c.any_at_one_place.ensures
-    ∙ ap (λ k. any_at_one_place k (coordinates zones)) (taken_count zones places front c.args.n fit)
-    ∙ ap (any_at_one_place c.args.n) (taken_all zones places front c.args.n fit)
+    let t = (goal.at.After-any_at_one_place c).In_ok-judge_lent in
+    c.any_at_one_place.ensures ∙ worked_from _ _ _ (all t) (places_fit t) any_at_one_place
 
-pub returns-then-any_at_one_place : goal.returns-then-any_at_one_place
+pub returns-in_err-judge_lent-clause-number : goal.returns-in_err-judge_lent-clause-number
+returns-in_err-judge_lent-clause-number c =
+    let p = err_from_is_err_and c.from_residual.result c.from_residual.ensures.1 in
+    let t = (goal.at.returns-in_err-judge_lent-clause-number c).After-as_chunks in
+    rw (p.1, p.2) (by_sizes _ _ _ [] _ (c.in_err-judge_lent.ensures ∙ sizes t) (not_refused _))
+
+pub returns-then-any_beyond-clause-number : goal.returns-then-any_beyond-clause-number
 unfolding place_rules
-returns-then-any_at_one_place c =
-    let t = goal.at.returns-then-any_at_one_place c in
+returns-then-any_beyond-clause-number c =
+    let t = (goal.at.returns-then-any_beyond-clause-number c).In_ok-judge_lent in
+    then_places _ _ _ [] _ (sizes_good t) (rw (sym c.any_beyond.ensures ∙ c.if-any_beyond.true) refl)
+
+pub returns-then-any_at_one_place-clause-number : goal.returns-then-any_at_one_place-clause-number
+unfolding place_rules
+returns-then-any_at_one_place-clause-number c =
+    let t = goal.at.returns-then-any_at_one_place-clause-number c in
     then_places _ _ _ [] _ (sizes_good t.In_ok-judge_lent)
     (rw (near t.Else-any_beyond, sym (placed t.After-any_at_one_place) ∙ c.if-any_at_one_place.true) refl)
+
+pub invariant_of-result : goal.invariant_of-result
+invariant_of-result c =
+    let t = goal.at.invariant_of-result c in
+    record { near = ap (any_beyond 30000) (all t.In_ok-judge_lent) ∙ near t.Else-any_beyond }
 
 pub returns : goal.returns
 unfolding place_rules
 returns c =
     let t = goal.at.returns c in
-    then_places _ _ _ [] _ (sizes_good t.In_ok-judge_lent)
-    (rw (near t.Else-any_beyond, sym (placed t.After-any_at_one_place) ∙ c.if-any_at_one_place.false) refl)
+    record {
+      number =
+          then_places _ _ _ [] _ (sizes_good t.In_ok-judge_lent)
+          (rw (near t.Else-any_beyond, sym (placed t.After-any_at_one_place) ∙ c.if-any_at_one_place.false) refl);
+      zones = all t.In_ok-judge_lent;
+    }
