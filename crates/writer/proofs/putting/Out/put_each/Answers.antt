@@ -1,8 +1,7 @@
 -- `put_each` meets its contract. The loop's invariant: the bytes of the numbers passed are put. Assumes nothing.
-use mathlib.Core.Path.{ap}
 use native.Mathlib.Omega.{arith}
 use Rattle.whole.specs.Table.{each}
-use Rattle.whole.proofs.Stores.{each_none, front_all}
+use Rattle.whole.proofs.Stores.{each_none}
 use Rattle.writer.proofs.Behind.{puts_none, puts_next, puts_room, one_more, within}
 use Rattle.writer.proofs.putting.Out.put_each.Goals as goal
 
@@ -25,8 +24,3 @@ loop-number-preserved g c =
     let x = c.number-item in
     let more = one_more bytes c.args.numbers.now l.number-index c.loop-number-test.true x.result x.is in
     (omega arith, puts_next (bytes x.result) l.invariant.1 c.put.ensures more)
-
-pub returns : goal.returns
-returns g c =
-    let l = c.loop-number in
-    rw (← ap (each g.N.Number.bytes) (front_all c.args.numbers.now l.number-index (omega arith))) l.invariant.1
