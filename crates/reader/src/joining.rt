@@ -23,7 +23,7 @@ fn judge_join(zones: Zones, next: usize, from: usize, to: usize, weight: u8) -> 
     if from * n + to < next {
         return Err(Refusal::Joins);
     }
-    if weight < 1 || weight > 9 {
+    if !(1..=9).contains(&weight) {
         return Err(Refusal::Weight);
     }
     Ok(())

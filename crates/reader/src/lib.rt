@@ -15,7 +15,7 @@ ghost use Rattle.reader.specs.Answers.{counts_of};
 
 use refusals::Refusal;
 
-// How many there are of each in an image.
+// How many there are of each in an image. It is not image::Given with the joins beside it, since these are the six in the image's order.
 #[derive(Clone, Copy)]
 pub struct Counts {
     pub values: usize,

@@ -11,7 +11,7 @@ use crate::joining;
 use crate::zones::Zones;
 use refusals::Refusal;
 
-// A section: the count of its items, and their bytes.
+// A section: the count of its items, and their bytes. The bytes alone would not tell the count: the size of a shuffle is n, and no type's.
 #[derive(Clone, Copy)]
 pub(super) struct Section<'a> {
     pub(super) count: usize,
@@ -93,6 +93,8 @@ fn judge_bands(count: usize, items: &[u8]) -> Result<(), Refusal>
         Ok(())
     }
 }
+
+// The six have one shape. One function for all would be handed two judges, whose rules each of its calls would have to name: no plainer.
 
 // The values, whose section is the first.
 #[tactic(auto, using(std::proofs::lemmas::Grind::common_steps, crate::proofs::Items::values_held), unfolding(image::specs::Image::in_values))]

@@ -7,7 +7,7 @@ ghost use Rattle.reader.specs.Steps.{Fitting, job_in};
 use crate::joining;
 use crate::judging::Sections;
 
-// The whole job.
+// The whole job. The six lists come as C lends them: a struct of six `&mut` would be made by the caller only to be taken apart here.
 pub(super) fn store(
     job: &Sections,
     values: &mut [i32],

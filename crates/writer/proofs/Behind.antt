@@ -1,13 +1,15 @@
--- Bytes put behind each other from a place on: what is stored, and the place behind it. Assumes nothing.
-use mathlib.Core.Path.{◌≡◌, sym, ap, ◌∙◌}
+-- Bytes put behind each other into lent room: what is stored, and the place behind it. Assumes nothing.
+use mathlib.Core.Path.{◌≡◌, refl, sym, ap, ◌∙◌}
 use mathlib.Core.List.{List, [], ◌∷◌, ◌++◌, append_assoc, append-nil}
 use Prim.Native.Nat.{ℕ, ◌+◌, ◌-◌, ◌≤◌, ◌<◌}
 use native.Mathlib.Omega.{arith}
 use borrow.Rule.Slice.PartMut.{put_mid, Post-is}
 use lib.ListN.{length, get_or, take, drop, length-append, take-append-drop}
 use lib.Seq.{sets, sets-eq}
-use Rattle.whole.specs.Table.{each}
-use Rattle.whole.proofs.Stores.{Stored, stored_length, stored_none, stored_next, stored_all, front_next, each_both}
+use Rattle.whole.specs.Table.{each, over}
+use Rattle.writer.specs.Steps.{Room, Puts}
+use Rattle.writer.specs.declared.putting.Out.{Out}
+use Rattle.whole.proofs.Stores.{Stored, stored_length, stored_none, stored_next, stored_all, stored_over, front_next, each_both}
 
 -- bytes that are copied into a part of a list, just as long
 pub part_stored :
@@ -19,36 +21,35 @@ part_stored bytes list at room =
     ∙ sym (append_assoc (take at list) bytes (drop end list))
     ∙ sym (sets-eq bytes list at room)
 
--- `old` holds `bytes` from `at` on, and `place` is behind them
-pub record Behind (old : List ℕ) (at : ℕ) (bytes : List ℕ) (place : ℕ) (now : List ℕ) : Type 0 where
-  pub stored : Stored old at bytes now
-  pub place_is : place ≡ at + length bytes
+module _ {old : Out} where
+  stored : {bytes : List ℕ} {now : Out} → Puts old bytes now → Stored old.bytes.now old.at bytes now.bytes.now
+  stored p = record { same = p.after }
 
-module _ {old : List ℕ} {at : ℕ} where
   -- before the first byte
-  pub behind_none : (bytes : List ℕ) → bytes ≡ [] → Behind old at bytes at old
-  behind_none bytes e = record { stored = stored_none bytes e; place_is = omega (arith, ap length e) }
+  pub puts_none : (bytes : List ℕ) → bytes ≡ [] → Puts old bytes old
+  puts_none bytes e = record { same = refl; place = omega (arith, ap length e); after = stored_all bytes (stored_none [] refl) (sym e) }
 
   -- further bytes
-  pub behind_next :
-      {first both now next : List ℕ} {place after : ℕ} (second : List ℕ) → Behind old at first place now →
-      next ≡ sets now place second → after ≡ place + length second → both ≡ first ++ second → Behind old at both after next
-  behind_next {first} second b e f p = record {
-    stored = stored_next second b.stored e b.place_is p;
-    place_is = omega (arith, b.place_is, ap length p, length-append first second);
+  pub puts_next :
+      {first both : List ℕ} {now next : Out} (second : List ℕ) → Puts old first now → Puts now second next → both ≡ first ++ second →
+      Puts old both next
+  puts_next {first} second p q e = record {
+    same = q.same ∙ p.same;
+    place = omega (arith, p.place, q.place, ap length e, length-append first second);
+    after = (stored_next second (stored p) q.after p.place e).same;
   }
 
   -- there is room for them where there is room for all
-  pub behind_room :
-      {first now : List ℕ} {place : ℕ} (second all : List ℕ) → Behind old at first place now →
-      length first + length second ≤ length all → at + length all ≤ length old → place + length second ≤ length now
-  behind_room second all b h room = omega (arith, b.place_is, stored_length b.stored)
+  pub puts_room :
+      {first : List ℕ} {now : Out} (second all : List ℕ) → Puts old first now → length first + length second ≤ length all → Room old all →
+      Room now second
+  puts_room second all p h room = omega (arith, p.place, stored_length (stored p))
 
-  -- what was to be put
-  pub behind_all :
-      {bytes now : List ℕ} {place : ℕ} (all : List ℕ) → Behind old at bytes place now → bytes ≡ all →
-      (place ≡ at + length all) × (now ≡ sets old at all)
-  behind_all all b e = (omega (arith, b.place_is, ap length e), stored_all all b.stored e)
+  -- at the front of the room
+  pub puts_over :
+      {bytes : List ℕ} {now : Out} → Puts old bytes now → old.at ≡ 0 → length bytes ≤ length old.bytes.now →
+      now.bytes.now ≡ over bytes old.bytes.now
+  puts_over {bytes} p e h = stored_over (record { same = p.after ∙ ap (λ k. sets old.bytes.now k bytes) e }) h
 
 -- the bytes of items, up to one of them
 module _ {A : Type 0} (bytes : A → List ℕ) (items : List A) where

@@ -1,12 +1,13 @@
 -- What the private functions of the writer promise each other. Assumes nothing.
 use Rattle.std.specs.Prelude.{◌≡◌, false, List, [], ◌∷◌, ◌++◌, ℕ, zero, suc, ◌+◌, ◌*◌, ◌≤◌, length}
+use Rattle.std.proofs.lemmas.List.Edits.{sets}
 use Rattle.whole.specs.Rules.{Rule, first_broken, misfits, size_rules}
 use Rattle.account.specs.Refusals.{sum_rules}
 use Rattle.image.specs.Joins.{joins_of}
-use Rattle.image.specs.Image.{job_bytes}
 use Rattle.image.specs.Reader.{Buffers, buffer_lengths}
 use Rattle.image.specs.Writer.{lent_job, part_rules}
 use Rattle.image.specs.declared.Given.{Given}
+use Rattle.writer.specs.declared.putting.Out.{Out}
 
 -- n zones, and buffers of their exact lengths
 pub record Sized (given : Given) (lent : Buffers) : Type 0 where
@@ -27,6 +28,16 @@ pub record Tabled (weights : List ℕ) (n : ℕ) : Type 0 where
   pub zones : n ≤ 64
   pub there : length weights ≡ n * n
 
+-- there is room for bytes behind what is put
+abbrev pub Room : Out → List ℕ → Type 0
+Room out bytes = out.at + length bytes ≤ length out.bytes.now
+
+-- they are put there: the room is the same, with its place behind them
+pub record Puts (old : Out) (bytes : List ℕ) (new : Out) : Type 0 where
+  pub same : new.bytes.ghost_name ≡ old.bytes.ghost_name
+  pub place : new.at ≡ old.at + length bytes
+  pub after : new.bytes.now ≡ sets old.bytes.now old.at bytes
+
 -- the bytes of a number of one byte
 abbrev pub one_byte : ℕ → List ℕ
 one_byte x = x ∷ []
@@ -36,11 +47,10 @@ abbrev pub bytes_of : ℕ → ℕ → ℕ → List ℕ
 bytes_of from to zero = []
 bytes_of from to (suc w) = from ∷ to ∷ suc w ∷ []
 
--- a job that is written: it breaks no rule, its joins are k, and there is room for its bytes
-pub record Storable (given : Given) (lent : Buffers) (k room : ℕ) : Type 0 where
+-- a job that is written: it breaks no rule, and its joins are k
+pub record Storable (given : Given) (lent : Buffers) (k : ℕ) : Type 0 where
   pub sound : first_broken (part_rules given (lent_job given lent)) ≡ 0
   pub counted : k ≡ length (joins_of given.values (lent_job given lent).weights)
-  pub fits : length (job_bytes given (lent_job given lent)) ≤ room
 
 -- counts that are within their limits
 pub record Counted (given : Given) (joins : ℕ) : Type 0 where

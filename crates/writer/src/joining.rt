@@ -1,14 +1,14 @@
 // The weights of a job and the joins that they are: their judge, how many there are, and their bytes.
-ghost use Rattle.std.specs.Prelude.{◌≡◌, ℕ, ◌+◌, ◌*◌, ◌/◌, ◌%◌, ◌≤◌, ◌<◌, length};
-ghost use Rattle.std.proofs.lemmas.List.Edits.{sets};
+ghost use Rattle.std.specs.Prelude.{◌≡◌, ℕ, ◌*◌, ◌<◌, length};
 ghost use Rattle.whole.specs.Rules.{first_broken, in_turn};
 ghost use Rattle.whole.specs.Table.{each};
 ghost use Rattle.refusals.specs.Refusals.{number_of};
 ghost use Rattle.image.specs.Joins.{joins_of, weight_rules};
 ghost use Rattle.image.specs.Image.{join_bytes};
-ghost use Rattle.writer.specs.Steps.{bytes_of};
+ghost use Rattle.writer.specs.Steps.{Room, Puts, bytes_of};
 
 use crate::lists::Table;
+use crate::putting::Out;
 use refusals::Refusal;
 
 // The first number of a table of weights, row by row: 5 before 4 at each weight.
@@ -35,37 +35,29 @@ pub(super) fn count_joins(weights: &[u8]) -> usize
     weights.iter().filter(|weight| **weight > 0).count()
 }
 
-// The bytes of the join of a weight above 0; answers the place after them.
-fn put_join(out: &mut [u8], at: usize, from: usize, to: usize, weight: u8) -> usize
-    requires weight_in_bounds { at + length (bytes_of from to weight) ≤ length out.old }
+// The bytes of the join of a weight above 0.
+fn put_join(out: &mut Out, from: usize, to: usize, weight: u8)
+    requires room { Room out.old (bytes_of from to weight) }
     requires from_bound { from < 256 }
     requires to_bound { to < 256 }
-    ensures value { result ≡ at + length (bytes_of from to weight) }
-    ensures out_after { out.new ≡ sets out.old at (bytes_of from to weight) }
+    ensures { Puts out.old (bytes_of from to weight) out.new }
 {
-    if weight == 0 {
-        return at;
+    if weight > 0 {
+        // No From leads here from a usize; TryFrom and an unwrap is no plainer.
+        out.put_bytes(&[from as u8, to as u8, weight]);
     }
-    // No From leads here from a usize.
-    out[at] = from as u8;
-    out[at + 1] = to as u8;
-    out[at + 2] = weight;
-    at + 3
 }
 
-// The bytes of the joins of a table, row by row; answers the place after them.
-pub(super) fn put_joins(out: &mut [u8], at: usize, table: &Table) -> usize
-    requires { at + length (each join_bytes (joins_of table.now.n table.now.weights.now)) ≤ length out.old }
-    ensures place { result ≡ at + length (each join_bytes (joins_of table.now.n table.now.weights.now)) }
-    ensures out_after { out.new ≡ sets out.old at (each join_bytes (joins_of table.now.n table.now.weights.now)) }
+// The bytes of the joins of a table, row by row.
+pub(super) fn put_joins(out: &mut Out, table: &Table)
+    requires { Room out.old (each join_bytes (joins_of table.now.n table.now.weights.now)) }
+    ensures { Puts out.old (each join_bytes (joins_of table.now.n table.now.weights.now)) out.new }
 {
     let Table { n, weights } = *table;
-    let mut place = at;
     for from in 0..n {
         let row = &weights[from * n..from * n + n];
         for (to, weight) in row.iter().enumerate() {
-            place = put_join(out, place, from, to, *weight);
+            put_join(out, from, to, *weight);
         }
     }
-    place
 }

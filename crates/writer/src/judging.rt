@@ -12,7 +12,6 @@ ghost use Rattle.writer.specs.Steps.{judged_rules};
 use crate::joining;
 use crate::lists::{SizedLists, Table};
 use image::{Given, Lists};
-use judges::Places;
 use refusals::Refusal;
 
 // 3: the values.
@@ -103,16 +102,14 @@ fn judge_parts(job: &SizedLists) -> Result<(), Refusal>
 pub(super) fn judge(lists: Lists, given: Given) -> Result<(), Refusal>
     ensures { number_of result ≡ first_broken (judged_rules given (listed lists.entry)) }
 {
-    judges::judge_lent(
-        given.values,
-        &[
-            (lists.values.len(), Places::Fixed(64)),
-            (lists.categories.len(), Places::Fixed(64)),
-            (lists.weights.len(), Places::Fixed(4096)),
-            (lists.places.len(), Places::Fixed(128)),
-            (lists.bands.len(), Places::Fixed(8)),
-            (lists.shuffles.len(), Places::Fixed(31936)),
-        ],
+    image::judge_zone_count(given.values)?;
+    image::judge_lengths(
+        lists.values.len(),
+        lists.categories.len(),
+        lists.weights.len(),
+        lists.places.len(),
+        lists.bands.len(),
+        lists.shuffles.len(),
     )?;
     let job = SizedLists { given, lists };
     judge_parts(&job)?;

@@ -14,6 +14,7 @@ pub(super) struct SizedLists<'a> {
 }
 
 // The weights between 2 to 64 zones, a row of n for each zone.
+// kept and account have the like, private too; one for all would be a public struct that each caller must prove, which is no plainer.
 #[derive(Clone, Copy)]
 pub(super) struct Table<'a> {
     pub(super) n: usize,

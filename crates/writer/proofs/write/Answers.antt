@@ -93,9 +93,8 @@ pub store-requires : goal.store-requires
 unfolding lent_job
 store-requires c =
     let j = (goal.at.store-requires c).After-count_joins-joins in record {
-      sound = parts_sound j;
-      counted = (parts j).joins;
-      fits = omega (arith, measured ((goal.at.store-requires c).After-image_length-length), c.if-out-length.false);
+      storable = record { sound = parts_sound j; counted = (parts j).joins };
+      room = omega (arith, measured ((goal.at.store-requires c).After-image_length-length), c.if-out-length.false);
     }
 
 pub returns : goal.returns

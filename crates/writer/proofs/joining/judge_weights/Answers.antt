@@ -8,7 +8,7 @@ use borrow.Author.Tests.{lt-ltb, le-ltb, eq-eqb, ne_eqb}
 use lib.Dec.{ltb, eqb}
 use lib.ListN.{get_or}
 use Rattle.whole.specs.Rules.{first_broken}
-use Rattle.whole.proofs.InTurn.{turn_none, turn_next, turn_found, turn_done}
+use Rattle.whole.proofs.InTurn.{turn_none, turn_next, turn_found}
 use Rattle.whole.proofs.Rules.{second_fails}
 use Rattle.image.specs.Joins.{weight_rules}
 use Rattle.image.proofs.Weights.{weight_numbered}
@@ -77,6 +77,3 @@ loop-p-preserved c =
       turn_next (weight_rules n weights) (weight_numbered n weights) p c.loop-p.invariant.1
           (light n weights p clear c.if-weight-gt9.false),
     )
-
-pub returns : goal.returns
-returns c = turn_done (weight_rules _ _) (weight_numbered _ _) c.loop-p.p _ (omega arith) c.loop-p.invariant.1
