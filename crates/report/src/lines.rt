@@ -94,8 +94,7 @@ pub(super) fn put_zones(
 }
 
 // The entries above 0 of row r of the join table.
-fn put_table_row(page: &mut [u8], at: usize, table: &[i64], r: u8) -> usize
-    requires table_len { length table.now ≡ 64 }
+fn put_table_row(page: &mut [u8], at: usize, table: &[i64; 64], r: u8) -> usize
     requires r_bound { r < 8 }
     requires room { Room page.old at 768 }
     ensures { Put page.old page.new at result 768 (each (table_line table.now r) (numbered 8)) }
@@ -115,8 +114,7 @@ fn put_table_row(page: &mut [u8], at: usize, table: &[i64], r: u8) -> usize
 }
 
 // The entries above 0 of the join table, row by row.
-pub(super) fn put_table(page: &mut [u8], at: usize, table: &[i64]) -> usize
-    requires table_len { length table.now ≡ 64 }
+pub(super) fn put_table(page: &mut [u8], at: usize, table: &[i64; 64]) -> usize
     requires room { Room page.old at 6144 }
     ensures { Put page.old page.new at result 6144
         (each (λ r. each (table_line table.now r) (numbered 8)) (numbered 8)) }
@@ -132,11 +130,10 @@ pub(super) fn put_table(page: &mut [u8], at: usize, table: &[i64]) -> usize
 pub(super) fn put_rows(
     page: &mut [u8],
     at: usize,
-    rows: &[i64],
+    rows: &[i64; 27],
     pairs: [Pair; 9],
     last: usize,
 ) -> usize
-    requires rows_len { length rows.now ≡ 27 }
     requires readable_pairs { ReadablePairs pairs }
     requires last_bound { last ≤ 8 }
     requires room { Room page.old at (128 * suc last) }

@@ -87,8 +87,7 @@ fn put_pairs(page: &mut [u8], at: usize, n: usize, categories: &[u8], weights: &
 }
 
 // The class lines, which need bands, of which there are so many.
-fn put_classes(page: &mut [u8], at: usize, rows: &[i64], pairs: [Pair; 9], bands: usize) -> usize
-    requires rows_len { length rows.now ≡ 27 }
+fn put_classes(page: &mut [u8], at: usize, rows: &[i64; 27], pairs: [Pair; 9], bands: usize) -> usize
     requires readable_pairs { ReadablePairs pairs }
     requires bands_bound { bands ≤ 8 }
     requires room { Room page.old at 1152 }
