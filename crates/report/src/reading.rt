@@ -1,32 +1,22 @@
 // The text of an image: it is read, and its job's lines are put. A refused image leaves the page as it was.
 ghost use Rattle.std.specs.Prelude.{◌≡◌, length};
 ghost use Rattle.image.specs.Reader.{buffers};
-ghost use Rattle.image.specs.Writer.{lent_job};
+ghost use Rattle.image.specs.Writer.{listed, lent_job};
 ghost use Rattle.report.specs.Text.{job_text};
 ghost use Rattle.report.specs.Steps.{Put, Room, Exact, Held, given_of, Prints};
 
 use crate::working;
+use image::Lists;
 use reader::Counts;
 use refusals::Refusal;
 
 // The lines of the job in the buffers: the first entries of each, as many as the counts say.
 // Each layer says the page's room: no type carries it, for of a slice taken as arrays (`as_chunks_mut`) it is not known what it ends as.
-fn put_read(
-    page: &mut [u8],
-    counts: Counts,
-    values: &[i32],
-    categories: &[u8],
-    weights: &[u8],
-    places: &[i32],
-    bands: &[u32],
-    shuffles: &[u8],
-) -> usize
-    requires held { Held counts (buffers values.now categories.now weights.now places.now bands.now shuffles.now) }
+fn put_read(page: &mut [u8], counts: Counts, held: &Lists) -> usize
+    requires held { Held counts (listed held.now) }
     requires room { Room page.old 0 16128 }
     ensures { Put page.old page.new 0 result 16128
-        (job_text counts.values (lent_job (given_of counts)
-        (buffers values.now categories.now weights.now
-        places.now bands.now shuffles.now))) }
+        (job_text counts.values (lent_job (given_of counts) (listed held.now))) }
 {
     let n = counts.values;
     let pairs = n * n;
@@ -34,15 +24,15 @@ fn put_read(
     let in_places = 2 * counts.places;
     let in_bands = counts.bands;
     let in_shuffles = counts.shuffles * n;
-    working::put_job(
-        page,
-        &values[..n],
-        &categories[..in_categories],
-        &weights[..pairs],
-        &places[..in_places],
-        &bands[..in_bands],
-        &shuffles[..in_shuffles],
-    )
+    let lists = Lists {
+        values: &held.values[..n],
+        categories: &held.categories[..in_categories],
+        weights: &held.weights[..pairs],
+        places: &held.places[..in_places],
+        bands: &held.bands[..in_bands],
+        shuffles: &held.shuffles[..in_shuffles],
+    };
+    working::put_job(page, &lists)
 }
 
 // The text of an image, by way of buffers that the reader is lent.
@@ -61,9 +51,15 @@ fn put_text(
     ensures { Prints image.now page.old page.new result }
 {
     let counts = reader::read(image, values, categories, weights, places, bands, shuffles)?;
-    Ok(put_read(
-        page, counts, values, categories, weights, places, bands, shuffles,
-    ))
+    let held = Lists {
+        values,
+        categories,
+        weights,
+        places,
+        bands,
+        shuffles,
+    };
+    Ok(put_read(page, counts, &held))
 }
 
 // The text of an image at the front of a page.
