@@ -5,16 +5,14 @@ ghost use Rattle.image.specs.Writer.{listed, lent_job};
 ghost use Rattle.report.specs.Text.{job_text};
 ghost use Rattle.report.specs.Steps.{Put, Room, Exact, Held, given_of, Prints};
 
-use crate::working;
+use crate::{Page, working};
 use image::Lists;
 use reader::Counts;
 use refusals::Refusal;
 
 // The lines of the job in the buffers: the first entries of each, as many as the counts say.
-// Each layer says the page's room: no type carries it, for of a slice taken as arrays (`as_chunks_mut`) it is not known what it ends as.
-fn put_read(page: &mut [u8], counts: Counts, held: &Lists) -> usize
-    requires held { Held counts (listed held.now) }
-    requires room { Room page.old 0 16128 }
+fn put_read(page: &mut Page, counts: Counts, held: &Lists) -> usize
+    requires { Held counts (listed held.now) }
     ensures { Put page.old page.new 0 result 16128
         (job_text counts.values (lent_job (given_of counts) (listed held.now))) }
 {
@@ -35,9 +33,10 @@ fn put_read(page: &mut [u8], counts: Counts, held: &Lists) -> usize
     working::put_job(page, &lists)
 }
 
-// The text of an image, by way of buffers that the reader is lent.
+// The text of an image, by way of buffers that the reader is lent. They are six parameters, as the reader's are: `Lists` lends lists to be
+// read, and six to be written are handed on to one call alone.
 fn put_text(
-    page: &mut [u8],
+    page: &mut Page,
     image: &[u8],
     values: &mut [i32],
     categories: &mut [u8],
@@ -46,8 +45,7 @@ fn put_text(
     bands: &mut [u32],
     shuffles: &mut [u8],
 ) -> Result<usize, Refusal>
-    requires exact { Exact (buffers values.old categories.old weights.old places.old bands.old shuffles.old) }
-    requires room { Room page.old 0 16128 }
+    requires { Exact (buffers values.old categories.old weights.old places.old bands.old shuffles.old) }
     ensures { Prints image.now page.old page.new result }
 {
     let counts = reader::read(image, values, categories, weights, places, bands, shuffles)?;
@@ -63,8 +61,7 @@ fn put_text(
 }
 
 // The text of an image at the front of a page.
-pub(super) fn put_report(page: &mut [u8], image: &[u8]) -> Result<usize, Refusal>
-    requires { Room page.old 0 16128 }
+pub(super) fn put_report(page: &mut Page, image: &[u8]) -> Result<usize, Refusal>
     ensures { Prints image.now page.old page.new result }
 {
     let mut values: [i32; 64] = [0; 64];

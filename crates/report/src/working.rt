@@ -8,6 +8,7 @@ ghost use Rattle.report.specs.Text.{numbered, pair_lines, rank_line, where_given
 ghost use Rattle.report.specs.Steps.{Put, Room, Within, SoundJob, Joinable, Bandable, Classed};
 ghost use Rattle.report.specs.Steps.{sum_lines, ratio_lines, zone_line, row_line, job_in};
 
+use crate::Page;
 use crate::lines::{self, Zones};
 use crate::putting::{self, Line};
 use coefficients::{Pair, Whole};
@@ -39,11 +40,10 @@ fn put_hot_list(page: &mut [u8], at: usize, zones: &Zones, many: usize, spread: 
 }
 
 // The lines that every report has: those of the whole job, then those of its zones kept.
-fn put_account(page: &mut [u8], whole: Whole, zones: &Zones) -> usize
+fn put_account(page: &mut Page, whole: Whole, zones: &Zones) -> usize
     requires within { Within whole.sums }
     requires readable_pair { ReadablePair whole.pair }
     requires few { whole.sums.kept ≤ length zones.now.locals.now }
-    requires room { Room page.old 0 8736 }
     ensures { Put page.old page.new 0 result 8736
         ((sum_lines whole.sums ++ ratio_lines whole.sums whole.pair)
         ++ each (zone_line zones.now.locals.now zones.now.figures.now whole.sums.spread)
@@ -117,9 +117,8 @@ fn put_rank(page: &mut [u8], at: usize, values: &[i32], weights: &[u8], shuffles
 }
 
 // The lines of a job.
-pub(super) fn put_job(page: &mut [u8], lists: &Lists) -> usize
-    requires sound { SoundJob (length lists.now.values.now) (job_in lists.now) }
-    requires room { Room page.old 0 16128 }
+pub(super) fn put_job(page: &mut Page, lists: &Lists) -> usize
+    requires { SoundJob (length lists.now.values.now) (job_in lists.now) }
     ensures { Put page.old page.new 0 result 16128
         (job_text (length lists.now.values.now) (job_in lists.now)) }
 {

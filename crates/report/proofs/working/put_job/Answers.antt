@@ -53,7 +53,7 @@ module _ (c : After-plain_report) where
   classes = pairs_classed.class_pairs.new.classes
 
   sound : Sound n values weights
-  sound = start.requires.sound.weighted
+  sound = start.requires.weighted
 
   classed : Classed n job.places job.bands classes
   classed = pairs_classed.class_pairs.ensures
@@ -135,7 +135,7 @@ returns c =
     let first = put_as c.put_account-at_pairs.ensures (both_same lines zones) in
     let rows =
     counted_same bands
-    (class-rows-are (n b) (values b) (weights b) (classes b) _ (said u).of_classes _ bands (said u).in_rows c.requires.sound.few_bands) in
+    (class-rows-are (n b) (values b) (weights b) (classes b) _ (said u).of_classes _ bands (said u).in_rows c.requires.few_bands) in
     let third =
     put_as c.put_classes-at_rank.ensures
     (rows ∙ class_lines_are (n b) (values b) (weights b) j.places j.bands _ (classed b)) in
