@@ -23,12 +23,6 @@ use Rattle.pages.specs.Lines.{line, numbers, bits}
 use Rattle.report.specs.Lines.{coefficient}
 use Rattle.report.specs.Steps.{Within, sum_lines, ratio_lines, zone_line, table_line, row_line}
 
--- an item that is there, whatever stands for one that is not
-pub there : {A : Type 0} (l : List A) (k : ℕ) (d e : A) → k < length l → get_or l k d ≡ get_or l k e
-there [] k d e h = let z : ⊥ = omega arith in absurd z
-there (x ∷ l) zero d e h = refl
-there (x ∷ l) (suc k) d e h = there l k d e (omega arith)
-
 -- what a call has answered is read back from its bits as it is
 pub read_back : {answer meant : ℤ} → mag answer < 2 ^ 63 → answer ≡ meant → r64 answer ≡ meant
 read_back h e = to_z-of_z w64 _ (sfits_of h) ∙ e
