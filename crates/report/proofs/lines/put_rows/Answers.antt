@@ -18,7 +18,7 @@ use Rattle.report.proofs.lines.put_rows.Goals.{In-loop-k, After-put_pair_line-pl
 
 -- the pair of a turn is there
 known : (c : In-loop-k) → c.loop-k.k < length c.args.pairs
-known c = omega (arith, c.well_formed.1.1.1.0.1.0.1)
+known c = search rules
 
 -- the lines with that of the turn
 turn :
