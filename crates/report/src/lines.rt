@@ -1,5 +1,5 @@
 // The lines of a report, from what the calls answer.
-ghost use Rattle.std.specs.Prelude.{◌≡◌, suc, ◌*◌, ◌≤◌, ◌<◌, length};
+ghost use Rattle.std.specs.Prelude.{suc, ◌*◌, ◌≤◌, ◌<◌, length};
 ghost use Rattle.whole.specs.Table.{each};
 ghost use Rattle.report.specs.Text.{numbered};
 ghost use Rattle.report.specs.Steps.{Put, Room, Within, Zoned, Listed};

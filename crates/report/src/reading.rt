@@ -1,9 +1,8 @@
 // The text of an image: it is read, and its job's lines are put. A refused image leaves the page as it was.
-ghost use Rattle.std.specs.Prelude.{◌≡◌, length};
 ghost use Rattle.image.specs.Reader.{buffers};
 ghost use Rattle.image.specs.Writer.{listed, lent_job};
 ghost use Rattle.report.specs.Text.{job_text};
-ghost use Rattle.report.specs.Steps.{Put, Room, Exact, Held, given_of, Prints};
+ghost use Rattle.report.specs.Steps.{Put, Exact, Held, given_of, Prints};
 
 use crate::{Page, working};
 use image::Lists;

@@ -1,6 +1,6 @@
 // The calls on a job, and its lines from what they answer. No call refuses the job of an accepted image, so that each answer is unwrapped.
 ghost use Rattle.std.specs.Prelude.{◌≡◌, cond, [], ◌++◌, suc, ◌≤◌, eqb, length, take};
-ghost use Rattle.whole.specs.Table.{table, each};
+ghost use Rattle.whole.specs.Table.{each};
 ghost use Rattle.account.specs.Rank.{rank_refusal};
 ghost use Rattle.hot_list.specs.HotList.{in_order};
 ghost use Rattle.coefficients.specs.Steps.{ReadablePair, ReadablePairs};
