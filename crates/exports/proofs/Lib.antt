@@ -1,4 +1,3 @@
-pub mod Puts
 pub mod Numbers
 pub mod FloatAnswers
 pub mod PairList

@@ -40,7 +40,8 @@ pub extern "C" fn dca_bands(n: usize, places: &[i32], bands: &[u32], classes: &m
     refusals::number_of(places::bands(n, places, bands, classes))
 }
 
-// The network of a grid, (rows × columns) squared places in `weights`, by one function for each kind of move.
+// The network of a grid, (rows × columns) squared places in `weights`, by one function for each kind of move: the header fixes the three
+// names, and C hands over no `Move`.
 #[unsafe(no_mangle)]
 pub extern "C" fn dca_grid_rook(rows: usize, columns: usize, weights: &mut [u8]) -> u8
     ensures number { result ≡ grid_refusal rows columns (length weights.old) }

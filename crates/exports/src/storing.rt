@@ -20,7 +20,7 @@ pub(super) fn put_sums(account: Sums, sums: &mut [i64])
     requires sums_len { length sums.old ≡ 6 }
     ensures { sums.new ≡ listed account }
 {
-    // no From leads here from a usize
+    // no From leads here from a usize; TryFrom and an unwrap is no plainer
     let kept = account.kept as i64;
     sums.copy_from_slice(&[
         account.total,
@@ -37,7 +37,7 @@ pub(super) fn put_rank(rank: Counts, counts: &mut [u64])
     requires { length counts.old ≡ 3 }
     ensures { counts.new ≡ three rank }
 {
-    // no From leads here from a usize
+    // no From leads here from a usize; TryFrom and an unwrap is no plainer
     counts.copy_from_slice(&[rank.less as u64, rank.equal as u64, rank.greater as u64]);
 }
 
@@ -46,7 +46,7 @@ pub(super) fn put_counts(read: reader::Counts, counts: &mut [u64])
     requires { length counts.old ≡ 6 }
     ensures { counts.new ≡ six read }
 {
-    // no From leads here from a usize
+    // no From leads here from a usize; TryFrom and an unwrap is no plainer
     counts.copy_from_slice(&[
         read.values as u64,
         read.categories as u64,
@@ -62,7 +62,7 @@ pub(super) fn put_length(bytes: usize, filled: &mut [u64])
     requires { length filled.old ≡ 1 }
     ensures { filled.new ≡ bytes ∷ [] }
 {
-    // no From leads here from a usize
+    // no From leads here from a usize; TryFrom and an unwrap is no plainer
     filled[0] = bytes as u64;
 }
 
@@ -71,7 +71,7 @@ pub(super) fn given(counts: &[u64]) -> Given
     requires { length counts.now ≡ 5 }
     ensures { result ≡ given_by counts.now }
 {
-    // no From leads from here to a usize
+    // no From leads from here to a usize; TryFrom and an unwrap is no plainer
     Given {
         values: counts[0] as usize,
         categories: counts[1] as usize,
@@ -87,15 +87,12 @@ fn put_coefficient(figures: &mut [u64], place: usize, coefficient: Coefficient)
     requires readable { Readable coefficient }
     ensures { figures.new ≡ put_figure figures.old place coefficient }
 {
-    match coefficient {
-        Coefficient::Figure(x) => {
-            figures[place] = f64::to_bits(x);
-        }
-        Coefficient::Weightless => {}
+    if let Coefficient::Figure(x) = coefficient {
+        figures[place] = x.to_bits();
     }
 }
 
-// Moran and Geary of pair k.
+// Moran and Geary of pair k. C lends the pairs as a flat list, and of one taken as arrays (`as_chunks_mut`) it is not known what it ends as.
 pub(super) fn put_pair(figures: &mut [u64], k: usize, pair: Pair)
     requires k_bound { k < 9 }
     requires k_in_bounds { k * 2 + 1 < length figures.old }

@@ -35,10 +35,11 @@ use Rattle.coefficients.specs.FloatReport.{plain_rows, plain_locals, plain_figur
 use Rattle.coefficients.specs.declared.Pair.{Pair}
 use Rattle.coefficients.specs.declared.Report.{Report}
 use Rattle.coefficients.proofs.Job.{spread_in, kept_in}
+use Rattle.image.specs.Image.{Job}
 use Rattle.report.specs.Lines.{coefficient}
 use Rattle.report.specs.Text.{whole_lines, job_lines, local_line, local_lines, pair_lines, rank_line, class_lines}
 use Rattle.report.specs.Text.{numbered, where_given, job_text}
-use Rattle.report.specs.Steps.{Within, Sound, Low, Classed, lists}
+use Rattle.report.specs.Steps.{Within, Sound, Low, Classed}
 use Rattle.report.specs.Steps.{sum_lines, ratio_lines, zone_line}
 use Rattle.report.proofs.Listed.{class_text}
 
@@ -232,13 +233,15 @@ five_parts a b c d e =
     append_assoc ((a ++ b) ++ c) d e ∙ append_assoc (a ++ b) c (d ++ e) ∙ append_assoc a b (c ++ (d ++ e))
 
 pub job_text_is :
-    (n : ℕ) (values : List ℤ) (categories weights : List ℕ) (places : List ℤ) (bands shuffles : List ℕ) →
-    (((job_lines n values weights ++ local_lines n values weights) ++ where_given categories (pair_lines n categories weights))
-    ++ where_given bands (class_lines n values weights places bands))
-    ++ where_given shuffles (rank_line n values weights shuffles)
-    ≡ job_text n (lists values categories weights places bands shuffles)
+    (n : ℕ) (job : Job) →
+    (((job_lines n job.values job.weights ++ local_lines n job.values job.weights)
+    ++ where_given job.categories (pair_lines n job.categories job.weights))
+    ++ where_given job.bands (class_lines n job.values job.weights job.places job.bands))
+    ++ where_given job.shuffles (rank_line n job.values job.weights job.shuffles)
+    ≡ job_text n job
 unfolding job_text
-job_text_is n values categories weights places bands shuffles =
-    five_parts (job_lines n values weights) (local_lines n values weights) (where_given categories (pair_lines n categories weights))
-    (where_given bands (class_lines n values weights places bands))
-    (where_given shuffles (rank_line n values weights shuffles))
+job_text_is n job =
+    five_parts (job_lines n job.values job.weights) (local_lines n job.values job.weights)
+    (where_given job.categories (pair_lines n job.categories job.weights))
+    (where_given job.bands (class_lines n job.values job.weights job.places job.bands))
+    (where_given job.shuffles (rank_line n job.values job.weights job.shuffles))

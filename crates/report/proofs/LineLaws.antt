@@ -2,11 +2,11 @@
 use mathlib.Core.Path.{◌≡◌, refl, ap, ◌∙◌}
 use mathlib.Core.Bool.{true, false}
 use mathlib.Core.List.{List, [], ◌∷◌, ◌++◌}
-use Prim.Native.Nat.{ℕ, zero, suc, ◌+◌, ◌*◌, ◌-◌, ◌^◌, ◌≤◌, ◌<◌}
+use Prim.Native.Nat.{ℕ, ◌+◌, ◌*◌, ◌-◌, ◌^◌, ◌≤◌, ◌<◌}
 use native.Mathlib.Omega.{arith}
 use borrow.Author.Rules.{sfits_of}
 use lib.IntN.{ℤ, pos, negsuc, ◌*ℤ◌}
-use lib.ListN.{length, get_or}
+use lib.ListN.{get_or}
 use lib.Signed.{mag, lt_z}
 use mir.Syntax.{w64}
 use mir.Val.{to_z}
@@ -22,12 +22,6 @@ use Rattle.coefficients.proofs.Ratios.{left_le, ordered_le}
 use Rattle.pages.specs.Lines.{line, numbers, bits}
 use Rattle.report.specs.Lines.{coefficient}
 use Rattle.report.specs.Steps.{Within, sum_lines, ratio_lines, zone_line, table_line, row_line}
-
--- an item that is there, whatever stands for one that is not
-pub there : {A : Type 0} (l : List A) (k : ℕ) (d e : A) → k < length l → get_or l k d ≡ get_or l k e
-there [] k d e h = let z : ⊥ = omega arith in absurd z
-there (x ∷ l) zero d e h = refl
-there (x ∷ l) (suc k) d e h = there l k d e (omega arith)
 
 -- what a call has answered is read back from its bits as it is
 pub read_back : {answer meant : ℤ} → mag answer < 2 ^ 63 → answer ≡ meant → r64 answer ≡ meant

@@ -31,10 +31,6 @@ use Rattle.report.specs.Steps.{table_line, row_line}
 
 -- ---- lines that need a list
 module _ {A : Type 0} where
-  pub not_given : (list : List A) (lines : List ℕ) → length list ≡ 0 → where_given list lines ≡ []
-  not_given [] lines e = refl
-  not_given (item ∷ more) lines e = let z : ⊥ = omega arith in absurd z
-
   pub given : (list : List A) (lines : List ℕ) → (length list ≡ 0 → ⊥) → where_given list lines ≡ lines
   given [] lines f = absurd (f refl)
   given (item ∷ more) lines f = refl

@@ -1,5 +1,5 @@
 -- The ways out of the two calls: a page of another length, a refused image, and the text or the line at the page's front. Assumes nothing.
-use mathlib.Core.Path.{◌≡◌, refl, sym, ap, ◌∙◌}
+use mathlib.Core.Path.{◌≡◌, refl, sym, ap, ◌∙◌, subst}
 use mathlib.Core.List.{List, [], ◌∷◌}
 use Prim.Native.Nat.{ℕ, ◌≤◌}
 use native.Mathlib.Omega.{arith}
@@ -11,6 +11,7 @@ use Rattle.std.specs.Result.{IsOk}
 use Rattle.whole.specs.Table.{over}
 use Rattle.whole.proofs.Rules.{worked_when_taken}
 use Rattle.refusals.specs.declared.Refusal.{Refusal}
+use Rattle.refusals.specs.declared.Refusal.TheVariants.{Length}
 use Rattle.refusals.specs.Refusals.{number_by, number_of}
 use Rattle.refusals.proofs.Refusals.{left_by}
 use Rattle.image.specs.Image.{image_refusal}
@@ -26,13 +27,16 @@ module _ (image page : List ℕ) where
   Promised r left =
       (number_of r ≡ print_refusal image page) × ((length_in r ≡ print_length image page) × (left ≡ page_left image page))
 
-  pub by_page : (length page ≡ 16384 → ⊥) → (e : Refusal) → number_by e ≡ line_refusal page → Promised (Err e) page
-  unfolding length_in line_refusal print_refusal print_length page_left
-  by_page f e h = rw (ne_eqb (length page) 16384 f) (rw (ne_eqb (length page) 16384 f) at h, (refl, refl))
+  pub by_page : (length page ≡ 16384 → ⊥) → Promised (Err Length) page
+  unfolding length_in print_refusal print_length page_left
+  by_page f = rw (ne_eqb (length page) 16384 f) (refl, (refl, refl))
 
-  pub by_image : length page ≡ 16384 → (r : Result ℕ Refusal) (left : List ℕ) → Prints image page left r → Promised r left
+  pub by_image :
+      length page ≡ 16384 → (r : Result ℕ Refusal) (lent left : List ℕ) → lent ≡ page → Prints image lent left r → Promised r left
   unfolding print_refusal print_length page_left image_refusal
-  by_image e r left p = rw (eq-eqb (length page) 16384 e) (p.number, (p.long, p.page))
+  by_image e r lent left same put =
+      let p = subst (λ (l : List ℕ). Prints image l left r) same put in
+      rw (eq-eqb (length page) 16384 e) (p.number, (p.long, p.page))
 
 -- ---- the line of a refusal
 module _ (number : ℕ) (page : List ℕ) where
@@ -40,15 +44,16 @@ module _ (number : ℕ) (page : List ℕ) where
   PromisedLine r left =
       (number_of r ≡ line_refusal page) × ((length_in r ≡ line_length number page) × (left ≡ line_left number page))
 
-  pub line_by_page : (e : Refusal) → number_by e ≡ line_refusal page → PromisedLine (Err e) page
-  unfolding length_in line_length line_left
-  line_by_page e h = (h, (sym (left_by _ _ _ e h), sym (left_by _ _ _ e h)))
+  pub line_by_page : (length page ≡ 16384 → ⊥) → PromisedLine (Err Length) page
+  unfolding length_in line_refusal line_length line_left
+  line_by_page f = rw (ne_eqb (length page) 16384 f) (refl, (refl, refl))
 
   pub line_by_text :
-      length page ≡ 16384 → {left : List ℕ} {place : ℕ} → Put page left 0 place 96 (refusal_line number) →
+      length page ≡ 16384 → {lent left : List ℕ} {place : ℕ} → lent ≡ page → Put lent left 0 place 96 (refusal_line number) →
       PromisedLine (Ok place) left
   unfolding length_in line_refusal line_length line_left
-  line_by_text e put =
+  line_by_text e {lent} {left} {place} same there =
+      let put = subst (λ (l : List ℕ). Put l left 0 place 96 (refusal_line number)) same there in
       rw (eq-eqb (length page) 16384 e)
       (refl, (ap (λ k. k ∷ []) (omega (arith, put.behind)), put_over put (omega (arith, put.behind, put.few, e))))
 

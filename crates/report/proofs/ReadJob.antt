@@ -35,7 +35,7 @@ module _ (image : List ℕ) (lent : Buffers) (e : read_refusal image lent ≡ 0)
       let all = taken_by_all image lent e in
       let long = job_lengths image lent e in
       let few = job_limits image lent e in record {
-        job = record {
+        weighted = record {
           two = (job_counted image lent e).two;
           zones = few.zones;
           values_fit = long.values;

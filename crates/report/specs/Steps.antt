@@ -19,6 +19,7 @@ use Rattle.image.specs.Image.{Job, image_refusal}
 use Rattle.image.specs.Reader.{Buffers, buffer_lengths}
 use Rattle.image.specs.Writer.{lent_job}
 use Rattle.image.specs.declared.Given.{Given}
+use Rattle.image.specs.declared.Lists.{Lists}
 use Rattle.reader.specs.declared.Counts.{Counts}
 use Rattle.pages.specs.Lines.{line, numbers, bits}
 use Rattle.report.specs.Lines.{coefficient}
@@ -53,18 +54,16 @@ pub record Within (sums : Sums) : Type 0 where
   pub geary_numerator : nat_abs (pos ((sums.kept - 1) * sums.kept) *ℤ sums.squares) ≤ ratio_limit
   pub geary_divisor : nat_abs ((pos 2 *ℤ sums.weight) *ℤ sums.spread) ≤ ratio_limit
 
--- weights and figures of n zones, so many of which are kept
-pub record Zoned (n weights many figures : ℕ) : Type 0 where
+-- weights and figures of n zones
+pub record Zoned (n weights figures : ℕ) : Type 0 where
   pub least : 2 ≤ n
   pub most : n ≤ 64
   pub weights_fit : weights ≡ n * n
-  pub few : many ≤ n
   pub figures_fit : figures ≡ n
 
--- a local numerator and the bits of a local figure for each zone that is listed
-pub record Listed (zones : List ℕ) (locals : List ℤ) (figures : List ℕ) : Type 0 where
-  pub there : (k : ℕ) → k < length zones → get_or zones k 0 < length locals
-  pub as_many : length figures ≡ length locals
+-- of n zones, those that are listed
+abbrev pub Listed : List ℕ → ℕ → Type 0
+Listed order n = (k : ℕ) → k < length order → get_or order k 0 < n
 
 -- ---- a job that no call refuses
 
@@ -98,27 +97,23 @@ pub record Classed (n : ℕ) (places : List ℤ) (bands classes : List ℕ) : Ty
   pub within : Low n classes
   pub made : (length bands ≡ 0 → ⊥) → classes ≡ band_classes n places bands
 
--- a job's values and weights, and its other lists, each where it has something in it
-pub record SoundLists (n : ℕ) (values : List ℤ) (categories weights : List ℕ) (places : List ℤ) (bands shuffles : List ℕ) : Type 0 where
-  pub job : Sound n values weights
-  pub joined : Joinable n categories weights
-  pub banded : (length bands ≡ 0 → ⊥) → band_refusal n places bands (n * n) ≡ 0
-  pub few_bands : length bands ≤ 8
-  pub ranked : rank_refusal n values weights shuffles ≡ 0
+-- its values and weights, and its other lists, each where it has something in it
+pub record SoundJob (n : ℕ) (job : Job) : Type 0 where
+  pub weighted : Sound n job.values job.weights
+  pub joined : Joinable n job.categories job.weights
+  pub banded : (length job.bands ≡ 0 → ⊥) → band_refusal n job.places job.bands (n * n) ≡ 0
+  pub few_bands : length job.bands ≤ 8
+  pub ranked : rank_refusal n job.values job.weights job.shuffles ≡ 0
 
--- the same of a job
-abbrev pub SoundJob : ℕ → Job → Type 0
-SoundJob n job = SoundLists n job.values job.categories job.weights job.places job.bands job.shuffles
-
--- the job in six lists
-abbrev pub lists : List ℤ → List ℕ → List ℕ → List ℤ → List ℕ → List ℕ → Job
-lists values categories weights places bands shuffles = record {
-  values = values;
-  categories = categories;
-  weights = weights;
-  places = places;
-  bands = bands;
-  shuffles = shuffles;
+-- the job in six lists, each of them whole
+abbrev pub job_in : Lists → Job
+job_in lists = record {
+  values = lists.values.now;
+  categories = lists.categories.now;
+  weights = lists.weights.now;
+  places = lists.places.now;
+  bands = lists.bands.now;
+  shuffles = lists.shuffles.now;
 }
 
 -- buffers that the reader takes

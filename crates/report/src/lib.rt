@@ -6,7 +6,7 @@ mod putting;
 mod reading;
 mod working;
 
-ghost use Rattle.std.specs.Prelude.{◌≡◌, ◌≢◌, length, OnOk, OnErr};
+ghost use Rattle.std.specs.Prelude.{◌≡◌};
 ghost use Rattle.refusals.specs.Refusals.{number_of};
 ghost use Rattle.report.specs.Text.{length_in, print_refusal, print_length, page_left};
 ghost use Rattle.report.specs.Text.{line_refusal, line_length, line_left};
@@ -14,18 +14,8 @@ ghost use Rattle.report.specs.Text.{line_refusal, line_length, line_left};
 use putting::Line;
 use refusals::Refusal;
 
-// The page has 16,384 places.
-#[tactic(auto, unfolding(crate::specs::Text::line_refusal))]
-fn judge_page(page: &[u8]) -> Result<(), Refusal>
-    ensures number { number_of result ≡ line_refusal page.now }
-    ensures fits { OnOk result (length page.now ≡ 16384) }
-    ensures misfits { OnErr result (length page.now ≢ 16384) }
-{
-    if page.len() != 16384 {
-        return Err(Refusal::Length);
-    }
-    Ok(())
-}
+// What a report goes into, with room for the longest.
+type Page = [u8; 16384];
 
 // Puts the text of an image's report, the lines of its job, at the front of `page`, which has 16,384 places, and answers its length. Where
 // the page has another length, or the image is refused, the page is left as it was.
@@ -34,21 +24,25 @@ pub fn report(image: &[u8], page: &mut [u8]) -> Result<usize, Refusal>
     ensures length { length_in result ≡ print_length image.now page.old }
     ensures page { page.new ≡ page_left image.now page.old }
 {
-    judge_page(page)?;
-    reading::put_report(page, image)
+    match page.as_mut_array() {
+        Some(page) => reading::put_report(page, image),
+        None => Err(Refusal::Length),
+    }
 }
 
 // Puts the line of an image that is refused by that number, `refused` and the number, at the front of such a page, and answers its length.
-// Where the page has another length it is left as it was.
+// Where the page has another length it is left as it was. A `Refusal` in place of the number would ask more of callers than before.
 pub fn refusal(number: u8, page: &mut [u8]) -> Result<usize, Refusal>
     ensures number { number_of result ≡ line_refusal page.old }
     ensures length { length_in result ≡ line_length number page.old }
     ensures page { page.new ≡ line_left number page.old }
 {
-    judge_page(page)?;
     let line = Line {
         word: b"refused",
         numbers: &[i64::from(number)],
     };
-    Ok(putting::put_line(page, 0, &line))
+    match page.as_mut_array::<16384>() {
+        Some(page) => Ok(putting::put_line(page, 0, &line)),
+        None => Err(Refusal::Length),
+    }
 }

@@ -1,14 +1,23 @@
 // The lines of a report, from what the calls answer.
-ghost use Rattle.std.specs.Prelude.{◌≡◌, suc, ◌*◌, ◌≤◌, ◌<◌, length};
+ghost use Rattle.std.specs.Prelude.{suc, ◌*◌, ◌≤◌, ◌<◌, length};
 ghost use Rattle.whole.specs.Table.{each};
 ghost use Rattle.report.specs.Text.{numbered};
-ghost use Rattle.report.specs.Steps.{Put, Room, Within, Listed};
+ghost use Rattle.report.specs.Steps.{Put, Room, Within, Zoned, Listed};
 ghost use Rattle.coefficients.specs.Steps.{ReadablePair, ReadablePairs};
 ghost use Rattle.report.specs.Steps.{sum_lines, ratio_lines, zone_line, table_line, row_line};
 
 use crate::putting::{self, Line};
 use account::Sums;
 use coefficients::Pair;
+
+// The zones of a job: the weights between them, and of each its local numerator and the bits of its local Moran.
+#[derive(Clone, Copy)]
+pub(super) struct Zones<'a> {
+    pub(super) weights: &'a [u8],
+    pub(super) locals: &'a [i64],
+    pub(super) figures: &'a [u64],
+    ghost zoned: { Zoned (length locals.now) (length weights.now) (length figures.now) },
+}
 
 // The number of zones kept, S, M, then W P G.
 pub(super) fn put_sums(page: &mut [u8], at: usize, sums: Sums) -> usize
@@ -22,7 +31,7 @@ pub(super) fn put_sums(page: &mut [u8], at: usize, sums: Sums) -> usize
     let weight = sums.weight;
     let cross = sums.cross;
     let squares = sums.squares;
-    // no From leads here from a usize
+    // no From leads here from a usize; TryFrom and an unwrap is no plainer
     let zones = Line {
         word: b"zones",
         numbers: &[kept as i64, total, spread],
@@ -50,14 +59,15 @@ pub(super) fn put_ratios(page: &mut [u8], at: usize, sums: Sums, pair: Pair) -> 
         word: b"moran",
         numbers: &[cross, sums.weight * sums.spread],
     };
-    // no From leads here from a usize
     let of_geary = Line {
         word: b"geary",
         numbers: &[
+            // no From leads here from a usize; TryFrom and an unwrap is no plainer
             ((kept - 1) * kept) as i64 * sums.squares,
             2 * sums.weight * sums.spread,
         ],
     };
+    // no From leads here from a usize; TryFrom and an unwrap is no plainer
     let expected = Line {
         word: b"expected",
         numbers: &[-1, (kept - 1) as i64],
@@ -67,35 +77,33 @@ pub(super) fn put_ratios(page: &mut [u8], at: usize, sums: Sums, pair: Pair) -> 
     putting::put_line(page, end, &expected)
 }
 
-// The zones as they are listed, each with its local numerator, M and its local Moran.
+// The zones in that order, each with its local numerator, M and its local Moran.
 pub(super) fn put_zones(
     page: &mut [u8],
     at: usize,
-    zones: &[u8],
-    locals: &[i64],
-    figures: &[u64],
+    order: &[u8],
+    zones: &Zones,
     spread: i64,
 ) -> usize
-    requires listed { Listed zones.now locals.now figures.now }
-    requires room { Room page.old at (128 * length zones.now) }
-    ensures { Put page.old page.new at result (128 * length zones.now)
-        (each (zone_line locals.now figures.now spread) zones.now) }
+    requires listed { Listed order.now (length zones.now.locals.now) }
+    requires room { Room page.old at (128 * length order.now) }
+    ensures { Put page.old page.new at result (128 * length order.now)
+        (each (zone_line zones.now.locals.now zones.now.figures.now spread) order.now) }
 {
     let mut place = at;
-    for &zone in zones {
+    for &zone in order {
         let of_zone = usize::from(zone);
         let line = Line {
             word: b"local",
-            numbers: &[i64::from(zone), locals[of_zone], spread],
+            numbers: &[i64::from(zone), zones.locals[of_zone], spread],
         };
-        place = putting::put_bits_line(page, place, &line, figures[of_zone]);
+        place = putting::put_bits_line(page, place, &line, zones.figures[of_zone]);
     }
     place
 }
 
 // The entries above 0 of row r of the join table.
-fn put_table_row(page: &mut [u8], at: usize, table: &[i64], r: u8) -> usize
-    requires table_len { length table.now ≡ 64 }
+fn put_table_row(page: &mut [u8], at: usize, table: &[i64; 64], r: u8) -> usize
     requires r_bound { r < 8 }
     requires room { Room page.old at 768 }
     ensures { Put page.old page.new at result 768 (each (table_line table.now r) (numbered 8)) }
@@ -115,8 +123,7 @@ fn put_table_row(page: &mut [u8], at: usize, table: &[i64], r: u8) -> usize
 }
 
 // The entries above 0 of the join table, row by row.
-pub(super) fn put_table(page: &mut [u8], at: usize, table: &[i64]) -> usize
-    requires table_len { length table.now ≡ 64 }
+pub(super) fn put_table(page: &mut [u8], at: usize, table: &[i64; 64]) -> usize
     requires room { Room page.old at 6144 }
     ensures { Put page.old page.new at result 6144
         (each (λ r. each (table_line table.now r) (numbered 8)) (numbered 8)) }
@@ -132,11 +139,10 @@ pub(super) fn put_table(page: &mut [u8], at: usize, table: &[i64]) -> usize
 pub(super) fn put_rows(
     page: &mut [u8],
     at: usize,
-    rows: &[i64],
+    rows: &[i64; 27],
     pairs: [Pair; 9],
     last: usize,
 ) -> usize
-    requires rows_len { length rows.now ≡ 27 }
     requires readable_pairs { ReadablePairs pairs }
     requires last_bound { last ≤ 8 }
     requires room { Room page.old at (128 * suc last) }
@@ -146,7 +152,7 @@ pub(super) fn put_rows(
     let mut place = at;
     for k in 0..=last {
         let pair = pairs[k];
-        // no From leads here from a usize
+        // no From leads here from a usize; TryFrom and an unwrap is no plainer
         let line = Line {
             word: b"class",
             numbers: &[k as i64, rows[k * 3], rows[k * 3 + 1], rows[k * 3 + 2]],

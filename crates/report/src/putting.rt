@@ -1,6 +1,7 @@
 // Lines of a report into a page that has room for them. Each call is told the place to begin at, and answers the place behind what it has
 // put.
-// C lends the page as a bare list. A struct of it and the place is no plainer: each call would say besides that it holds the same page.
+// Room is asked for from that place on, so that no type of the page carries it. C lends the page as a bare list. A struct of it and the place
+// is no plainer: each call would say besides that it holds the same page.
 ghost use Rattle.std.specs.Prelude.{[], ◌∷◌, ◌++◌, ◌≤◌, length};
 ghost use Rattle.pages.specs.Lines.{numbers, bits as bits_of};
 ghost use Rattle.report.specs.Lines.{coefficient};
@@ -43,7 +44,7 @@ fn put_coefficient(page: &mut [u8], at: usize, figure: Coefficient) -> usize
     ensures { Put page.old page.new at result 17 (coefficient figure) }
 {
     match figure {
-        Coefficient::Figure(x) => pages::put_bits(page, at, f64::to_bits(x)),
+        Coefficient::Figure(x) => pages::put_bits(page, at, x.to_bits()),
         Coefficient::Weightless => pages::put(page, at, b" -"),
     }
 }

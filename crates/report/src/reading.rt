@@ -1,32 +1,19 @@
 // The text of an image: it is read, and its job's lines are put. A refused image leaves the page as it was.
-ghost use Rattle.std.specs.Prelude.{◌≡◌, length};
 ghost use Rattle.image.specs.Reader.{buffers};
-ghost use Rattle.image.specs.Writer.{lent_job};
+ghost use Rattle.image.specs.Writer.{listed, lent_job};
 ghost use Rattle.report.specs.Text.{job_text};
-ghost use Rattle.report.specs.Steps.{Put, Room, Exact, Held, given_of, Prints};
+ghost use Rattle.report.specs.Steps.{Put, Exact, Held, given_of, Prints};
 
-use crate::working;
+use crate::{Page, working};
+use image::Lists;
 use reader::Counts;
 use refusals::Refusal;
 
 // The lines of the job in the buffers: the first entries of each, as many as the counts say.
-// Each layer says the page's room: no type carries it, for of a slice taken as arrays (`as_chunks_mut`) it is not known what it ends as.
-fn put_read(
-    page: &mut [u8],
-    counts: Counts,
-    values: &[i32],
-    categories: &[u8],
-    weights: &[u8],
-    places: &[i32],
-    bands: &[u32],
-    shuffles: &[u8],
-) -> usize
-    requires held { Held counts (buffers values.now categories.now weights.now places.now bands.now shuffles.now) }
-    requires room { Room page.old 0 16128 }
+fn put_read(page: &mut Page, counts: Counts, held: &Lists) -> usize
+    requires { Held counts (listed held.now) }
     ensures { Put page.old page.new 0 result 16128
-        (job_text counts.values (lent_job (given_of counts)
-        (buffers values.now categories.now weights.now
-        places.now bands.now shuffles.now))) }
+        (job_text counts.values (lent_job (given_of counts) (listed held.now))) }
 {
     let n = counts.values;
     let pairs = n * n;
@@ -34,20 +21,21 @@ fn put_read(
     let in_places = 2 * counts.places;
     let in_bands = counts.bands;
     let in_shuffles = counts.shuffles * n;
-    working::put_job(
-        page,
-        &values[..n],
-        &categories[..in_categories],
-        &weights[..pairs],
-        &places[..in_places],
-        &bands[..in_bands],
-        &shuffles[..in_shuffles],
-    )
+    let lists = Lists {
+        values: &held.values[..n],
+        categories: &held.categories[..in_categories],
+        weights: &held.weights[..pairs],
+        places: &held.places[..in_places],
+        bands: &held.bands[..in_bands],
+        shuffles: &held.shuffles[..in_shuffles],
+    };
+    working::put_job(page, &lists)
 }
 
-// The text of an image, by way of buffers that the reader is lent.
+// The text of an image, by way of buffers that the reader is lent. They are six parameters, as the reader's are: `Lists` lends lists to be
+// read, and six to be written are handed on to one call alone.
 fn put_text(
-    page: &mut [u8],
+    page: &mut Page,
     image: &[u8],
     values: &mut [i32],
     categories: &mut [u8],
@@ -56,19 +44,23 @@ fn put_text(
     bands: &mut [u32],
     shuffles: &mut [u8],
 ) -> Result<usize, Refusal>
-    requires exact { Exact (buffers values.old categories.old weights.old places.old bands.old shuffles.old) }
-    requires room { Room page.old 0 16128 }
+    requires { Exact (buffers values.old categories.old weights.old places.old bands.old shuffles.old) }
     ensures { Prints image.now page.old page.new result }
 {
     let counts = reader::read(image, values, categories, weights, places, bands, shuffles)?;
-    Ok(put_read(
-        page, counts, values, categories, weights, places, bands, shuffles,
-    ))
+    let held = Lists {
+        values,
+        categories,
+        weights,
+        places,
+        bands,
+        shuffles,
+    };
+    Ok(put_read(page, counts, &held))
 }
 
 // The text of an image at the front of a page.
-pub(super) fn put_report(page: &mut [u8], image: &[u8]) -> Result<usize, Refusal>
-    requires { Room page.old 0 16128 }
+pub(super) fn put_report(page: &mut Page, image: &[u8]) -> Result<usize, Refusal>
     ensures { Prints image.now page.old page.new result }
 {
     let mut values: [i32; 64] = [0; 64];

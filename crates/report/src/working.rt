@@ -1,16 +1,18 @@
 // The calls on a job, and its lines from what they answer. No call refuses the job of an accepted image, so that each answer is unwrapped.
 ghost use Rattle.std.specs.Prelude.{◌≡◌, cond, [], ◌++◌, suc, ◌≤◌, eqb, length, take};
-ghost use Rattle.whole.specs.Table.{table, each};
+ghost use Rattle.whole.specs.Table.{each};
 ghost use Rattle.account.specs.Rank.{rank_refusal};
 ghost use Rattle.hot_list.specs.HotList.{in_order};
 ghost use Rattle.coefficients.specs.Steps.{ReadablePair, ReadablePairs};
 ghost use Rattle.report.specs.Text.{numbered, pair_lines, rank_line, where_given, job_text};
-ghost use Rattle.report.specs.Steps.{Put, Room, Within, Zoned, SoundLists, Joinable, Bandable, Classed};
-ghost use Rattle.report.specs.Steps.{sum_lines, ratio_lines, zone_line, row_line, lists};
+ghost use Rattle.report.specs.Steps.{Put, Room, Within, SoundJob, Joinable, Bandable, Classed};
+ghost use Rattle.report.specs.Steps.{sum_lines, ratio_lines, zone_line, row_line, job_in};
 
-use crate::lines;
+use crate::Page;
+use crate::lines::{self, Zones};
 use crate::putting::{self, Line};
 use coefficients::{Pair, Whole};
+use image::Lists;
 
 // Each pair of zones in the class of its band, and in class 0 where there are no bands.
 fn class_pairs(n: usize, places: &[i32], bands: &[u32], classes: &mut [u8])
@@ -24,43 +26,28 @@ fn class_pairs(n: usize, places: &[i32], bands: &[u32], classes: &mut [u8])
 }
 
 // The zones kept, so many of them, in hot-list order.
-fn put_hot_list(
-    page: &mut [u8],
-    at: usize,
-    weights: &[u8],
-    many: usize,
-    locals: &[i64],
-    figures: &[u64],
-    spread: i64,
-) -> usize
-    requires zoned { Zoned (length locals.now) (length weights.now) many (length figures.now) }
+fn put_hot_list(page: &mut [u8], at: usize, zones: &Zones, many: usize, spread: i64) -> usize
+    requires few { many ≤ length zones.now.locals.now }
     requires room { Room page.old at 8192 }
     ensures { Put page.old page.new at result 8192
-        (each (zone_line locals.now figures.now spread)
-        (take many (in_order (length locals.now) weights.now locals.now))) }
+        (each (zone_line zones.now.locals.now zones.now.figures.now spread)
+        (take many (in_order (length zones.now.locals.now) zones.now.weights.now zones.now.locals.now))) }
 {
-    let n = locals.len();
+    let n = zones.locals.len();
     let mut space: [u8; 64] = [0; 64];
-    hot_list::order(n, weights, locals, &mut space[..n]).unwrap();
-    lines::put_zones(page, at, &space[..many], locals, figures, spread)
+    hot_list::order(n, zones.weights, zones.locals, &mut space[..n]).unwrap();
+    lines::put_zones(page, at, &space[..many], zones, spread)
 }
 
 // The lines that every report has: those of the whole job, then those of its zones kept.
-fn put_account(
-    page: &mut [u8],
-    weights: &[u8],
-    whole: Whole,
-    locals: &[i64],
-    figures: &[u64],
-) -> usize
+fn put_account(page: &mut Page, whole: Whole, zones: &Zones) -> usize
     requires within { Within whole.sums }
     requires readable_pair { ReadablePair whole.pair }
-    requires zoned { Zoned (length locals.now) (length weights.now) whole.sums.kept (length figures.now) }
-    requires room { Room page.old 0 8736 }
+    requires few { whole.sums.kept ≤ length zones.now.locals.now }
     ensures { Put page.old page.new 0 result 8736
         ((sum_lines whole.sums ++ ratio_lines whole.sums whole.pair)
-        ++ each (zone_line locals.now figures.now whole.sums.spread)
-        (take whole.sums.kept (in_order (length locals.now) weights.now locals.now))) }
+        ++ each (zone_line zones.now.locals.now zones.now.figures.now whole.sums.spread)
+        (take whole.sums.kept (in_order (length zones.now.locals.now) zones.now.weights.now zones.now.locals.now))) }
 {
     let sums = whole.sums;
     let pair = whole.pair;
@@ -68,7 +55,7 @@ fn put_account(
     let many = sums.kept;
     let place = lines::put_sums(page, 0, sums);
     let end = lines::put_ratios(page, place, sums, pair);
-    put_hot_list(page, end, weights, many, locals, figures, spread)
+    put_hot_list(page, end, zones, many, spread)
 }
 
 // The pair lines, which need categories.
@@ -87,8 +74,13 @@ fn put_pairs(page: &mut [u8], at: usize, n: usize, categories: &[u8], weights: &
 }
 
 // The class lines, which need bands, of which there are so many.
-fn put_classes(page: &mut [u8], at: usize, rows: &[i64], pairs: [Pair; 9], bands: usize) -> usize
-    requires rows_len { length rows.now ≡ 27 }
+fn put_classes(
+    page: &mut [u8],
+    at: usize,
+    rows: &[i64; 27],
+    pairs: [Pair; 9],
+    bands: usize,
+) -> usize
     requires readable_pairs { ReadablePairs pairs }
     requires bands_bound { bands ≤ 8 }
     requires room { Room page.old at 1152 }
@@ -112,7 +104,7 @@ fn put_rank(page: &mut [u8], at: usize, values: &[i32], weights: &[u8], shuffles
         return at;
     }
     let counts = account::rank(values.len(), values, weights, shuffles).unwrap();
-    // no From leads here from a usize
+    // no From leads here from a usize; TryFrom and an unwrap is no plainer
     let line = Line {
         word: b"rank",
         numbers: &[
@@ -125,21 +117,19 @@ fn put_rank(page: &mut [u8], at: usize, values: &[i32], weights: &[u8], shuffles
 }
 
 // The lines of a job.
-pub(super) fn put_job(
-    page: &mut [u8],
-    values: &[i32],
-    categories: &[u8],
-    weights: &[u8],
-    places: &[i32],
-    bands: &[u32],
-    shuffles: &[u8],
-) -> usize
-    requires sound_lists { SoundLists (length values.now) values.now categories.now weights.now places.now bands.now shuffles.now }
-    requires room { Room page.old 0 16128 }
+pub(super) fn put_job(page: &mut Page, lists: &Lists) -> usize
+    requires { SoundJob (length lists.now.values.now) (job_in lists.now) }
     ensures { Put page.old page.new 0 result 16128
-        (job_text (length values.now) (lists values.now categories.now weights.now
-        places.now bands.now shuffles.now)) }
+        (job_text (length lists.now.values.now) (job_in lists.now)) }
 {
+    let Lists {
+        values,
+        categories,
+        weights,
+        places,
+        bands,
+        shuffles,
+    } = *lists;
     let n = values.len();
     let pairs = n * n;
     let mut class_space: [u8; 4096] = rooms::room();
@@ -153,7 +143,12 @@ pub(super) fn put_job(
     let report = coefficients::plain_report(
         n, values, weights, classes, &mut rows, locals, figures,
     ).unwrap();
-    let at_pairs = put_account(page, weights, report.whole, locals, figures);
+    let zones = Zones {
+        weights,
+        locals,
+        figures,
+    };
+    let at_pairs = put_account(page, report.whole, &zones);
     let at_classes = put_pairs(page, at_pairs, n, categories, weights);
     let at_rank = put_classes(page, at_classes, &rows, report.classes, bands.len());
     put_rank(page, at_rank, values, weights, shuffles)

@@ -1,16 +1,14 @@
--- `report` meets its contract: the page is judged, then the image is read and its text put. Assumes nothing.
-use Rattle.std.proofs.lemmas.Result.{err_from_is_err_and}
+-- `report` meets its contract: a page of another length is left, in a whole one the image's text is put. Assumes nothing.
 use Rattle.report.proofs.Printing.{by_page, by_image}
 use Rattle.report.proofs.report.Goals as goal
 
-pub returns-in_err-judge_page : goal.returns-in_err-judge_page
-returns-in_err-judge_page c =
-    let p = err_from_is_err_and c.from_residual.result c.from_residual.ensures.1 in
-    let judged = c.in_err-judge_page.ensures in
-    let all = by_page c.args.image.now c.args.page.now judged.misfits _ judged.number in
-    rw (p.1, p.2) (record { number = all.0; length = all.1.0; page = all.1.1 })
+pub returns-in-None : goal.returns-in-None
+returns-in-None c =
+    let all = by_page c.args.image.now c.args.page.now c.in-None.ensures.cases in
+    record { number = all.0; length = all.1.0; page = all.1.1 }
 
-pub returns : goal.returns
-returns c =
-    let all = by_image c.args.image.now c.args.page.now c.in_ok-judge_page.ensures.fits _ _ c.put_report.ensures in
+pub returns-in-Some : goal.returns-in-Some
+returns-in-Some c =
+    let whole = c.in-Some.ensures.cases in
+    let all = by_image c.args.image.now c.args.page.now whole.long _ _ _ whole.same c.put_report.ensures in
     record { number = all.0; length = all.1.0; page = all.1.1 }

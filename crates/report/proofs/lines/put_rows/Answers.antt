@@ -5,19 +5,20 @@ use borrow.Author.Rules.{rules}
 use lib.ListN.{length, take}
 use mir.Syntax.{w64}
 use mir.ValLaws.{to_z-of_z}
+use Rattle.std.proofs.lemmas.List.{get_or_default}
 use Rattle.whole.specs.Table.{each}
 use Rattle.whole.proofs.Machine.{nat}
 use Rattle.coefficients.specs.FloatReport.{no_pair}
 use Rattle.report.specs.Steps.{Put, row_line}
 use Rattle.report.specs.Text.{numbered}
 use Rattle.report.proofs.Puts.{put_as, put_each_none, put_numbered_next, put_numbered_all}
-use Rattle.report.proofs.LineLaws.{there, row_text}
+use Rattle.report.proofs.LineLaws.{row_text}
 use Rattle.report.proofs.lines.put_rows.Goals as goal
 use Rattle.report.proofs.lines.put_rows.Goals.{In-loop-k, After-put_pair_line-place}
 
 -- the pair of a turn is there
 known : (c : In-loop-k) → c.loop-k.k < length c.args.pairs
-known c = omega (arith, c.well_formed.1.1.1.0.1.0.1)
+known c = search rules
 
 -- the lines with that of the turn
 turn :
@@ -28,7 +29,7 @@ turn c =
     let rows = c.args.rows.now in
     let k = c.loop-k.k in
     let class = (nat w64 k 8 (omega arith) tt).same in
-    let pair = there c.args.pairs k _ _ (known ((goal.at.After-put_pair_line-place c).In-loop-k)) in
+    let pair = get_or_default c.args.pairs k _ _ (known ((goal.at.After-put_pair_line-place c).In-loop-k)) in
     let put = put_as c.put_pair_line-place.ensures (row_text rows c.args.pairs k class
     (to_z-of_z w64 _ (search rules)) (to_z-of_z w64 _ (search rules)) (to_z-of_z w64 _ (search rules)) pair) in
     put_numbered_next (row_line _ _) {size = 128} (suc c.args.last) k (omega arith) c.loop-k.invariant put
@@ -39,7 +40,7 @@ loop-k-init c = put_each_none (row_line _ _)
 pub put_pair_line-place-requires-clause-readable_pair : goal.put_pair_line-place-requires-clause-readable_pair
 put_pair_line-place-requires-clause-readable_pair c =
     let inside = known ((goal.at.put_pair_line-place-requires-clause-readable_pair c).In-loop-k) in
-    rw (there c.args.pairs c.loop-k.k _ no_pair inside) (c.requires.readable_pairs c.loop-k.k inside)
+    rw (get_or_default c.args.pairs c.loop-k.k _ no_pair inside) (c.requires.readable_pairs c.loop-k.k inside)
 
 pub loop-k-preserved : goal.loop-k-preserved
 loop-k-preserved c = turn ((goal.at.loop-k-preserved c).After-put_pair_line-place)

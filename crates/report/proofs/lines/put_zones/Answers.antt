@@ -20,7 +20,8 @@ loop-zone-preserved c =
     let zone = c.from-of_zone.result in
     let is_zone = c.from-of_zone.ensures in
     let number = read_back c.from.type_inv (c.from.ensures ∙ ap pos (sym is_zone)) in
-    let numerator = to_z-of_z w64 (get_or a.locals.now zone (pos 0)) (search rules) in
-    let text = zone_text a.locals.now a.figures.now _ zone number numerator refl ∙ ap (zone_line _ _ _) is_zone in
-    put_each_next (zone_line _ _ _) {size = 128} a.zones.now l.zone-index 0 c.loop-zone-test.true l.invariant
+    let zones = a.zones.now in
+    let numerator = to_z-of_z w64 (get_or zones.locals.now zone (pos 0)) (search rules) in
+    let text = zone_text zones.locals.now zones.figures.now _ zone number numerator refl ∙ ap (zone_line _ _ _) is_zone in
+    put_each_next (zone_line _ _ _) {size = 128} a.order.now l.zone-index 0 c.loop-zone-test.true l.invariant
     (put_as c.put_bits_line-place.ensures text)

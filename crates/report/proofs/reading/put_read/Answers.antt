@@ -7,13 +7,13 @@ use Rattle.report.proofs.reading.put_read.Goals as goal
 use Rattle.report.proofs.reading.put_read.Goals.{Start}
 
 -- the values that are handed on are as many as the counts say
-many_values : (c : Start) → length (take c.args.counts.values c.args.values.now) ≡ c.args.counts.values
-many_values c = length-take-le c.args.counts.values c.args.values.now c.requires.held.values_in
+many_values : (c : Start) → length (take c.args.counts.values c.args.held.now.values.now) ≡ c.args.counts.values
+many_values c = length-take-le c.args.counts.values c.args.held.now.values.now c.requires.values_in
 
-pub put_job-requires-clause-sound_lists : goal.put_job-requires-clause-sound_lists
+pub put_job-requires : goal.put_job-requires
 unfolding lent_job
-put_job-requires-clause-sound_lists c =
-    rw (many_values ((goal.at.put_job-requires-clause-sound_lists c).Start)) c.requires.held.sound
+put_job-requires c =
+    rw (many_values ((goal.at.put_job-requires c).Start)) c.requires.sound
 
 pub returns : goal.returns
 unfolding lent_job

@@ -1,4 +1,5 @@
 -- `put_text` meets its contract. Assumes nothing.
+use borrow.Author.Rules.{rules}
 use Rattle.std.specs.Prelude.{Ok}
 use Rattle.std.proofs.lemmas.Result.{err_from_is_err_and}
 use Rattle.image.specs.Reader.{Buffers, buffers}
@@ -23,12 +24,12 @@ module _ (c : In_ok-counts) where
 pub returns-in_err-counts : goal.returns-in_err-counts
 returns-in_err-counts c =
     let p = err_from_is_err_and c.from_residual.result c.from_residual.ensures.1 in
-    rw (p.1, p.2) (refused_prints _ _ _ c.in_err-counts.ensures.number c.requires.exact)
+    rw (p.1, p.2) (refused_prints _ _ _ c.in_err-counts.ensures.number c.requires)
 
-pub put_read-requires-clause-held : goal.put_read-requires-clause-held
-put_read-requires-clause-held c = read_held (told ((goal.at.put_read-requires-clause-held c).In_ok-counts))
+pub put_read-requires : goal.put_read-requires
+put_read-requires c = read_held (told ((goal.at.put_read-requires c).In_ok-counts))
 
 pub returns : goal.returns
 returns c =
     let t = told ((goal.at.returns c).In_ok-counts) in
-    read_prints t (put_as c.put_read.ensures (read_text t)) c.requires.room
+    read_prints t (put_as c.put_read.ensures (read_text t)) (search rules)

@@ -14,6 +14,7 @@ use Rattle.whole.proofs.Rules.{worked_when_taken}
 use Rattle.hot_list.specs.HotList.{in_order, order_left}
 use Rattle.hot_list.proofs.Ordered.{order_taken, in_order_length, in_order_below}
 use Rattle.report.specs.Steps.{Listed, zone_line}
+use Rattle.report.specs.declared.lines.Zones.{Zones}
 use Rattle.report.proofs.Puts.{put_as, put_most}
 use Rattle.report.proofs.Unrefused.{unrefused}
 use Rattle.report.proofs.working.put_hot_list.Goals as goal
@@ -38,11 +39,8 @@ module _ (n : ℕ) (weights : List ℕ) (locals : List ℤ) (many : ℕ) (few : 
     front_length : length (take many (zones ++ rest)) ≡ many
     front_length = ap length front_is ∙ shown_length
 
-    listed : {figures : List ℕ} → length locals ≡ n → length figures ≡ n → Listed (take many (zones ++ rest)) locals figures
-    listed l f = record {
-      there = λ k h. rw front_is (omega (arith, below k (omega (arith, h, front_length)), l));
-      as_many = omega (arith, l, f);
-    }
+    there : {m : ℕ} → m ≡ n → Listed (take many (zones ++ rest)) m
+    there l k h = rw front_is (omega (arith, below k (omega (arith, h, front_length)), l))
 
     -- 128 bytes for each of at most 64 zones
     narrow : n ≤ 64 → 128 * length (take many (zones ++ rest)) ≤ 8192
@@ -59,14 +57,17 @@ module _ (c : After-order) where
   abbrev s : Start
   s = ((goal.at.After-order c).Start)
 
+  abbrev of_zones : Zones
+  of_zones = s.args.zones.now
+
   abbrev n : ℕ
-  n = length s.args.locals.now
+  n = length of_zones.locals.now
 
   abbrev weights : List ℕ
-  weights = s.args.weights.now
+  weights = of_zones.weights.now
 
   abbrev locals : List ℤ
-  locals = s.args.locals.now
+  locals = of_zones.locals.now
 
   abbrev zones : List ℕ
   zones = c.order.new.zones
@@ -74,14 +75,14 @@ module _ (c : After-order) where
   zones_left : zones ≡ in_order n weights locals
   unfolding order_left
   zones_left =
-      let z = s.requires.zoned in
+      let z = of_zones.zoned in
       c.order.ensures.lent
       ∙ worked_when_taken _ _ _
       (order_taken n _ _ _ z.least z.most z.weights_fit refl (length-take-le _ _ z.most))
 
   ordered : IsOk c.order.result
   ordered =
-      let z = s.requires.zoned in
+      let z = of_zones.zoned in
       unrefused _ (c.order.ensures.number ∙ order_taken n _ _ _ z.least z.most z.weights_fit refl (length-take-le _ _ z.most))
 
 pub unwrap-requires : goal.unwrap-requires
@@ -90,17 +91,14 @@ unwrap-requires c = ordered ((goal.at.unwrap-requires c).After-order)
 pub put_zones-requires-clause-listed : goal.put_zones-requires-clause-listed
 put_zones-requires-clause-listed c =
     let after_order = (goal.at.put_zones-requires-clause-listed c).After-order in
-    let z = (s after_order).requires.zoned in
-    listed (n after_order) (weights after_order) (locals after_order) _ z.few (zones after_order) _ (zones_left after_order) refl
-    z.figures_fit
+    there (n after_order) (weights after_order) (locals after_order) _ c.requires.few (zones after_order) _ (zones_left after_order) refl
 
 pub returns : goal.returns
 returns c =
     let after_order = (goal.at.returns c).After-order in
-    let z = (s after_order).requires.zoned in
-    let a = (s after_order).args in
+    let few = c.requires.few in
     put_as
-    (put_most c.put_zones.ensures (narrow (n after_order) (weights after_order) (locals after_order) _ z.few (zones after_order) _
-    (zones_left after_order) z.most))
-    (lines (n after_order) (weights after_order) (locals after_order) _ z.few (zones after_order) _ (zones_left after_order) _ _ _
-    (to_z-of_z w64 a.spread (s after_order).ranges.spread))
+    (put_most c.put_zones.ensures (narrow (n after_order) (weights after_order) (locals after_order) _ few (zones after_order) _
+    (zones_left after_order) (of_zones after_order).zoned.most))
+    (lines (n after_order) (weights after_order) (locals after_order) _ few (zones after_order) _ (zones_left after_order) _ _ _
+    (to_z-of_z w64 c.args.spread (s after_order).ranges.spread))

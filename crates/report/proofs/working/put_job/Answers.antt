@@ -12,7 +12,8 @@ use Rattle.account.proofs.Theorems.{job_locals_length, kept_most}
 use Rattle.coefficients.proofs.Job.{spread_in, kept_in}
 use Rattle.coefficients.proofs.Readable.{job_readable, classes_readable}
 use Rattle.std.specs.Result.{IsOk}
-use Rattle.report.specs.Steps.{Sound, Classed}
+use Rattle.image.specs.Image.{Job}
+use Rattle.report.specs.Steps.{Sound, Classed, job_in}
 use Rattle.report.proofs.Puts.{put_as, put_then}
 use Rattle.report.proofs.Listed.{class_lines_are as class-rows-are}
 use Rattle.report.proofs.JobText.{figures_length, zones_are, sums_within, job_lines_are}
@@ -36,22 +37,25 @@ module _ (c : After-plain_report) where
   abbrev start : Start
   start = ((goal.at.After-class_pairs pairs_classed).Start)
 
+  abbrev job : Job
+  job = job_in start.args.lists.now
+
   abbrev n : ℕ
-  n = length start.args.values.now
+  n = length job.values
 
   abbrev values : List ℤ
-  values = start.args.values.now
+  values = job.values
 
   abbrev weights : List ℕ
-  weights = start.args.weights.now
+  weights = job.weights
 
   abbrev classes : List ℕ
   classes = pairs_classed.class_pairs.new.classes
 
   sound : Sound n values weights
-  sound = start.requires.sound_lists.job
+  sound = start.requires.weighted
 
-  classed : Classed n start.args.places.now start.args.bands.now classes
+  classed : Classed n job.places job.bands classes
   classed = pairs_classed.class_pairs.ensures
 
   answered : IsOk c.plain_report.result
@@ -90,16 +94,24 @@ put_account-at_pairs-requires-clause-readable_pair c =
     let b = before u in
     job_readable (n b) (values b) (weights b) _ (said u).of_job
 
-pub put_account-at_pairs-requires-clause-zoned : goal.put_account-at_pairs-requires-clause-zoned
-put_account-at_pairs-requires-clause-zoned c =
-    let u = (goal.at.put_account-at_pairs-requires-clause-zoned c).After-unwrap-report in
+pub put_account-at_pairs-requires-clause-few : goal.put_account-at_pairs-requires-clause-few
+put_account-at_pairs-requires-clause-few c =
+    let u = (goal.at.put_account-at_pairs-requires-clause-few c).After-unwrap-report in
+    let b = before u in
+    let locals_fit = ap length (said u).in_locals ∙ job_locals_length (n b) (values b) (weights b) in
+    omega (arith, kept_in (n b) (values b) (weights b) _ (said u).sums, kept_most (n b) (values b) (weights b), locals_fit)
+
+pub invariant_of-zones : goal.invariant_of-zones
+invariant_of-zones c =
+    let u = (goal.at.invariant_of-zones c).After-unwrap-report in
     let b = before u in
     let locals_fit = ap length (said u).in_locals ∙ job_locals_length (n b) (values b) (weights b) in record {
-      least = omega (arith, (sound b).two, locals_fit);
-      most = omega (arith, (sound b).zones, locals_fit);
-      weights_fit = (sound b).weights_fit ∙ ap (λ m. m * m) (sym locals_fit);
-      few = omega (arith, kept_in (n b) (values b) (weights b) _ (said u).sums, kept_most (n b) (values b) (weights b), locals_fit);
-      figures_fit = ap length (said u).of_zones ∙ figures_length (n b) (values b) (weights b) ∙ ap length (sym (said u).in_locals);
+      zoned = record {
+        least = omega (arith, (sound b).two, locals_fit);
+        most = omega (arith, (sound b).zones, locals_fit);
+        weights_fit = (sound b).weights_fit ∙ ap (λ m. m * m) (sym locals_fit);
+        figures_fit = ap length (said u).of_zones ∙ figures_length (n b) (values b) (weights b) ∙ ap length (sym (said u).in_locals);
+      };
     }
 
 pub put_classes-at_rank-requires-clause-readable_pairs : goal.put_classes-at_rank-requires-clause-readable_pairs
@@ -112,8 +124,8 @@ pub returns : goal.returns
 returns c =
     let u = (goal.at.returns c).After-unwrap-report in
     let b = before u in
-    let a = c.args in
-    let bands = length a.bands.now in
+    let j = job b in
+    let bands = length j.bands in
     let sums = u.unwrap-report.result.whole.sums in
     let zones =
     zones_are (n b) (values b) (weights b) (said u).in_locals (said u).of_zones
@@ -123,9 +135,9 @@ returns c =
     let first = put_as c.put_account-at_pairs.ensures (both_same lines zones) in
     let rows =
     counted_same bands
-    (class-rows-are (n b) (values b) (weights b) (classes b) _ (said u).of_classes _ bands (said u).in_rows c.requires.sound_lists.few_bands) in
+    (class-rows-are (n b) (values b) (weights b) (classes b) _ (said u).of_classes _ bands (said u).in_rows c.requires.few_bands) in
     let third =
     put_as c.put_classes-at_rank.ensures
-    (rows ∙ class_lines_are (n b) (values b) (weights b) a.places.now a.bands.now _ (classed b)) in
+    (rows ∙ class_lines_are (n b) (values b) (weights b) j.places j.bands _ (classed b)) in
     put_as (put_then (put_then (put_then first c.put_pairs-at_classes.ensures) third) c.put_rank.ensures)
-    (job_text_is (n b) (values b) a.categories.now (weights b) a.places.now a.bands.now a.shuffles.now)
+    (job_text_is (n b) j)
