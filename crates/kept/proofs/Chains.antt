@@ -8,10 +8,12 @@ use native.Mathlib.Numerals.{add-one}
 use native.Mathlib.Omega.{arith}
 use lib.ListN.{length, get_or, take}
 use lib.Seq.{take_all}
-use Rattle.std.specs.List.{list_any, count_by}
+use Rattle.std.specs.List.{list_any, count_by, filter, range_with_len}
 use Rattle.std.proofs.lemmas.List.Folds.{list_any_more}
-use Rattle.std.proofs.lemmas.List.Sums.{count_by_more_yes, count_by_more_no}
+use Rattle.std.proofs.lemmas.List.FromFn.{length-range_with_len, get_or-range_with_len}
+use Rattle.std.proofs.lemmas.List.Sums.{count_by_more_yes, count_by_more_no, length-filter}
 use Rattle.whole.specs.Search.{some, count}
+use Rattle.whole.proofs.Counting.{count_cong}
 
 module _ {A : Type 0} (test : A → Bool) (items : List A) (d : A) where
   abbrev passes : ℕ → Bool
@@ -44,3 +46,11 @@ module _ {A : Type 0} (test : A → Bool) (items : List A) (d : A) where
 
   pub counted : count_by test items ≡ count (λ k. test (get_or items k d)) (length items)
   counted = ap (count_by test) (sym (take_all (length items) items (omega arith))) ∙ count_front (length items) (omega arith)
+
+-- of the numbers below n
+pub range_counted : (test : ℕ → Bool) (n : ℕ) → length (filter test (range_with_len 0 n)) ≡ count test n
+range_counted test n =
+    length-filter test (range_with_len 0 n)
+    ∙ counted test (range_with_len 0 n) 0
+    ∙ ap (count (λ k. test (get_or (range_with_len 0 n) k 0))) (length-range_with_len 0 n)
+    ∙ count_cong _ test n (λ k h. ap test (get_or-range_with_len 0 n k 0 h ∙ N.zero-add k))
