@@ -10,9 +10,10 @@ ghost use Rattle.account.specs.Refusals.{account_refusal};
 ghost use Rattle.hot_list.specs.HotList.{hot_zones};
 
 use judges::Places;
+use refusals::Refusal;
+
 // The order of the hot list by itself, which the report asks for too.
 pub use ordering::order;
-use refusals::Refusal;
 
 // Works the hot list of the job: `zones` is lent n places for the zone numbers by falling L(i), equal ones by rising zone number, those
 // left out last and by number, and is left as it was where the job is refused.

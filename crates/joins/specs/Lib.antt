@@ -1,2 +1,3 @@
--- Meaning: Joins.
+-- Meaning: Joins. What private functions ask of each other: Steps.
 pub mod Joins
+pub mod Steps

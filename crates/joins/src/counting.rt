@@ -1,22 +1,46 @@
 // The join table's work on lists that were judged and accepted.
-ghost use Rattle.std.specs.Prelude.{◌≡◌, false, ◌*◌, ◌≤◌, pos, length, replicate};
+ghost use Rattle.std.specs.Prelude.{◌≡◌, false, ◌+◌, ◌*◌, ◌≤◌, ◌<◌, pos, length, replicate};
 ghost use Rattle.whole.specs.Search.{any_above};
 ghost use Rattle.joins.specs.Joins.{join_table};
+ghost use Rattle.joins.specs.Steps.{Counted};
 
-// Adds each weight to the entry of its two zones' categories. The p-th weight is that of zone p / n to zone p % n.
-pub(super) fn count_joins(n: usize, categories: &[u8], weights: &[u8], entries: &mut [i64])
-    requires n_bound { n ≤ 64 }
-    requires categories_len { length categories.now ≡ n }
-    requires weights_len { length weights.now ≡ n * n }
-    requires weights_value { any_above 9 weights.now ≡ false }
-    requires categories_value { any_above 7 categories.now ≡ false }
-    requires entries_value { entries.old ≡ replicate 64 (pos 0) }
-    ensures { entries.new ≡ join_table n categories.now weights.now }
-{
-    for (p, weight) in weights.iter().enumerate() {
-        let from = usize::from(categories[p / n]);
-        let to = usize::from(categories[p % n]);
-        let entry = from * 8 + to;
-        entries[entry] += i64::from(*weight);
+// The categories of n zones, and a row of n weights for each.
+#[derive(Clone, Copy)]
+pub(super) struct Zones<'a> {
+    pub(super) n: usize,
+    pub(super) categories: &'a [u8],
+    pub(super) weights: &'a [u8],
+    ghost few: { n ≤ 64 },
+    ghost categories_fit: { length categories.now ≡ n },
+    ghost weights_fit: { length weights.now ≡ n * n },
+    ghost light: { any_above 9 weights.now ≡ false },
+    ghost low: { any_above 7 categories.now ≡ false },
+}
+
+impl Zones<'_> {
+    // Adds each weight from zone i to the entry of its two zones' categories.
+    fn count_row(&self, i: usize, entries: &mut [i64])
+        requires i_lt_n { i < self.now.n }
+        requires before { Counted self.now.n self.now.categories.now self.now.weights.now entries.old (i * self.now.n) }
+        ensures { Counted self.now.n self.now.categories.now self.now.weights.now entries.new ((i + 1) * self.now.n) }
+    {
+        let first = i * self.n;
+        let row = &self.weights[first..first + self.n];
+        let from = usize::from(self.categories[i]);
+        for (j, weight) in row.iter().enumerate() {
+            let to = usize::from(self.categories[j]);
+            let entry = from * 8 + to;
+            entries[entry] += i64::from(*weight);
+        }
+    }
+
+    // Adds each weight to the entry of its two zones' categories, one row after the other.
+    pub(super) fn count_joins(&self, entries: &mut [i64])
+        requires { entries.old ≡ replicate 64 (pos 0) }
+        ensures { entries.new ≡ join_table self.now.n self.now.categories.now self.now.weights.now }
+    {
+        for i in 0..self.n {
+            self.count_row(i, entries);
+        }
     }
 }

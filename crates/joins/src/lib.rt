@@ -8,6 +8,7 @@ ghost use Rattle.std.specs.Prelude.{◌≡◌, length};
 ghost use Rattle.refusals.specs.Refusals.{number_of};
 ghost use Rattle.joins.specs.Joins.{join_refusal, joins_left};
 
+use counting::Zones;
 use refusals::Refusal;
 
 // Works the join table: `table` is lent 64 places for T(0,0), T(0,1), .., T(7,7) and is left as it was where the call is refused.
@@ -22,6 +23,11 @@ pub fn join_table(
 {
     judging::judge_joins(n, categories, weights, table.len())?;
     table.fill(0);
-    counting::count_joins(n, categories, weights, table);
+    let zones = Zones {
+        n,
+        categories,
+        weights,
+    };
+    zones.count_joins(table);
     Ok(())
 }

@@ -11,12 +11,10 @@ pub(super) fn put_kept(weights: &Weights, zones: &mut [u8]) -> usize
     ensures value { result ≡ kept_count weights.now.n weights.now.rows.now }
     ensures zones_after { zones.new ≡ over (kept_zones weights.now.n weights.now.rows.now) zones.old }
 {
-    let mut space: [u8; 64] = [0; 64];
-    let columns = &mut space[..weights.n];
-    weights.mark_columns(columns);
-    let mut many: usize = 0;
+    let columns = weights.columns();
+    let mut many: usize = 0; // of the zones kept: enumerate would number them, and not say how many they are
     for i in 0..weights.n {
-        if weights.touches(columns, i) {
+        if weights.touches(&columns, i) {
             zones[many] = i as u8; // no From leads here from a usize
             many += 1;
         }
@@ -29,10 +27,8 @@ pub(super) fn put_marks(weights: &Weights, marks: &mut [u8])
     requires { length marks.old ≡ weights.now.n }
     ensures { marks.new ≡ table (λ i. cond (keeps weights.now.n weights.now.rows.now i) 1 0) weights.now.n }
 {
-    let mut space: [u8; 64] = [0; 64];
-    let columns = &mut space[..weights.n];
-    weights.mark_columns(columns);
+    let columns = weights.columns();
     for (i, mark) in marks.iter_mut().enumerate() {
-        *mark = u8::from(weights.touches(columns, i));
+        *mark = u8::from(weights.touches(&columns, i));
     }
 }

@@ -11,10 +11,11 @@ ghost use Rattle.kept.specs.Answers.{many_in, keep_refusal, keep_many, keep_left
 ghost use Rattle.kept.specs.Answers.{marks_refusal, marks_left};
 ghost use Rattle.kept.specs.Answers.{reduce_refusal, reduce_left};
 
-// Of values not returned, which no other call here looks at yet: whether one that is returned is beyond the limit, and how many there are.
 use judges::Places;
 use marking::Weights;
 use refusals::Refusal;
+
+// Of values not returned, which no other call here looks at yet: whether one that is returned is beyond the limit, and how many there are.
 pub use returned::{any_value_beyond, count_missing};
 
 // Puts the zones kept, rising, at the front of `zones`, which has 64 places, and answers how many they are. Where n is outside 2 to 64

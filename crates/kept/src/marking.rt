@@ -24,28 +24,29 @@ impl Weights<'_> {
         &self.rows[first..end]
     }
 
-    // Marks each zone whose column holds weight.
-    pub(super) fn mark_columns(&self, marks: &mut [u8])
-        requires { marks.old ≡ table (λ j. 0) self.now.n }
-        ensures { marks.new ≡ table (column_mark self.now.n self.now.rows.now self.now.n) self.now.n }
+    // A mark for each zone whose column holds weight; 0 beyond the n zones.
+    pub(super) fn columns(&self) -> [u8; 64]
+        ensures { take self.now.n result ≡ table (column_mark self.now.n self.now.rows.now self.now.n) self.now.n }
     {
+        let mut columns: [u8; 64] = [0; 64];
+        let marks = &mut columns[..self.n];
         for i in 0..self.n {
             mark_row(self.row(i), marks);
         }
+        columns
     }
 
     // Whether zone i is kept: its column is marked, or its row holds weight.
-    pub(super) fn touches(&self, marks: &[u8], i: usize) -> bool
+    pub(super) fn touches(&self, columns: &[u8; 64], i: usize) -> bool
         requires i_lt_n { i < self.now.n }
-        requires marks_value { marks.now ≡ table (column_mark self.now.n self.now.rows.now self.now.n) self.now.n }
+        requires marked { take self.now.n columns.now ≡ table (column_mark self.now.n self.now.rows.now self.now.n) self.now.n }
         ensures { result ≡ keeps self.now.n self.now.rows.now i }
     {
-        marks[i] > 0 || judges::any_above(0, self.row(i))
+        columns[i] > 0 || judges::any_above(0, self.row(i))
     }
 }
 
-// Marks each zone whose column holds weight in the row, and leaves the other marks. Without a branch on what is stored, so that the
-// compiler can mark several at a time.
+// Marks each zone whose column holds weight in the row, and leaves the other marks.
 fn mark_row(row: &[u8], marks: &mut [u8])
     requires { length row.now ≡ length marks.old }
     ensures { marks.new

@@ -6,8 +6,8 @@ ghost use Rattle.kept.specs.Returned.{not_returned, missing, missing_count, redu
 
 use crate::marking::Weights;
 
-// The value that marks a value not returned.
-const NOT_RETURNED: i32 = -2147483648;
+// The value that marks a value not returned: a marking value and no Option, since the list of values is lent by C.
+const NOT_RETURNED: i32 = i32::MIN;
 
 // Whether a value is not returned.
 fn is_missing(value: i32) -> bool
@@ -23,32 +23,18 @@ fn value_beyond(value: i32) -> bool
     value > 100000 || (value < -100000 && !is_missing(value))
 }
 
-// Whether some value that is returned is beyond 100,000 in size. Not left at the first one, so that the compiler can look at several at a
-// time.
+// Whether some value that is returned is beyond 100,000 in size.
 pub fn any_value_beyond(values: &[i32]) -> bool
     ensures { result ≡ any_value_beyond values.now }
 {
-    let mut found = false;
-    for value in values {
-        if value_beyond(*value) {
-            found = true;
-        }
-    }
-    found
+    values.iter().any(|value| value_beyond(*value))
 }
 
-// How many values are not returned. By a loop: the compiler counts several at a time here, and one after the other in a chain of filter
-// and count, which takes twice as long.
+// How many values are not returned.
 pub fn count_missing(values: &[i32]) -> usize
     ensures { result ≡ missing_count values.now }
 {
-    let mut many: usize = 0;
-    for value in values {
-        if is_missing(*value) {
-            many += 1;
-        }
-    }
-    many
+    values.iter().filter(|value| is_missing(**value)).count()
 }
 
 // The weight that counts between two zones with these values.

@@ -15,17 +15,17 @@ returns-in_err-judge_joins c =
     let e = c.in_err-judge_joins.ensures in
     rw (p.1, p.2) (record { number = e; lent = sym (left_by _ _ _ _ e) })
 
+pub invariant_of-zones : goal.invariant_of-zones
+invariant_of-zones c =
+    let g : Accepted c.args.n c.args.categories.now c.args.weights.now (length c.args.table.now) =
+    accepted _ _ _ _ (sym c.in_ok-judge_joins.ensures) in
+    record { few = g.zones; categories_fit = g.categories_fit; weights_fit = g.weights_fit; light = g.light; low = g.low }
+
 pub count_joins-requires : goal.count_joins-requires
 count_joins-requires c =
     let g : Accepted c.args.n c.args.categories.now c.args.weights.now (length c.args.table.now) =
-    accepted _ _ _ _ (sym c.in_ok-judge_joins.ensures) in record {
-      n_bound = g.zones;
-      categories_len = g.categories_fit;
-      weights_len = g.weights_fit;
-      weights_value = g.light;
-      categories_value = g.low;
-      entries_value = c.fill.ensures.after (λ y e. e) ∙ ap (λ k. replicate k (pos 0)) g.room_fit;
-    }
+    accepted _ _ _ _ (sym c.in_ok-judge_joins.ensures) in
+    c.fill.ensures.after (λ y e. e) ∙ ap (λ k. replicate k (pos 0)) g.room_fit
 
 pub returns : goal.returns
 unfolding joins_left

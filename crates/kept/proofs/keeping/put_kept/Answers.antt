@@ -7,18 +7,12 @@ use native.Mathlib.Omega.{arith}
 use lib.ListN.{length}
 use lib.Seq.{sets}
 use Rattle.whole.specs.Search.{count}
-use Rattle.whole.specs.Table.{table}
 use Rattle.whole.proofs.Counting.{count_zero, count_yes, count_no, count_le}
 use Rattle.whole.proofs.Stores.{Stored, stored_none, stored_next, stored_over}
-use Rattle.whole.proofs.Table.{table_front}
 use Rattle.kept.specs.Kept.{passing, keeps, kept_zones, kept_count}
 use Rattle.kept.proofs.Passing.{list_found, list_passed, passing_length}
 use Rattle.kept.proofs.keeping.put_kept.Goals as goal
 use Rattle.kept.proofs.keeping.put_kept.Goals.{then-touches, else-touches}
-
-pub mark_columns-requires : goal.mark_columns-requires
-unfolding table
-mark_columns-requires c = table_front (λ j. 0) c.args.weights.now.n 64 c.args.weights.now.few
 
 pub loop-i-init : goal.loop-i-init
 unfolding passing

@@ -1,7 +1,7 @@
 use mathlib.Core.Path.{◌≡◌}
 use Rattle.whole.specs.Table.{table}
 use Rattle.kept.specs.Steps.{column_mark}
-use Rattle.kept.proofs.marking.Weights.mark_columns.Given as goal
+use Rattle.kept.proofs.marking.Weights.columns.Given as goal
 
 -- marked are the columns that hold weight in the rows passed
 abbrev pub invariant-loop-i : goal.invariant-loop-i
