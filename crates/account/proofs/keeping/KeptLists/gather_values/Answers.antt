@@ -4,10 +4,10 @@ use lib.IntN.{pos}
 use lib.ListN.{length, get_or}
 use Rattle.whole.specs.Table.{at}
 use Rattle.whole.proofs.Table.{is_table}
-use Rattle.account.proofs.keeping.gather_values.Goals as goal
+use Rattle.account.proofs.keeping.KeptLists.gather_values.Goals as goal
 
 pub returns : goal.returns
 returns c =
-    let a = c.args in
-    is_table (λ q. at a.values.now (get_or a.zones.now q 0)) (length a.zones.now) (pos 0) c.loop-k.out (omega arith)
+    let k = c.args.self.now in
+    is_table (λ q. at k.job.values.now (get_or k.zones.now q 0)) (length k.zones.now) (pos 0) c.loop-k.out (omega arith)
     (λ q p. c.loop-k.invariant q (omega arith))
