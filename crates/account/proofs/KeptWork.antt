@@ -40,15 +40,9 @@ module _ (n : ℕ) (weights zones : List ℕ) (e : zones ≡ kept_zones n weight
   pub zones_count : length zones ≡ kept_count n weights
   zones_count = ap length e ∙ zones_length n weights
 
-  pub zones_rise : n ≤ 64 → Zones zones n
-  zones_rise most = subst (λ z. Zones z n) (sym e) (zones_are n weights most)
-
-  -- they are few, and so are their pairs
-  pub zones_few : n ≤ 64 → length zones ≤ 64
+  -- they are few
+  zones_few : n ≤ 64 → length zones ≤ 64
   zones_few most = omega (arith, zones_count, kept_few n weights, most)
-
-  pub pairs_few : n ≤ 64 → length zones * length zones ≤ 4096
-  pairs_few most = few (length zones) (zones_few most)
 
   -- the lists that are gathered
   pub values_are : (values x : List ℤ) → x ≡ gathered values zones → x ≡ kept_values n weights values
@@ -75,9 +69,6 @@ module _ (n : ℕ) (weights zones : List ℕ) (e : zones ≡ kept_zones n weight
       ∙ put_back_cong n weights numbers f same i h
 
   -- the job of the kept zones
-  pub zones_rise_in : (values : List ℤ) → Job values weights n → Zones zones (length values)
-  zones_rise_in values job = rw job.valued.near.count (zones_rise job.valued.zones)
-
   module _ (values x : List ℤ) (w : List ℕ) (p : x ≡ gathered values zones) (q : w ≡ gathered_pairs n weights zones) where
     pub gathered_job : Job values weights n → Job x w (length zones)
     gathered_job job =

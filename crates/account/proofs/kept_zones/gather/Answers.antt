@@ -4,7 +4,8 @@ use native.Mathlib.Omega.{arith}
 use lib.ListN.{length}
 use lib.Seq.{length-take-le}
 use Rattle.account.specs.declared.keeping.KeptLists.{KeptLists}
-use Rattle.account.proofs.KeptWork.{zones_few, pairs_few, gathered_job}
+use Rattle.whole.proofs.Lists.{few as few_pairs_of}
+use Rattle.account.proofs.KeptWork.{gathered_job}
 use Rattle.account.proofs.kept_zones.gather.Goals as goal
 
 -- the zones kept of a job
@@ -13,10 +14,10 @@ module _ (k : KeptLists) where
   most = k.job.good.valued.zones
 
   few : length k.zones.now ≤ 64
-  few = zones_few k.job.n k.job.weights.now k.zones.now k.kept most
+  few = omega (arith, k.rising.few, most)
 
   few_pairs : length k.zones.now * length k.zones.now ≤ 4096
-  few_pairs = pairs_few k.job.n k.job.weights.now k.zones.now k.kept most
+  few_pairs = few_pairs_of (length k.zones.now) few
 
 pub overflow_mul-pairs : goal.overflow_mul-pairs
 overflow_mul-pairs c = omega (arith, few_pairs c.args.kept.now)
