@@ -66,7 +66,7 @@ pub(super) fn judge_sums(kept: &KeptLists) -> Result<(), Refusal>
     }
     let mut space: [i32; 64] = [0; 64];
     let kept_values = &mut space[..many];
-    kept.gather_values(kept_values);
+    kept.gather(values, kept_values);
     judge_spread(&ZoneValues {
         n: many,
         values: kept_values,

@@ -1,5 +1,5 @@
 // The job of the zones kept: its lists are gathered, and what is worked of a zone is put back at it.
-ghost use Rattle.std.specs.Prelude.{◌≡◌, ◌*◌, ◌+◌, ◌≤◌, ◌<◌, ltb, length, get_or};
+ghost use Rattle.std.specs.Prelude.{◌≡◌, ◌*◌, ◌+◌, ◌≤◌, ◌<◌, ltb, length, get_or, slice_get, ℕ};
 ghost use Rattle.whole.specs.Search.{count};
 ghost use Rattle.whole.specs.Table.{table, table_rows, at, pair_at};
 ghost use Rattle.kept.specs.Kept.{kept_zones};
@@ -18,34 +18,18 @@ pub(super) struct KeptLists<'a> {
 }
 
 impl KeptLists<'_> {
-    // The values of the zones kept.
-    pub(super) fn gather_values(&self, out: &mut [i32])
-        requires { length out.old ≡ length self.now.zones.now }
-        ensures { out.new ≡ gathered self.now.job.values.now self.now.zones.now }
-    {
-        let KeptLists { job, zones } = *self;
-        let values = job.values;
-        // by place, here and below: of a zip over iter_mut no proof knows what it wrote
-        for (k, value) in out.iter_mut().enumerate() {
-            let zone = usize::from(zones[k]);
-            *value = values[zone];
-        }
-    }
-
-    // What zone i's row of a list that has a row for each zone holds of the zones kept.
-    fn gather_row(&self, pairs: &[u8], i: usize, out: &mut [u8])
-        requires pairs_len { length pairs.now ≡ self.now.job.n * self.now.job.n }
-        requires i_lt_n { i < self.now.job.n }
+    // What a list that has an entry for each zone holds of the zones kept.
+    pub(super) fn gather<T: Copy>(&self, list: &[T], out: &mut [T])
+        requires list_len { length list.now ≡ self.now.job.n }
         requires out_len { length out.old ≡ length self.now.zones.now }
-        ensures { out.new
-            ≡ table (gathered_pair self.now.job.n pairs.now self.now.zones.now i) (length self.now.zones.now) }
+        ensures { (k : ℕ) → k < length self.now.zones.now → slice_get out.new k
+            ≡ slice_get list.now (get_or self.now.zones.now k 0) }
     {
-        let KeptLists { job, zones } = *self;
-        let first = i * job.n;
-        let row = &pairs[first..first + job.n];
-        for (k, pair) in out.iter_mut().enumerate() {
-            let other = usize::from(zones[k]);
-            *pair = row[other];
+        let zones = self.zones;
+        // by place: of a zip over iter_mut no proof knows what it wrote
+        for (k, entry) in out.iter_mut().enumerate() {
+            let zone = usize::from(zones[k]);
+            *entry = list[zone];
         }
     }
 
@@ -55,11 +39,13 @@ impl KeptLists<'_> {
         requires out_len { length out.old ≡ length self.now.zones.now * length self.now.zones.now }
         ensures { out.new ≡ gathered_pairs self.now.job.n pairs.now self.now.zones.now }
     {
+        let n = self.job.n;
         let many = self.zones.len();
         for (k, zone) in self.zones.iter().enumerate() {
-            let zone = usize::from(*zone);
+            let from = usize::from(*zone) * n;
+            let row = &pairs[from..from + n];
             let first = k * many;
-            self.gather_row(pairs, zone, &mut out[first..first + many]);
+            self.gather(row, &mut out[first..first + many]);
         }
     }
 
@@ -82,6 +68,7 @@ pub(super) fn put_back(places: &[u8], numbers: &[i64], out: &mut [i64])
     ensures { out.new
         ≡ table (at_place places.now (length numbers.now) (at numbers.now)) (length places.now) }
 {
+    // by place, as above
     for (i, number) in out.iter_mut().enumerate() {
         let place = usize::from(places[i]);
         *number = numbers.get(place).copied().unwrap_or(0);

@@ -37,7 +37,7 @@ fn gather<'a>(
     let many = zones.len();
     let pairs = many * many;
     let kept_values = &mut value_space[..many];
-    kept.gather_values(kept_values);
+    kept.gather(job.values, kept_values);
     let kept_weights = &mut weight_space[..pairs];
     kept.gather_pairs(job.weights, kept_weights);
     let places = &mut place_space[..job.n];

@@ -7,7 +7,7 @@ use Prim.Native.Nat.{ℕ, ◌≤◌}
 use native.Mathlib.Omega.{arith}
 use borrow.Author.Tests.{eq-eqb, ne_eqb}
 use lib.Dec.{eqb}
-use lib.IntN.{ℤ}
+use lib.IntN.{ℤ, pos}
 use lib.ListN.{length, get_or}
 use lib.Seq.{length-take-le}
 use Rattle.whole.specs.Integer.{is_zero}
@@ -15,10 +15,10 @@ use Rattle.whole.specs.Rules.{first_broken}
 use Rattle.whole.specs.Table.{at}
 use Rattle.account.specs.Measures.{spread_of}
 use Rattle.account.specs.Steps.{Valued, Zones, gathered}
-use Rattle.account.proofs.KeptLists.{gathered_all}
+use Rattle.account.proofs.KeptLists.{gathered_by, gathered_all}
 use Rattle.account.proofs.Reading.{table_sized}
 use Rattle.account.proofs.judging.judge_sums.Goals as goal
-use Rattle.account.proofs.judging.judge_sums.Goals.{Else-many-n}
+use Rattle.account.proofs.judging.judge_sums.Goals.{After-gather, Else-many-n}
 
 module _ (values : List ℤ) (zones : List ℕ) (out : List ℤ) (e : out ≡ gathered values zones) where
   -- the values of some zones are those of zones
@@ -63,15 +63,19 @@ slice_bounds-space-end c = room c
 pub slice_bounds-kept_values-end : goal.slice_bounds-kept_values-end
 slice_bounds-kept_values-end c = sym (length-take-le _ _ (room ((goal.at.slice_bounds-kept_values-end c).Else-many-n)))
 
-pub gather_values-requires : goal.gather_values-requires
-gather_values-requires c = length-take-le _ _ (room ((goal.at.gather_values-requires c).Else-many-n))
+-- the values that are gathered
+values_are : (c : After-gather) → c.gather.new.out ≡ gathered c.args.kept.now.job.values.now c.args.kept.now.zones.now
+values_are c =
+    let k = c.args.kept.now in
+    let long = c.gather.auto.out ∙ length-take-le _ _ (room ((goal.at.After-gather c).Else-many-n)) in
+    gathered_by (pos 0) k.job.values.now c.gather.new.out k.zones.now long c.gather.ensures
 
 pub invariant_of-judge_spread-2 : goal.invariant_of-judge_spread-2
 invariant_of-judge_spread-2 c =
     let kept = c.args.kept.now in
-    record { valued = gathered_valued _ _ _ c.gather_values.ensures _ kept.job.good.valued kept.rising }
+    record { valued = gathered_valued _ _ _ (values_are ((goal.at.invariant_of-judge_spread-2 c).After-gather)) _ kept.job.good.valued kept.rising }
 
 pub returns : goal.returns
 returns c =
     let kept = c.args.kept.now in
-    by_spread kept.job.values.now kept.zones.now _ c.gather_values.ensures (ne_eqb _ _ c.if-many-eq0.false) _ c.judge_spread-2.ensures
+    by_spread kept.job.values.now kept.zones.now _ (values_are ((goal.at.returns c).After-gather)) (ne_eqb _ _ c.if-many-eq0.false) _ c.judge_spread-2.ensures
