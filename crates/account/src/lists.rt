@@ -1,7 +1,5 @@
 // What was judged, with the facts that the judges found: the work takes these, and no loose lists. Each has n beside its lists, as the
 // caller gives it: the weights have n rows of n.
-ghost use Rattle.std.specs.Prelude.{◌≡◌};
-ghost use Rattle.kept.specs.Kept.{kept_zones};
 ghost use Rattle.account.specs.Steps.{Sized, Valued, Weighted, Job, ClassJob};
 
 // The values of n zones.
@@ -29,14 +27,6 @@ pub(super) struct ClassLists<'a> {
     pub(super) weights: &'a [u8],
     pub(super) classes: &'a [u8],
     ghost good: { ClassJob values.now weights.now classes.now n },
-}
-
-// A job with the zones that are kept of it.
-#[derive(Clone, Copy)]
-pub(super) struct KeptLists<'a, 'b, 'c> {
-    pub(super) job: JobLists<'a, 'b>,
-    pub(super) zones: &'c [u8],
-    ghost kept: { zones.now ≡ kept_zones job.n job.weights.now },
 }
 
 // The deviations of n zones, and the weights between them.
