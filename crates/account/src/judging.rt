@@ -11,7 +11,7 @@ ghost use Rattle.account.specs.Classes.{class_rules, class_lengths};
 ghost use Rattle.account.specs.Rank.{rank_refusal};
 ghost use Rattle.account.specs.Steps.{Zones, gathered, Finds};
 
-use crate::lists::ZoneValues;
+use crate::lists::{Summed, ZoneValues};
 use crate::{deviations, differences, keeping};
 use judges::Places;
 use refusals::Refusal;
@@ -38,7 +38,7 @@ pub(super) fn judge_spread(list: &ZoneValues) -> Result<(), Refusal>
         ((is_zero (spread_of (at list.now.values.now) list.now.n), 7) ∷ []) }
 {
     let total = deviations::total(list);
-    if differences::spread(list, total) == 0 {
+    if differences::spread(&Summed { list: *list, total }) == 0 {
         return Err(Refusal::Spreadless);
     }
     Ok(())

@@ -5,7 +5,7 @@ ghost use Rattle.account.specs.Measures.{weight_of};
 ghost use Rattle.account.specs.Answers.{listed, zones_figures};
 ghost use Rattle.account.specs.Steps.{Weighted, zones_locals};
 
-use crate::lists::{JobLists, Weighed, ZoneValues};
+use crate::lists::{JobLists, Summed, Weighed, ZoneValues};
 use crate::{Sums, deviations, differences};
 
 // W, in 32 bits, so that the compiler can add several weights at a time.
@@ -29,9 +29,10 @@ pub(super) fn zone_sums(job: &JobLists, locals: &mut [i64]) -> Sums
     let JobLists { n, values, weights } = *job;
     let list = ZoneValues { n, values };
     let total = deviations::total(&list);
-    let spread = differences::spread(&list, total);
+    let summed = Summed { list, total };
+    let spread = differences::spread(&summed);
     let mut d: [i64; 64] = [0; 64];
-    deviations::deviations(&list, total, &mut d[..n]);
+    deviations::deviations(&summed, &mut d[..n]);
     let weighed = Weighed {
         n,
         weights,

@@ -7,21 +7,14 @@ use lib.Seq.{length-take-le}
 use mir.Syntax.{w64}
 use Rattle.whole.specs.Table.{table, at}
 use Rattle.whole.proofs.Lists.{front, front_le, front_length}
-use Rattle.whole.proofs.Machine.{rd, r64}
+use Rattle.whole.proofs.Machine.{rd}
 use Rattle.whole.proofs.Table.{table_length}
-use Rattle.account.specs.Measures.{total_of, deviation_of}
+use Rattle.account.specs.Measures.{deviation_of}
 use Rattle.account.specs.Steps.{zones_locals}
-use Rattle.account.proofs.Locals.{total_told, spread_told, weight_told, cross_told, squares_told, same_figures}
+use Rattle.account.proofs.Locals.{total_held, spread_told, weight_told, cross_told, squares_told, same_figures}
 use Rattle.account.proofs.Locals.{deviations_sized, locals_are, locals_sized, locals_cross}
 use Rattle.account.proofs.working.zone_sums.Goals as goal
-use Rattle.account.proofs.working.zone_sums.Goals.{After-deviations, After-local_numerators, After-total-total, Start}
-
--- S as it is handed on
-summed :
-    (c : After-total-total) →
-    let a = c.args in
-    r64 c.total-total.result ≡ total_of (at a.job.now.values.now) a.job.now.n
-summed c = (rd w64 (total_told _ _ c.args.job.now.good.valued c.total-total.ensures) tt).same
+use Rattle.account.proofs.working.zone_sums.Goals.{After-deviations, After-local_numerators, Start}
 
 -- the deviations of the job, as the array's front holds them
 module _ (c : After-deviations) where
@@ -37,8 +30,8 @@ module _ (c : After-deviations) where
 pub invariant_of-list : goal.invariant_of-list
 invariant_of-list c = record { valued = c.args.job.now.good.valued }
 
-pub spread-spread-requires : goal.spread-spread-requires
-spread-spread-requires c = summed ((goal.at.spread-spread-requires c).After-total-total)
+pub invariant_of-summed : goal.invariant_of-summed
+invariant_of-summed c = record { summed = total_held _ _ c.args.job.now.good.valued c.total-total.ensures }
 
 pub slice_bounds-d-end : goal.slice_bounds-d-end
 slice_bounds-d-end c = c.args.job.now.good.valued.zones
@@ -47,11 +40,7 @@ pub slice_bounds-deviations-end : goal.slice_bounds-deviations-end
 slice_bounds-deviations-end c = sym (length-take-le _ _ c.args.job.now.good.valued.zones)
 
 pub deviations-requires : goal.deviations-requires
-deviations-requires c =
-    let v = c.args.job.now.good.valued in record {
-      total_value = summed ((goal.at.deviations-requires c).After-total-total);
-      d_len = length-take-le _ _ v.zones;
-    }
+deviations-requires c = length-take-le _ _ c.args.job.now.good.valued.zones
 
 pub slice_bounds-d-end-2 : goal.slice_bounds-d-end-2
 slice_bounds-d-end-2 c =
@@ -95,7 +84,7 @@ returns c =
     let r = job.good in
     let locals = held ((goal.at.returns c).After-local_numerators) in record {
       result_value = same_figures job.n job.values.now job.weights.now _ _ _ _ _
-          (summed ((goal.at.returns c).After-total-total))
+          (total_held _ _ r.valued c.total-total.ensures)
           (rd w64 (spread_told _ _ r.valued c.spread-spread.ensures) tt).same
           (rd w64 (weight_told _ _ r.weighted c.weight_sum-weight.ensures) tt).same
           (rd w64 (cross_told _ _ _ r (c.sum_of-cross.ensures ∙ locals_cross _ _ _ r _ locals)) tt).same
