@@ -112,6 +112,7 @@ pub(super) fn nine_together(rows: &[i64], place: usize) -> i64
     requires by_index { (k : ℕ) → k < 9 → nat_abs (at rows.now (k * 3 + place)) ≤ 94371840000000000 }
     ensures { result ≡ sum (λ k. at rows.now (k * 3 + place)) 9 }
 {
+    // by a loop: for a signed sum at the end of a chain the check finds no bound
     let mut acc: i64 = 0;
     for k in 0..9 {
         acc += rows[k * 3 + place];

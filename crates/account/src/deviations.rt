@@ -11,6 +11,7 @@ use crate::lists::{self, Summed, Weighed, ZoneValues};
 pub(super) fn total(list: &ZoneValues) -> i64
     ensures { result ≡ total_of (at list.now.values.now) list.now.n }
 {
+    // by a loop, as all sums here: for a signed sum at the end of a chain the check finds no bound
     let mut acc: i64 = 0;
     for x in list.values {
         acc += i64::from(*x);
@@ -42,7 +43,7 @@ pub(super) fn neighbour_sum(weighed: &Weighed, i: usize) -> i64
     let d = weighed.d;
     let row = lists::row(weighed.weights, weighed.n, i);
     let mut acc: i64 = 0;
-    // by j: a zip of the two costs a tenth more where there are few zones
+    // by j, as measured: a zip of the two takes a tenth longer where there are few zones
     for (j, weight) in row.iter().enumerate() {
         acc += i64::from(*weight) * d[j];
     }
@@ -56,6 +57,7 @@ pub(super) fn local_numerators(weighed: &Weighed, locals: &mut [i64])
         ≡ table (local_of (pair_at weighed.now.weights.now weighed.now.n) (at weighed.now.d.now) weighed.now.n) weighed.now.n }
 {
     let d = weighed.d;
+    // by place: of a zip over iter_mut no proof knows what it wrote
     for (i, local) in locals.iter_mut().enumerate() {
         let neighbours = neighbour_sum(weighed, i);
         *local = d[i] * neighbours;

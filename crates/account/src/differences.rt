@@ -21,6 +21,7 @@ pub(super) fn squared_difference(a: i32, b: i32) -> i64
 pub(super) fn square_sum(list: &ZoneValues) -> i64
     ensures { result ≡ sum (λ i. square (at list.now.values.now i)) list.now.n }
 {
+    // by a loop, as all sums here: for a signed sum at the end of a chain the check finds no bound
     let mut acc: i64 = 0;
     for value in list.values {
         let x = i64::from(*value);
@@ -50,7 +51,7 @@ pub(super) fn row_squares(job: &JobLists, i: usize) -> i64
     let own = values[i];
     let row = lists::row(job.weights, job.n, i);
     let mut acc: i64 = 0;
-    // by j: a zip of the two is compiled to products of vectors, which take half as long again
+    // by j, as measured: a zip of the two is compiled to products of vectors, and takes half as long again
     for (j, weight) in row.iter().enumerate() {
         acc += i64::from(*weight) * squared_difference(own, values[j]);
     }

@@ -13,6 +13,7 @@ use std::cmp::Ordering;
 pub(super) fn cross_sum(weighed: &Weighed) -> i64
     ensures { result ≡ cross_held weighed.now.weights.now weighed.now.n weighed.now.d.now }
 {
+    // by a loop: for a signed sum at the end of a chain the check finds no bound
     let mut acc: i64 = 0;
     for (i, deviation) in weighed.d.iter().enumerate() {
         let neighbours = deviations::neighbour_sum(weighed, i);

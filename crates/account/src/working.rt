@@ -1,5 +1,5 @@
 // The work on zones all of which count: the sums over their pairs, and all sums.
-ghost use Rattle.std.specs.Prelude.{◌≡◌, length};
+ghost use Rattle.std.specs.Prelude.{◌≡◌, ◌≤◌, length, sum};
 ghost use Rattle.whole.specs.Table.{pair_at};
 ghost use Rattle.account.specs.Measures.{weight_of};
 ghost use Rattle.account.specs.Answers.{listed, zones_figures};
@@ -8,16 +8,20 @@ ghost use Rattle.account.specs.Steps.{Weighted, zones_locals};
 use crate::lists::{JobLists, Summed, Weighed, ZoneValues};
 use crate::{Sums, deviations, differences};
 
-// W, in 32 bits, so that the compiler can add several weights at a time.
+// The sum of up to 64 × 64 numbers, in 32 bits, so that the compiler can add several at a time.
+fn added(numbers: &[u8]) -> u32
+    requires { length numbers.now ≤ 4096 }
+    ensures { result ≡ sum numbers.now }
+{
+    numbers.iter().map(|number| u32::from(*number)).sum()
+}
+
+// W.
 pub(super) fn weight_sum(n: usize, weights: &[u8]) -> i64
     requires { Weighted weights.now n }
     ensures { result ≡ weight_of (pair_at weights.now n) n }
 {
-    let mut acc: u32 = 0;
-    for weight in weights {
-        acc += u32::from(*weight);
-    }
-    i64::from(acc)
+    i64::from(added(weights))
 }
 
 // The sums of n zones, with their local numerators in `locals`.
