@@ -1,70 +1,35 @@
--- What a judge found: a number, or the zones kept, which `keep` left at the front of a list. Assumes nothing.
-use mathlib.Core.Path.{◌≡◌, refl, sym, ap, ◌∙◌, subst}
+-- What the judge of a job finds: the zones kept, which `keep` leaves at the front of a list, and the number of 3 to 7. Assumes nothing.
+use mathlib.Core.Path.{◌≡◌, refl, sym, ap, ◌∙◌}
 use mathlib.Core.Bool.{Bool}
 use Rattle.std.proofs.Common.{Result, Ok, Err}
 use mathlib.Core.List.{List, [], ◌∷◌}
-use Prim.Native.Nat.{ℕ, ◌*◌, ◌≤◌, ◌<◌}
-use native.Mathlib.Decide.{dec_lt}
+use Prim.Native.Nat.{ℕ, ◌*◌, ◌≤◌}
 use native.Mathlib.Omega.{arith}
 use lib.Dec.{eqb}
 use lib.IntN.{ℤ}
 use lib.ListN.{length, get_or, take, drop}
-use lib.Seq.{take_all}
 use Rattle.whole.specs.Integer.{is_zero}
 use Rattle.whole.specs.Rules.{first_broken}
 use Rattle.whole.specs.Table.{at, over}
 use Rattle.whole.proofs.Lists.{front, front_le}
 use Rattle.whole.proofs.Rules.{first_here, first_next, worked_when_taken}
 use Rattle.refusals.specs.declared.Refusal.{Refusal}
-use Rattle.refusals.specs.Refusals.{number_by}
 use Rattle.kept.specs.Kept.{kept_zones, kept_count, kept_values}
 use Rattle.kept.specs.Answers.{many_in, keep_refusal, keep_many, keep_left}
 use Rattle.kept.proofs.KeptZones.{zones_length}
 use Rattle.kept.proofs.Sized.{let_in}
 use Rattle.account.specs.Measures.{spread_of}
 use Rattle.account.specs.Refusals.{list_rules, job_spread, sum_rules, job_rules}
-use Rattle.account.specs.Steps.{Valued, Zones, gathered, Finds}
+use Rattle.account.specs.Steps.{Zones, gathered, Judged}
 use Rattle.account.proofs.Accepted.{Lawful}
 use Rattle.account.proofs.KeptJob.{six_by_count}
 use Rattle.account.proofs.KeptLists.{zones_are, values_gathered}
-
--- ---- what is found of a call, by its number
-module _ (n : ℕ) (weights : List ℕ) {refusal : ℕ} (left : List ℕ) where
-  -- where there is one, nothing is said of the zones
-  pub by_number : (e : Refusal) → number_by e ≡ refusal → Finds n weights refusal left (Err e)
-  by_number e h = record { number = h; many = tt; front = tt }
-
-  -- what was found of the job is found of the call, where it has the job's number
-  pub as_job : {job : ℕ} (r : Result ℕ Refusal) → job ≡ refusal → Finds n weights job left r → Finds n weights refusal left r
-  as_job r e f = subst (λ k. Finds n weights k left r) e f
-
-  -- and where the job has none, its zones are the call's
-  pub with_zones : {job : ℕ} (many : ℕ) → Finds n weights job left (Ok many) → 0 ≡ refusal → Finds n weights refusal left (Ok many)
-  with_zones many f e = record { number = e; many = f.many; front = f.front }
 
 -- ---- the zones kept, as many as there are, at the front of a list
 pub record Left (n : ℕ) (weights left : List ℕ) (many : ℕ) : Type 0 where
   pub as_many : many ≡ kept_count n weights
   pub zones : take many left ≡ kept_zones n weights
   pub room : many ≤ length left
-
--- a front that is so long fits into the list
-front_fits : (l : List ℕ) (k : ℕ) → length (take k l) ≡ k → k ≤ length l
-front_fits l k e = pick (dec_lt (length l) k)
-  where
-    pick : Dec (length l < k) → k ≤ length l
-    pick (yes h) = let all = ap length (take_all k l (omega arith)) in omega arith
-    pick (no h) = omega arith
-
--- so a judge that refuses nothing has left them
-pub found_left :
-    {n : ℕ} {weights : List ℕ} {refusal : ℕ} {left : List ℕ} {many : ℕ} → Finds n weights refusal left (Ok many) →
-    Left n weights left many
-found_left {n} {weights} {refusal} {left} {many} f = record {
-  as_many = f.many;
-  zones = f.front;
-  room = front_fits left many (ap length f.front ∙ zones_length n weights ∙ sym f.many);
-}
 
 -- what `keep` answers and leaves, where it is lent the weights of n zones and 64 places: it refuses nothing
 module _
@@ -107,11 +72,11 @@ module _ (n : ℕ) (values : List ℤ) (weights : List ℕ) where
   by_lists r e some = first_here (sum_rules n values weights) (list_rules n values weights) r e some
 
   module _ (good : Lawful n values weights) (zones : List ℕ) (e : zones ≡ kept_zones n weights) where
-    -- what the judge of the sums asks for
-    pub sums_asked : length values ≡ n → Valued values (length values) × Zones zones (length values)
-    sums_asked l = rw (l, e) (good.valued, zones_are n weights good.valued.zones)
+    -- what is known of the job and of them
+    pub rise : Zones zones n
+    rise = rw e (zones_are n weights good.valued.zones)
 
-    -- and what it answers
+    -- what the judge of the sums answers
     sums_are : judged (eqb (length zones) 0) (gathered values zones) (length zones) ≡ first_broken (sum_rules n values weights)
     unfolding job_spread
     sums_are =
@@ -129,3 +94,9 @@ module _ (n : ℕ) (values : List ℤ) (weights : List ℕ) where
     unfolding job_rules
     by_sums none r q =
         q ∙ sums_are ∙ first_next (sum_rules n values weights) 0 (list_rules n values weights) (tt, (tt, (tt, tt))) none
+
+-- ---- what is worked of a job that a judge hands on is worked of the job that it judged
+pub as_judged :
+    {n m : ℕ} {values x : List ℤ} {weights w : List ℕ} → Judged n values weights m x w → {B : Type 0} (f : ℕ → List ℤ → List ℕ → B) →
+    {worked : B} → worked ≡ f m x w → worked ≡ f n values weights
+as_judged j f told = rw (sym j.zones, sym j.of_values, sym j.of_weights) told

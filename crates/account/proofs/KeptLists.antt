@@ -9,6 +9,9 @@ use borrow.Author.Tests.{lt-ltb, le-ltb, eq-eqb, ne_eqb}
 use lib.Dec.{eqb, ltb}
 use lib.IntN.{ℤ, pos}
 use lib.ListN.{length, get_or}
+use Rattle.std.specs.List.{slice_get}
+use Rattle.std.specs.Option.{unwrap_or}
+use Rattle.std.proofs.lemmas.Option.{unwrap_or-slice_get}
 use Rattle.whole.specs.Order.{lacks}
 use Rattle.whole.specs.Search.{count}
 use Rattle.whole.specs.Table.{table, table_rows, at, pair_at}
@@ -23,6 +26,17 @@ use Rattle.kept.proofs.KeptShuffle.{as_many}
 use Rattle.kept.proofs.Passing.{Stands, place_below, nth_stands, passing_cong}
 use Rattle.account.specs.Steps.{Zones, gathered, gathered_pairs, place_in, at_place, placed_number}
 
+-- ---- what is read of a list at some zones is the table of it
+pub gathered_by :
+    {A : Type 0} (d : A) (list out : List A) (zones : List ℕ) → length out ≡ length zones →
+    ((k : ℕ) → k < length zones → slice_get out k ≡ slice_get list (get_or zones k 0)) →
+    out ≡ table (λ k. get_or list (get_or zones k 0) d) (length zones)
+gathered_by d list out zones l so =
+    is_table (λ k. get_or list (get_or zones k 0) d) (length zones) d out l
+    (λ k h.
+    sym (unwrap_or-slice_get out k d) ∙ ap (λ o. unwrap_or o d) (so k h) ∙ unwrap_or-slice_get list (get_or zones k 0) d)
+
+-- ---- the lists of the kept zones
 module _ (n : ℕ) (weights : List ℕ) where
   abbrev m : ℕ
   m = kept_count n weights

@@ -1,6 +1,6 @@
 -- What the work on the zones kept makes of its lists: those that are gathered are a job and shuffles of the zones kept, and
 -- what is worked of them is the job's. Where all are kept the lists are the job's own. Assumes nothing.
-use mathlib.Core.Path.{◌≡◌, refl, sym, ap, ◌∙◌, subst}
+use mathlib.Core.Path.{◌≡◌, refl, ap, ◌∙◌}
 use mathlib.Core.List.{List}
 use Prim.Native.Nat.{ℕ, ◌*◌, ◌≤◌, ◌<◌}
 use native.Mathlib.Nat as N
@@ -10,7 +10,6 @@ use lib.IntN.{ℤ, pos}
 use lib.ListN.{length, get_or}
 use Rattle.whole.specs.Search.{count}
 use Rattle.whole.specs.Table.{table, table_rows, at, pair_at}
-use Rattle.whole.proofs.Lists.{few}
 use Rattle.whole.proofs.Table.{table_length, table_held, table_cong}
 use Rattle.kept.specs.Kept.{kept_zones, kept_count, kept_values, kept_pairs, kept_shuffles, put_back}
 use Rattle.kept.proofs.KeptZones.{zones_length, kept_few, put_back_cong, same_values, same_pairs}
@@ -18,10 +17,10 @@ use Rattle.kept.proofs.KeptShuffle.{shuffle_full, shuffles_length, same_shuffles
 use Rattle.shuffles.specs.Steps.{Shuffles}
 use Rattle.account.specs.Answers.{zones_figures, zones_local, job_figures, job_locals}
 use Rattle.account.specs.Rank.{zones_rank}
-use Rattle.account.specs.Steps.{Job, Zones, gathered, gathered_pairs, place_in, at_place, placed_number, zones_locals}
+use Rattle.account.specs.Steps.{Job, gathered, gathered_pairs, place_in, at_place, placed_number, zones_locals}
 use Rattle.account.proofs.Reading.{weight_le}
 use Rattle.account.proofs.Locals.{zones_locals_length}
-use Rattle.account.proofs.KeptLists.{zones_are, values_gathered, pairs_gathered, placed_back, all_placed, shuffles_kept}
+use Rattle.account.proofs.KeptLists.{values_gathered, pairs_gathered, placed_back, all_placed, shuffles_kept}
 use Rattle.account.proofs.KeptJob.{kept_job}
 
 -- ---- the shuffles' kept numbers are shuffles of the kept zones
@@ -40,15 +39,9 @@ module _ (n : ℕ) (weights zones : List ℕ) (e : zones ≡ kept_zones n weight
   pub zones_count : length zones ≡ kept_count n weights
   zones_count = ap length e ∙ zones_length n weights
 
-  pub zones_rise : n ≤ 64 → Zones zones n
-  zones_rise most = subst (λ z. Zones z n) (sym e) (zones_are n weights most)
-
-  -- they are few, and so are their pairs
-  pub zones_few : n ≤ 64 → length zones ≤ 64
+  -- they are few
+  zones_few : n ≤ 64 → length zones ≤ 64
   zones_few most = omega (arith, zones_count, kept_few n weights, most)
-
-  pub pairs_few : n ≤ 64 → length zones * length zones ≤ 4096
-  pairs_few most = few (length zones) (zones_few most)
 
   -- the lists that are gathered
   pub values_are : (values x : List ℤ) → x ≡ gathered values zones → x ≡ kept_values n weights values
@@ -75,9 +68,6 @@ module _ (n : ℕ) (weights zones : List ℕ) (e : zones ≡ kept_zones n weight
       ∙ put_back_cong n weights numbers f same i h
 
   -- the job of the kept zones
-  pub zones_rise_in : (values : List ℤ) → Job values weights n → Zones zones (length values)
-  zones_rise_in values job = rw job.valued.near.count (zones_rise job.valued.zones)
-
   module _ (values x : List ℤ) (w : List ℕ) (p : x ≡ gathered values zones) (q : w ≡ gathered_pairs n weights zones) where
     pub gathered_job : Job values weights n → Job x w (length zones)
     gathered_job job =

@@ -1,12 +1,10 @@
 -- What the private functions ask of each other; no part of the public promise. Assumes nothing.
-use Rattle.std.specs.Prelude.{◌≡◌, cond, List, ℕ, zero, suc, ◌+◌, ◌*◌, ◌≤◌, ◌<◌, eqb, ltb, ℤ, pos, nat_abs, ◌+ℤ◌, ◌-ℤ◌, length, get_or, take, Result, IfOk}
+use Rattle.std.specs.Prelude.{◌≡◌, cond, List, ℕ, zero, suc, ◌+◌, ◌*◌, ◌≤◌, ◌<◌, eqb, ltb, ℤ, pos, nat_abs, ◌+ℤ◌, ◌-ℤ◌, length, get_or}
 use Rattle.whole.specs.Integer.{square}
 use Rattle.whole.specs.Search.{first}
 use Rattle.whole.specs.Sum.{sum}
 use Rattle.whole.specs.Table.{table, table_rows, at, pair_at}
-use Rattle.refusals.specs.declared.Refusal.{Refusal}
-use Rattle.refusals.specs.Refusals.{number_of}
-use Rattle.kept.specs.Kept.{passing, kept_zones, kept_count}
+use Rattle.kept.specs.Kept.{passing}
 use Rattle.account.specs.Measures.{deviation_of, row_of, cross_of, local_of}
 use Rattle.account.specs.Answers.{zones_local}
 use Rattle.account.specs.Classes.{class_weight, zones_class_row, zones_class_local, sum_at}
@@ -70,11 +68,11 @@ at_place places many numbers i = cond (ltb (get_or places i 0) many) (numbers (g
 abbrev pub placed_number : List ℕ → ℕ → ℕ → (ℕ → ℕ) → ℕ → ℕ
 placed_number places many n row k = get_or places (row (get_or (passing (λ p. ltb (get_or places (row p) 0) many) n) k 0)) 0
 
--- what a judge found: the number of the refusal, or how many zones are kept, which stand at the front of the list that it leaves
-pub record Finds (n : ℕ) (weights : List ℕ) (refusal : ℕ) (left : List ℕ) (r : Result ℕ Refusal) : Type 0 where
-  pub number : number_of r ≡ refusal
-  pub many : IfOk r (λ many. many ≡ kept_count n weights)
-  pub front : IfOk r (λ many. take many left ≡ kept_zones n weights)
+-- the lists of a job, as a judge that accepts them hands them on: m zones, the values x and the weights w
+pub record Judged (n : ℕ) (values : List ℤ) (weights : List ℕ) (m : ℕ) (x : List ℤ) (w : List ℕ) : Type 0 where
+  pub zones : m ≡ n
+  pub of_values : x ≡ values
+  pub of_weights : w ≡ weights
 
 -- ---- what is worked of n zones all of which count, in lists
 

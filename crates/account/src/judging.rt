@@ -1,6 +1,6 @@
-// The judges: each answers the first broken rule's refusal. A judge of 6 and 7 must find the zones kept, and leaves them in a list of its
-// caller's, so that they are found once in a call: where nothing is refused it answers how many they are.
-ghost use Rattle.std.specs.Prelude.{◌≡◌, [], ◌∷◌, ◌*◌, ◌≤◌, eqb, length};
+// The judges: each answers the first broken rule's refusal. A judge of 6 and 7 must find the zones kept, and puts them into room of its
+// caller's, so that they are found once in a call: where nothing is refused it answers the job with them.
+ghost use Rattle.std.specs.Prelude.{◌≡◌, [], ◌∷◌, ◌*◌, ◌≤◌, eqb, length, IfOk};
 ghost use Rattle.whole.specs.Integer.{is_zero};
 ghost use Rattle.whole.specs.Rules.{first_broken};
 ghost use Rattle.whole.specs.Table.{at};
@@ -9,10 +9,11 @@ ghost use Rattle.account.specs.Measures.{spread_of};
 ghost use Rattle.account.specs.Refusals.{list_rules, job_rules, call_rules, job_refusal};
 ghost use Rattle.account.specs.Classes.{class_rules, class_lengths};
 ghost use Rattle.account.specs.Rank.{rank_refusal};
-ghost use Rattle.account.specs.Steps.{Zones, gathered, Finds};
+ghost use Rattle.account.specs.Steps.{gathered, Judged};
 
-use crate::lists::{Summed, ZoneValues};
-use crate::{deviations, differences, keeping};
+use crate::keeping::KeptLists;
+use crate::lists::{JobLists, Summed, ZoneValues};
+use crate::{deviations, differences};
 use judges::Places;
 use refusals::Refusal;
 
@@ -45,22 +46,27 @@ pub(super) fn judge_spread(list: &ZoneValues) -> Result<(), Refusal>
 }
 
 // 6 where no zone is kept, 7 where the values of those kept do not vary. Where all are kept these are the values lent, and need no copy.
-pub(super) fn judge_sums(list: &ZoneValues, zones: &[u8]) -> Result<(), Refusal>
-    requires { Zones zones.now list.now.n }
-    ensures { number_of result ≡ first_broken ((eqb (length zones.now) 0, 6)
-        ∷ (is_zero (spread_of (at (gathered list.now.values.now zones.now)) (length zones.now)), 7)
+pub(super) fn judge_sums(kept: &KeptLists) -> Result<(), Refusal>
+    ensures { number_of result ≡ first_broken ((eqb (length kept.now.zones.now) 0, 6)
+        ∷ (
+          is_zero (spread_of (at (gathered kept.now.job.values.now kept.now.zones.now))
+              (length kept.now.zones.now)),
+          7,
+        )
         ∷ []) }
 {
+    let KeptLists { job, zones } = *kept;
+    let JobLists { n, values, .. } = job;
     let many = zones.len();
     if many == 0 {
         return Err(Refusal::Weightless);
     }
-    if many == list.n {
-        return judge_spread(list);
+    if many == n {
+        return judge_spread(&ZoneValues { n, values });
     }
     let mut space: [i32; 64] = [0; 64];
     let kept_values = &mut space[..many];
-    keeping::gather_values(list.values, zones, kept_values);
+    kept.gather(values, kept_values);
     judge_spread(&ZoneValues {
         n: many,
         values: kept_values,
@@ -68,35 +74,40 @@ pub(super) fn judge_sums(list: &ZoneValues, zones: &[u8]) -> Result<(), Refusal>
 }
 
 // 3 to 7, of a job whose sizes are good.
-pub(super) fn judge_job(
+pub(super) fn judge_job<'a>(
     n: usize,
-    values: &[i32],
-    weights: &[u8],
-    zones: &mut [u8; 64],
-) -> Result<usize, Refusal>
+    values: &'a [i32],
+    weights: &'a [u8],
+    zones: &'a mut [u8; 64],
+) -> Result<KeptLists<'a>, Refusal>
     requires le_n { 2 ≤ n }
     requires n_bound { n ≤ 64 }
     requires values_len { length values.now ≡ n }
     requires weights_len { length weights.now ≡ n * n }
-    ensures { Finds n weights.now (first_broken (job_rules n values.now weights.now))
-        zones.new result }
+    ensures number { number_of result ≡ first_broken (job_rules n values.now weights.now) }
+    ensures job { IfOk result (λ kept. Judged n values.now weights.now kept.job.n kept.job.values.now kept.job.weights.now) }
 {
     judge_lists(n, values, weights)?;
     let many = kept::keep(n, weights, zones)?;
-    judge_sums(&ZoneValues { n, values }, &zones[..many])?;
-    Ok(many)
+    let kept = KeptLists {
+        job: JobLists { n, values, weights },
+        zones: &zones[..many],
+    };
+    judge_sums(&kept)?;
+    Ok(kept)
 }
 
 // 1 to 7: the refusal of the account. What the n lent places hold is not judged, so their number is all that is asked for.
-pub(super) fn judge_account(
+pub(super) fn judge_account<'a>(
     n: usize,
-    values: &[i32],
-    weights: &[u8],
+    values: &'a [i32],
+    weights: &'a [u8],
     places: usize,
-    zones: &mut [u8; 64],
-) -> Result<usize, Refusal>
-    ensures { Finds n weights.now
-        (first_broken (call_rules n values.now weights.now ((places, n) ∷ []) [])) zones.new result }
+    zones: &'a mut [u8; 64],
+) -> Result<KeptLists<'a>, Refusal>
+    ensures number { number_of result
+        ≡ first_broken (call_rules n values.now weights.now ((places, n) ∷ []) []) }
+    ensures job { IfOk result (λ kept. Judged n values.now weights.now kept.job.n kept.job.values.now kept.job.weights.now) }
 {
     judges::judge_lent(
         n,
@@ -119,19 +130,20 @@ pub fn judge(n: usize, values: &[i32], weights: &[u8]) -> Result<(), Refusal>
 }
 
 // 1 to 7, then 9: the class account's refusal.
-pub(super) fn judge_classes(
+pub(super) fn judge_classes<'a>(
     n: usize,
-    values: &[i32],
-    weights: &[u8],
+    values: &'a [i32],
+    weights: &'a [u8],
     classes: &[u8],
     rows: usize,
     class_locals: usize,
     locals: usize,
-    zones: &mut [u8; 64],
-) -> Result<usize, Refusal>
-    ensures { Finds n weights.now
-        (first_broken (class_rules n values.now weights.now classes.now
-        (class_lengths n rows class_locals locals))) zones.new result }
+    zones: &'a mut [u8; 64],
+) -> Result<KeptLists<'a>, Refusal>
+    ensures number { number_of result
+        ≡ first_broken (class_rules n values.now weights.now classes.now
+        (class_lengths n rows class_locals locals)) }
+    ensures job { IfOk result (λ kept. Judged n values.now weights.now kept.job.n kept.job.values.now kept.job.weights.now) }
 {
     judges::judge_lent(
         n,
@@ -144,23 +156,23 @@ pub(super) fn judge_classes(
             (locals, Places::Zones),
         ],
     )?;
-    let many = judge_job(n, values, weights, zones)?;
+    let kept = judge_job(n, values, weights, zones)?;
     if judges::any_above(8, classes) {
         return Err(Refusal::Class);
     }
-    Ok(many)
+    Ok(kept)
 }
 
 // 1 to 7, then 13: the rank's refusal. The rows of the list of shuffles are judged before the job, and what they name after it.
-pub(super) fn judge_rank(
+pub(super) fn judge_rank<'a>(
     n: usize,
-    values: &[i32],
-    weights: &[u8],
+    values: &'a [i32],
+    weights: &'a [u8],
     shuffles: &[u8],
-    zones: &mut [u8; 64],
-) -> Result<usize, Refusal>
-    ensures { Finds n weights.now
-        (rank_refusal n values.now weights.now shuffles.now) zones.new result }
+    zones: &'a mut [u8; 64],
+) -> Result<KeptLists<'a>, Refusal>
+    ensures number { number_of result ≡ rank_refusal n values.now weights.now shuffles.now }
+    ensures job { IfOk result (λ kept. Judged n values.now weights.now kept.job.n kept.job.values.now kept.job.weights.now) }
 {
     judges::judge_lent(
         n,
@@ -170,7 +182,7 @@ pub(super) fn judge_rank(
         ],
     )?;
     shuffles::judge_rows(n, shuffles)?;
-    let many = judge_job(n, values, weights, zones)?;
+    let kept = judge_job(n, values, weights, zones)?;
     shuffles::judge_shuffles(n, shuffles)?;
-    Ok(many)
+    Ok(kept)
 }

@@ -1,64 +1,63 @@
 // The job of the zones kept: its lists are gathered, and what is worked of a zone is put back at it.
-ghost use Rattle.std.specs.Prelude.{◌≡◌, ◌*◌, ◌+◌, ◌≤◌, ◌<◌, ltb, length, get_or};
+ghost use Rattle.std.specs.Prelude.{◌≡◌, ◌*◌, ◌+◌, ◌≤◌, ◌<◌, ltb, length, get_or, slice_get, ℕ};
 ghost use Rattle.whole.specs.Search.{count};
 ghost use Rattle.whole.specs.Table.{table, table_rows, at, pair_at};
+ghost use Rattle.kept.specs.Kept.{kept_zones};
 ghost use Rattle.account.specs.Steps.{Zones, gathered, gathered_pair, gathered_pairs, place_in, at_place, placed_number};
 
-use crate::lists::{ShuffleRow, ShuffleRows};
+use crate::lists::{JobLists, ShuffleRow, ShuffleRows};
 
-// The values of some zones.
-pub(super) fn gather_values(values: &[i32], zones: &[u8], out: &mut [i32])
-    requires zones { Zones zones.now (length values.now) }
-    requires out_len { length out.old ≡ length zones.now }
-    ensures { out.new ≡ gathered values.now zones.now }
-{
-    for (k, value) in out.iter_mut().enumerate() {
-        let zone = usize::from(zones[k]);
-        *value = values[zone];
-    }
+// A job with the zones that are kept of it, rising.
+#[derive(Clone, Copy)]
+pub(super) struct KeptLists<'a> {
+    pub(super) job: JobLists<'a, 'a>,
+    pub(super) zones: &'a [u8],
+    ghost kept: { zones.now ≡ kept_zones job.n job.weights.now },
+    ghost rising: { Zones zones.now job.n },
 }
 
-// What one row of a list that has a row of n for each zone holds of some zones.
-pub(super) fn gather_row(n: usize, pairs: &[u8], zone: usize, zones: &[u8], out: &mut [u8])
-    requires zones { Zones zones.now n }
-    requires pairs_len { length pairs.now ≡ n * n }
-    requires zone_lt_n { zone < n }
-    requires out_len { length out.old ≡ length zones.now }
-    ensures { out.new
-        ≡ table (gathered_pair n pairs.now zones.now zone) (length zones.now) }
-{
-    let first = zone * n;
-    let row = &pairs[first..first + n];
-    for (k, pair) in out.iter_mut().enumerate() {
-        let other = usize::from(zones[k]);
-        *pair = row[other];
+impl KeptLists<'_> {
+    // What a list that has an entry for each zone holds of the zones kept.
+    pub(super) fn gather<T: Copy>(&self, list: &[T], out: &mut [T])
+        requires list_len { length list.now ≡ self.now.job.n }
+        requires out_len { length out.old ≡ length self.now.zones.now }
+        ensures { (k : ℕ) → k < length self.now.zones.now → slice_get out.new k
+            ≡ slice_get list.now (get_or self.now.zones.now k 0) }
+    {
+        let zones = self.zones;
+        // by place: of a zip over iter_mut no proof knows what it wrote
+        for (k, entry) in out.iter_mut().enumerate() {
+            let zone = usize::from(zones[k]);
+            *entry = list[zone];
+        }
     }
-}
 
-// What a list that has a row of n for each zone holds of the pairs of some zones.
-pub(super) fn gather_pairs(n: usize, pairs: &[u8], zones: &[u8], out: &mut [u8])
-    requires zones { Zones zones.now n }
-    requires pairs_len { length pairs.now ≡ n * n }
-    requires out_len { length out.old ≡ length zones.now * length zones.now }
-    ensures { out.new ≡ gathered_pairs n pairs.now zones.now }
-{
-    let many = zones.len();
-    for (k, zone) in zones.iter().enumerate() {
-        let zone = usize::from(*zone);
-        let first = k * many;
-        gather_row(n, pairs, zone, zones, &mut out[first..first + many]);
+    // What a list that has a row for each zone holds of the pairs of the zones kept.
+    pub(super) fn gather_pairs(&self, pairs: &[u8], out: &mut [u8])
+        requires pairs_len { length pairs.now ≡ self.now.job.n * self.now.job.n }
+        requires out_len { length out.old ≡ length self.now.zones.now * length self.now.zones.now }
+        ensures { out.new ≡ gathered_pairs self.now.job.n pairs.now self.now.zones.now }
+    {
+        let n = self.job.n;
+        let many = self.zones.len();
+        for (k, zone) in self.zones.iter().enumerate() {
+            let from = usize::from(*zone) * n;
+            let row = &pairs[from..from + n];
+            let first = k * many;
+            self.gather(row, &mut out[first..first + many]);
+        }
     }
-}
 
-// The place of each zone among those in the list; one that does not stand there has the list's length.
-pub(super) fn find_places(zones: &[u8], places: &mut [u8])
-    requires { Zones zones.now (length places.old) }
-    ensures { places.new ≡ table (place_in zones.now) (length places.old) }
-{
-    // no From leads here from a usize; a place is at most 64
-    places.fill(zones.len() as u8);
-    for (k, zone) in zones.iter().enumerate() {
-        places[usize::from(*zone)] = k as u8;
+    // The place of each zone among those kept; one that is left out has their number.
+    pub(super) fn find_places(&self, places: &mut [u8])
+        requires { length places.old ≡ self.now.job.n }
+        ensures { places.new ≡ table (place_in self.now.zones.now) self.now.job.n }
+    {
+        // from a usize, twice: TryFrom and an unwrap is no plainer, and a place is at most 64
+        places.fill(self.zones.len() as u8);
+        for (k, zone) in self.zones.iter().enumerate() {
+            places[usize::from(*zone)] = k as u8;
+        }
     }
 }
 
@@ -68,6 +67,7 @@ pub(super) fn put_back(places: &[u8], numbers: &[i64], out: &mut [i64])
     ensures { out.new
         ≡ table (at_place places.now (length numbers.now) (at numbers.now)) (length places.now) }
 {
+    // by place, as above
     for (i, number) in out.iter_mut().enumerate() {
         let place = usize::from(places[i]);
         *number = numbers.get(place).copied().unwrap_or(0);

@@ -9,7 +9,8 @@ ghost use Rattle.account.specs.Classes.{class_sums, class_locals_of};
 ghost use Rattle.account.specs.Rank.{zones_rank, three};
 ghost use Rattle.account.specs.Steps.{ClassJob, gathered, gathered_pairs, place_in};
 
-use crate::lists::{ClassLists, JobLists, KeptLists, ShuffleRows};
+use crate::keeping::KeptLists;
+use crate::lists::{ClassLists, JobLists, ShuffleRows};
 use crate::{Counts, Sums, classes, keeping, ranking, working};
 
 // The job of the zones kept, and the place of each zone of the whole job among them.
@@ -33,15 +34,14 @@ fn gather<'a>(
     ensures places { result.places.now ≡ table (place_in kept.now.zones.now) kept.now.job.n }
 {
     let KeptLists { job, zones } = *kept;
-    let JobLists { n, values, weights } = job;
     let many = zones.len();
     let pairs = many * many;
     let kept_values = &mut value_space[..many];
-    keeping::gather_values(values, zones, kept_values);
+    kept.gather(job.values, kept_values);
     let kept_weights = &mut weight_space[..pairs];
-    keeping::gather_pairs(n, weights, zones, kept_weights);
-    let places = &mut place_space[..n];
-    keeping::find_places(zones, places);
+    kept.gather_pairs(job.weights, kept_weights);
+    let places = &mut place_space[..job.n];
+    kept.find_places(places);
     Gathered {
         job: JobLists {
             n: many,
@@ -52,8 +52,8 @@ fn gather<'a>(
     }
 }
 
-// The sums of a job, with its local numerators in `locals`. That a lent list has room is a clause here and below: its length is the
-// caller's, as C lends it.
+// The sums of a job, with its local numerators in `locals`. That a lent list has room is a clause here, below and of what is called here:
+// its length is the caller's, as C lends it.
 pub(super) fn job_sums(kept: &KeptLists, locals: &mut [i64]) -> Sums
     requires { length locals.old ≡ kept.now.job.n }
     ensures result_value { listed result
@@ -78,7 +78,7 @@ pub(super) fn job_sums(kept: &KeptLists, locals: &mut [i64]) -> Sums
 
 // The class account of a job.
 pub(super) fn work_classes<'a>(
-    kept: &KeptLists<'a, 'a, 'a>,
+    kept: &KeptLists<'a>,
     classes: &'a [u8],
     rows: &mut [i64],
     class_locals: &mut [i64],
@@ -110,7 +110,7 @@ pub(super) fn work_classes<'a>(
     let pairs = many * many;
     let mut class_space: [u8; 4096] = rooms::room();
     let kept_classes = &mut class_space[..pairs];
-    keeping::gather_pairs(job.n, classes, zones, kept_classes);
+    kept.gather_pairs(classes, kept_classes);
     let nine = 9 * many;
     let mut nine_space: [i64; 576] = [0; 576];
     let kept_nine = &mut nine_space[..nine];

@@ -24,7 +24,6 @@ ghost use Rattle.account.specs.Rank.{rank_refusal, rank_counts, counts_of};
 
 // What the reader and the writer of the job image judge by too.
 pub use judging::judge;
-use lists::{JobLists, KeptLists};
 use refusals::Refusal;
 
 // The whole numbers of a job.
@@ -76,12 +75,7 @@ pub fn account(
     ensures lent { locals.new ≡ account_locals n values.now weights.now locals.old }
 {
     let mut zones: [u8; 64] = [0; 64];
-    let many = judging::judge_account(n, values, weights, locals.len(), &mut zones)?;
-    let job = JobLists { n, values, weights };
-    let kept = KeptLists {
-        job,
-        zones: &zones[..many],
-    };
+    let kept = judging::judge_account(n, values, weights, locals.len(), &mut zones)?;
     Ok(kept_zones::job_sums(&kept, locals))
 }
 
@@ -110,7 +104,7 @@ pub fn class_account(
         rows.old class_locals.old locals.old }
 {
     let mut zones: [u8; 64] = [0; 64];
-    let many = judging::judge_classes(
+    let kept = judging::judge_classes(
         n,
         values,
         weights,
@@ -120,11 +114,6 @@ pub fn class_account(
         locals.len(),
         &mut zones,
     )?;
-    let job = JobLists { n, values, weights };
-    let kept = KeptLists {
-        job,
-        zones: &zones[..many],
-    };
     Ok(kept_zones::work_classes(&kept, classes, rows, class_locals, locals))
 }
 
@@ -135,12 +124,7 @@ pub fn rank(n: usize, values: &[i32], weights: &[u8], shuffles: &[u8]) -> Result
     ensures counts { counts_of result ≡ rank_counts n values.now weights.now shuffles.now }
 {
     let mut zones: [u8; 64] = [0; 64];
-    let many = judging::judge_rank(n, values, weights, shuffles, &mut zones)?;
+    let kept = judging::judge_rank(n, values, weights, shuffles, &mut zones)?;
     let rows = shuffles.len() / n;
-    let job = JobLists { n, values, weights };
-    let kept = KeptLists {
-        job,
-        zones: &zones[..many],
-    };
     Ok(kept_zones::work_rank(&kept, shuffles, rows))
 }

@@ -3,7 +3,6 @@
 ghost use Rattle.std.specs.Prelude.{◌≡◌, false, ◌*◌, ◌+◌, ◌≤◌, ◌<◌, length, get_or, take, drop};
 ghost use Rattle.whole.specs.Order.{lacks};
 ghost use Rattle.whole.specs.Table.{table, at};
-ghost use Rattle.kept.specs.Kept.{kept_zones};
 ghost use Rattle.shuffles.specs.Steps.{Shuffles};
 ghost use Rattle.account.specs.Measures.{total_of, deviation_of};
 ghost use Rattle.account.specs.Steps.{Sized, Valued, Weighted, Job, ClassJob};
@@ -47,14 +46,6 @@ pub(super) struct ClassDeviations<'a> {
     pub(super) lists: ClassLists<'a>,
     pub(super) d: &'a [i64],
     ghost worked: { d.now ≡ table (deviation_of (at lists.job.values.now) lists.job.n) lists.job.n },
-}
-
-// A job with the zones that are kept of it.
-#[derive(Clone, Copy)]
-pub(super) struct KeptLists<'a, 'b, 'c> {
-    pub(super) job: JobLists<'a, 'b>,
-    pub(super) zones: &'c [u8],
-    ghost kept: { zones.now ≡ kept_zones job.n job.weights.now },
 }
 
 // The deviations of n zones, and the weights between them.

@@ -6,7 +6,6 @@ use Rattle.whole.specs.Rules.{Rule}
 use Rattle.whole.specs.Search.{any_above}
 use Rattle.account.specs.Classes.{class_rules, class_lengths}
 use Rattle.account.proofs.Judged.{by_sizes, by_job, by_rest}
-use Rattle.account.proofs.Found.{by_number, with_zones}
 use Rattle.account.proofs.judging.judge_classes.Goals as goal
 use Rattle.account.proofs.judging.judge_classes.Goals.{Start}
 
@@ -25,28 +24,35 @@ unfolding class_rules
 returns-in_err-judge_lent c =
     let s = (goal.at.returns-in_err-judge_lent c).Start in
     let p = err_from_is_err_and c.from_residual.result c.from_residual.ensures.1 in
-    rw (p.1, p.2) (by_number _ _ _ _ (by_sizes _ _ _ (lent s) (last s) _ c.in_err-judge_lent.ensures (not_refused _)))
+    rw (p.1, p.2) (record {
+      number = by_sizes _ _ _ (lent s) (last s) _ c.in_err-judge_lent.ensures (not_refused _);
+      job = tt;
+    })
 
-pub returns-in_err-many : goal.returns-in_err-many
+pub returns-in_err-kept : goal.returns-in_err-kept
 unfolding class_rules
-returns-in_err-many c =
-    let s = (goal.at.returns-in_err-many c).Start in
-    let p = err_from_is_err_and c.from_residual-in_err-many.result c.from_residual-in_err-many.ensures.1 in
-    rw (p.1, p.2) (by_number _ _ _ _
-    (by_job _ _ _ (lent s) (last s) _ (sym c.in_ok-judge_lent.ensures) c.in_err-many.ensures.number (not_refused _)))
+returns-in_err-kept c =
+    let s = (goal.at.returns-in_err-kept c).Start in
+    let p = err_from_is_err_and c.from_residual-in_err-kept.result c.from_residual-in_err-kept.ensures.1 in
+    rw (p.1, p.2) (record {
+      number = by_job _ _ _ (lent s) (last s) _ (sym c.in_ok-judge_lent.ensures) c.in_err-kept.ensures.number (not_refused _);
+      job = tt;
+    })
 
 pub returns-then-any_above : goal.returns-then-any_above
 unfolding class_rules
 returns-then-any_above c =
-    let s = (goal.at.returns-then-any_above c).Start in
-    by_number _ _ _ _
-    (by_rest _ _ _ (lent s) (last s) _ (sym c.in_ok-judge_lent.ensures) (sym c.in_ok-many.ensures.number)
-    (rw (sym c.any_above.ensures ∙ c.if-any_above.true) refl))
+    let s = (goal.at.returns-then-any_above c).Start in record {
+      number = by_rest _ _ _ (lent s) (last s) _ (sym c.in_ok-judge_lent.ensures) (sym c.in_ok-kept.ensures.number)
+          (rw (sym c.any_above.ensures ∙ c.if-any_above.true) refl);
+      job = tt;
+    }
 
 pub returns : goal.returns
 unfolding class_rules
 returns c =
-    let s = (goal.at.returns c).Start in
-    with_zones _ _ _ _ c.in_ok-many.ensures
-    (by_rest _ _ _ (lent s) (last s) _ (sym c.in_ok-judge_lent.ensures) (sym c.in_ok-many.ensures.number)
-    (rw (sym c.any_above.ensures ∙ c.if-any_above.false) refl))
+    let s = (goal.at.returns c).Start in record {
+      number = by_rest _ _ _ (lent s) (last s) _ (sym c.in_ok-judge_lent.ensures) (sym c.in_ok-kept.ensures.number)
+          (rw (sym c.any_above.ensures ∙ c.if-any_above.false) refl);
+      job = c.in_ok-kept.ensures.job;
+    }

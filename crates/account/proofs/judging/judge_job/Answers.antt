@@ -1,11 +1,15 @@
 -- `judge_job` meets its contract: the lists' number where there is one; else `keep` finds the zones, refusing nothing, and the
 -- number of the sums is the job's. Assumes nothing.
-use Rattle.std.proofs.Common.{◌≡◌, sym, arith, List, ℕ, ℤ, Ok, Err}
+use Rattle.std.proofs.Common.{◌≡◌, refl, sym, arith, List, ℕ, eqb, ℤ, length, take, Ok, Err}
 use Rattle.std.proofs.lemmas.Result.{err_from_is_err_and}
 use Rattle.refusals.proofs.Refusals.{not_refused}
 use Rattle.refusals.specs.declared.Refusal.{Refusal}
+use Rattle.whole.specs.Rules.{first_broken}
+use Rattle.kept.specs.Kept.{kept_zones}
+use Rattle.account.specs.Refusals.{job_rules}
+use Rattle.account.specs.Steps.{Job, Zones, gathered}
 use Rattle.account.proofs.Accepted.{Lawful, lawful}
-use Rattle.account.proofs.Found.{by_number, Left, never_refused, zones_left, by_lists, sums_asked, by_sums}
+use Rattle.account.proofs.Found.{Left, judged, never_refused, zones_left, by_lists, rise, by_sums}
 use Rattle.account.proofs.judging.judge_job.Goals as goal
 use Rattle.account.proofs.judging.judge_job.Goals.{After-keep, In_ok-many, Start}
 
@@ -48,49 +52,60 @@ asked c = ((goal.at.In_ok-many c).After-keep)
 lying : (c : In_ok-many) → Left (n (asked c)) (weights (asked c)) (left (asked c)) c.in_ok-many.many
 lying c = kept (asked c) _ c.in_ok-many.was
 
+-- the job with them
+module _ (q : In_ok-many) where
+  abbrev zones : List ℕ
+  zones = take q.in_ok-many.many (left (asked q))
+
+  stands : zones ≡ kept_zones (n (asked q)) (weights (asked q))
+  stands = (lying q).zones
+
+  job : Job (values (asked q)) (weights (asked q)) (n (asked q))
+  job = let g = good (asked q) in record { valued = g.valued; weighted = g.light }
+
+  rising : Zones zones (n (asked q))
+  rising = rise (n (asked q)) (values (asked q)) (weights (asked q)) (good (asked q)) zones stands
+
+  -- its number
+  number :
+      (r : ℕ) → r ≡ judged (eqb (length zones) 0) (gathered (values (asked q)) zones) (length zones) →
+      r ≡ first_broken (job_rules (n (asked q)) (values (asked q)) (weights (asked q)))
+  number =
+      by_sums (n (asked q)) (values (asked q)) (weights (asked q)) (good (asked q)) zones stands (sym (asked q).in_ok-judge_lists.ensures)
+
 pub returns-in_err-judge_lists : goal.returns-in_err-judge_lists
 returns-in_err-judge_lists c =
     let g = c.args in
     let p = err_from_is_err_and c.from_residual.result c.from_residual.ensures.1 in
-    rw (p.1, p.2) (by_number _ _ _ _
-    (by_lists g.n g.values.now g.weights.now _ c.in_err-judge_lists.ensures (not_refused _)))
+    rw (p.1, p.2) (record {
+      number = by_lists g.n g.values.now g.weights.now _ c.in_err-judge_lists.ensures (not_refused _);
+      job = tt;
+    })
 
 pub returns-in_err-many : goal.returns-in_err-many
 returns-in_err-many c = absurd (never ((goal.at.returns-in_err-many c).After-keep) _ c.in_err-many.was)
 
-pub shared_ref_as_front-judge_sums : goal.shared_ref_as_front-judge_sums
-shared_ref_as_front-judge_sums c =
-    let o = (goal.at.shared_ref_as_front-judge_sums c).In_ok-many in
-    let k = asked o in omega (arith, (lying o).room, k.keep.auto.zones, (a k).told-zones)
+pub shared_ref_as_front-kept : goal.shared_ref_as_front-kept
+shared_ref_as_front-kept c =
+    let q = (goal.at.shared_ref_as_front-kept c).In_ok-many in
+    let k = asked q in omega (arith, (lying q).room, k.keep.auto.zones, (a k).told-zones)
 
-pub judge_sums-requires : goal.judge_sums-requires
-judge_sums-requires c =
-    let q = (goal.at.judge_sums-requires c).In_ok-many in
-    let k = asked q in
-    let all = sums_asked (n k) (values k) (weights k) (good k) _ (lying q).zones (a k).requires.values_len in
-    rw (sym (a k).requires.values_len) all.1
+pub invariant_of-kept : goal.invariant_of-kept
+invariant_of-kept c = record { good = job ((goal.at.invariant_of-kept c).In_ok-many) }
 
-pub invariant_of-judge_sums : goal.invariant_of-judge_sums
-invariant_of-judge_sums c =
-    let q = (goal.at.invariant_of-judge_sums c).In_ok-many in
-    let k = asked q in
-    let all = sums_asked (n k) (values k) (weights k) (good k) _ (lying q).zones (a k).requires.values_len in
-    record { valued = rw (sym (a k).requires.values_len) all.0 }
+pub invariant_of-kept-2 : goal.invariant_of-kept-2
+invariant_of-kept-2 c =
+    let q = (goal.at.invariant_of-kept-2 c).In_ok-many in
+    record { kept = stands q; rising = rising q }
 
 pub returns-in_err-judge_sums : goal.returns-in_err-judge_sums
 returns-in_err-judge_sums c =
     let q = (goal.at.returns-in_err-judge_sums c).In_ok-many in
-    let k = asked q in
     let p = err_from_is_err_and c.from_residual-in_err-judge_sums.result c.from_residual-in_err-judge_sums.ensures.1 in
-    rw (p.1, p.2) (by_number _ _ _ _
-    (by_sums (n k) (values k) (weights k) (good k) _ (lying q).zones (sym k.in_ok-judge_lists.ensures) _ c.in_err-judge_sums.ensures))
+    rw (p.1, p.2) (record { number = number q _ c.in_err-judge_sums.ensures; job = tt })
 
 pub returns : goal.returns
-returns c =
-    let q = (goal.at.returns c).In_ok-many in
-    let k = asked q in
-    let l = lying q in record {
-      number = by_sums (n k) (values k) (weights k) (good k) _ l.zones (sym k.in_ok-judge_lists.ensures) _ c.in_ok-judge_sums.ensures;
-      many = l.as_many;
-      front = l.zones;
-    }
+returns c = record {
+  number = number ((goal.at.returns c).In_ok-many) _ c.in_ok-judge_sums.ensures;
+  job = record { zones = refl; of_values = refl; of_weights = refl };
+}

@@ -11,7 +11,6 @@ use Rattle.account.specs.Refusals.{job_rules, job_lengths, call_rules}
 use Rattle.account.specs.Rank.{rank_rules, rank_refusal}
 use Rattle.account.proofs.Accepted.{Fitting, fitting, fitted, unfitted, also_misfits}
 use Rattle.account.proofs.Judged.{sizes_of, by_sizes, by_job, by_rest}
-use Rattle.account.proofs.Found.{by_number, with_zones}
 use Rattle.account.proofs.judging.judge_rank.Goals as goal
 use Rattle.account.proofs.judging.judge_rank.Goals.{In_ok-judge_lent, In_ok-judge_rows, Start}
 
@@ -54,10 +53,12 @@ returns-in_err-judge_lent c =
     let p = err_from_is_err_and c.from_residual.result c.from_residual.ensures.1 in
     let a = c.args in
     let lengths = job_lengths a.n (length a.values.now) (length a.weights.now) in
-    rw (p.1, p.2) (by_number _ _ _ _
-    (sizes_first a.n (lengths []) (lengths (lent s)) (job_rules a.n a.values.now a.weights.now ++ last s) _
-    (also_misfits a.n (length a.values.now) (length a.weights.now) (lent s))
-    c.in_err-judge_lent.ensures (not_refused _)))
+    rw (p.1, p.2) (record {
+      number = sizes_first a.n (lengths []) (lengths (lent s)) (job_rules a.n a.values.now a.weights.now ++ last s) _
+          (also_misfits a.n (length a.values.now) (length a.weights.now) (lent s))
+          c.in_err-judge_lent.ensures (not_refused _);
+      job = tt;
+    })
 
 pub returns-in_err-judge_rows : goal.returns-in_err-judge_rows
 unfolding rank_refusal rank_rules
@@ -67,31 +68,38 @@ returns-in_err-judge_rows c =
     let a = c.args in
     let r = rows_refused_by_2 a.n a.shuffles.now f.two f.zones _ c.in_err-judge_rows.ensures (not_refused _) in
     let p = err_from_is_err_and c.from_residual-in_err-judge_rows.result c.from_residual-in_err-judge_rows.ensures.1 in
-    rw (p.1, p.2) (by_number _ _ _ _
-    (by_sizes _ _ _ (lent s) (last s) _ (r.0 ∙ sym (unfitted _ _ _ _ (lent s) f r.1)) (not_refused _)))
+    rw (p.1, p.2) (record {
+      number = by_sizes _ _ _ (lent s) (last s) _ (r.0 ∙ sym (unfitted _ _ _ _ (lent s) f r.1)) (not_refused _);
+      job = tt;
+    })
 
-pub returns-in_err-many : goal.returns-in_err-many
+pub returns-in_err-kept : goal.returns-in_err-kept
 unfolding rank_refusal rank_rules
-returns-in_err-many c =
-    let s = (goal.at.returns-in_err-many c).Start in
-    let o = (goal.at.returns-in_err-many c).In_ok-judge_rows in
-    let p = err_from_is_err_and c.from_residual-in_err-many.result c.from_residual-in_err-many.ensures.1 in
-    rw (p.1, p.2) (by_number _ _ _ _
-    (by_job _ _ _ (lent s) (last s) _ (sizes_good o) c.in_err-many.ensures.number (not_refused _)))
+returns-in_err-kept c =
+    let s = (goal.at.returns-in_err-kept c).Start in
+    let o = (goal.at.returns-in_err-kept c).In_ok-judge_rows in
+    let p = err_from_is_err_and c.from_residual-in_err-kept.result c.from_residual-in_err-kept.ensures.1 in
+    rw (p.1, p.2) (record {
+      number = by_job _ _ _ (lent s) (last s) _ (sizes_good o) c.in_err-kept.ensures.number (not_refused _);
+      job = tt;
+    })
 
 pub returns-in_err-judge_shuffles : goal.returns-in_err-judge_shuffles
 unfolding rank_refusal rank_rules
 returns-in_err-judge_shuffles c =
     let o = (goal.at.returns-in_err-judge_shuffles c).In_ok-judge_rows in
     let p = err_from_is_err_and c.from_residual-in_err-judge_shuffles.result c.from_residual-in_err-judge_shuffles.ensures.1 in
-    rw (p.1, p.2) (by_number _ _ _ _
-    (by_rest _ _ _ (lent (s o)) (last (s o)) _ (sizes_good o) (sym c.in_ok-many.ensures.number)
-    (c.in_err-judge_shuffles.ensures ∙ listed o)))
+    rw (p.1, p.2) (record {
+      number = by_rest _ _ _ (lent (s o)) (last (s o)) _ (sizes_good o) (sym c.in_ok-kept.ensures.number)
+          (c.in_err-judge_shuffles.ensures ∙ listed o);
+      job = tt;
+    })
 
 pub returns : goal.returns
 unfolding rank_refusal rank_rules
 returns c =
-    let o = (goal.at.returns c).In_ok-judge_rows in
-    with_zones _ _ _ _ c.in_ok-many.ensures
-    (by_rest _ _ _ (lent (s o)) (last (s o)) _ (sizes_good o) (sym c.in_ok-many.ensures.number)
-    (c.in_ok-judge_shuffles.ensures ∙ listed o))
+    let o = (goal.at.returns c).In_ok-judge_rows in record {
+      number = by_rest _ _ _ (lent (s o)) (last (s o)) _ (sizes_good o) (sym c.in_ok-kept.ensures.number)
+          (c.in_ok-judge_shuffles.ensures ∙ listed o);
+      job = c.in_ok-kept.ensures.job;
+    }

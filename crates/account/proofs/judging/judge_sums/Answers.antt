@@ -7,7 +7,7 @@ use Prim.Native.Nat.{ℕ, ◌≤◌}
 use native.Mathlib.Omega.{arith}
 use borrow.Author.Tests.{eq-eqb, ne_eqb}
 use lib.Dec.{eqb}
-use lib.IntN.{ℤ}
+use lib.IntN.{ℤ, pos}
 use lib.ListN.{length, get_or}
 use lib.Seq.{length-take-le}
 use Rattle.whole.specs.Integer.{is_zero}
@@ -15,10 +15,10 @@ use Rattle.whole.specs.Rules.{first_broken}
 use Rattle.whole.specs.Table.{at}
 use Rattle.account.specs.Measures.{spread_of}
 use Rattle.account.specs.Steps.{Valued, Zones, gathered}
-use Rattle.account.proofs.KeptLists.{gathered_all}
+use Rattle.account.proofs.KeptLists.{gathered_by, gathered_all}
 use Rattle.account.proofs.Reading.{table_sized}
 use Rattle.account.proofs.judging.judge_sums.Goals as goal
-use Rattle.account.proofs.judging.judge_sums.Goals.{After-gather_values, Else-many-list, Start}
+use Rattle.account.proofs.judging.judge_sums.Goals.{After-gather, Else-many-n}
 
 module _ (values : List ℤ) (zones : List ℕ) (out : List ℤ) (e : out ≡ gathered values zones) where
   -- the values of some zones are those of zones
@@ -42,45 +42,40 @@ module _ (values : List ℤ) (zones : List ℕ) (out : List ℤ) (e : out ≡ ga
       ∙ rw six refl
 
 -- they fit into the array
-room : (c : Else-many-list) → length c.args.zones.now ≤ 64
-room c = let z = c.requires in omega (arith, z.few, z.most)
-
--- what was gathered
-module _ (c : After-gather_values) where
-  abbrev s : Start
-  s = ((goal.at.After-gather_values c).Start)
-
-  valued : Valued c.gather_values.new.out (length s.args.zones.now)
-  valued = gathered_valued _ _ _ c.gather_values.ensures _ s.args.list.now.valued s.requires
+room : (c : Else-many-n) → length c.args.kept.now.zones.now ≤ 64
+room c = let z = c.args.kept.now.rising in omega (arith, z.few, z.most)
 
 pub returns-then-many-eq0 : goal.returns-then-many-eq0
 returns-then-many-eq0 c = rw (eq-eqb _ _ c.if-many-eq0.true) refl
 
-pub returns-then-many-list : goal.returns-then-many-list
-returns-then-many-list c =
-    let list = c.args.list.now in
-    let values = list.values.now in
-    let zones = c.args.zones.now in
-    let all = gathered_all zones list.n c.requires c.if-many-list.true values list.valued.near.count in
-    by_spread values zones values (sym all) (ne_eqb _ _ c.if-many-eq0.false) _ (rw c.if-many-list.true c.judge_spread.ensures)
+pub returns-then-many-n : goal.returns-then-many-n
+returns-then-many-n c =
+    let kept = c.args.kept.now in
+    let job = kept.job in
+    let values = job.values.now in
+    let zones = kept.zones.now in
+    let all = gathered_all zones job.n kept.rising c.if-many-n.true values job.good.valued.near.count in
+    by_spread values zones values (sym all) (ne_eqb _ _ c.if-many-eq0.false) _ (rw c.if-many-n.true c.judge_spread.ensures)
 
 pub slice_bounds-space-end : goal.slice_bounds-space-end
 slice_bounds-space-end c = room c
 
 pub slice_bounds-kept_values-end : goal.slice_bounds-kept_values-end
-slice_bounds-kept_values-end c = sym (length-take-le _ _ (room ((goal.at.slice_bounds-kept_values-end c).Else-many-list)))
+slice_bounds-kept_values-end c = sym (length-take-le _ _ (room ((goal.at.slice_bounds-kept_values-end c).Else-many-n)))
 
-pub gather_values-requires : goal.gather_values-requires
-gather_values-requires c = record {
-  zones = rw c.args.list.now.valued.near.count c.requires;
-  out_len = length-take-le _ _ (room ((goal.at.gather_values-requires c).Else-many-list));
-}
+-- the values that are gathered
+values_are : (c : After-gather) → c.gather.new.out ≡ gathered c.args.kept.now.job.values.now c.args.kept.now.zones.now
+values_are c =
+    let k = c.args.kept.now in
+    let long = c.gather.auto.out ∙ length-take-le _ _ (room ((goal.at.After-gather c).Else-many-n)) in
+    gathered_by (pos 0) k.job.values.now c.gather.new.out k.zones.now long c.gather.ensures
 
-pub invariant_of-judge_spread : goal.invariant_of-judge_spread
-invariant_of-judge_spread c = record { valued = valued ((goal.at.invariant_of-judge_spread c).After-gather_values) }
+pub invariant_of-judge_spread-2 : goal.invariant_of-judge_spread-2
+invariant_of-judge_spread-2 c =
+    let kept = c.args.kept.now in
+    record { valued = gathered_valued _ _ _ (values_are ((goal.at.invariant_of-judge_spread-2 c).After-gather)) _ kept.job.good.valued kept.rising }
 
 pub returns : goal.returns
 returns c =
-    let after_gather_values = (goal.at.returns c).After-gather_values in
-    by_spread (s after_gather_values).args.list.now.values.now (s after_gather_values).args.zones.now _ c.gather_values.ensures (ne_eqb _ _
-    c.if-many-eq0.false) _ c.judge_spread-2.ensures
+    let kept = c.args.kept.now in
+    by_spread kept.job.values.now kept.zones.now _ (values_are ((goal.at.returns c).After-gather)) (ne_eqb _ _ c.if-many-eq0.false) _ c.judge_spread-2.ensures

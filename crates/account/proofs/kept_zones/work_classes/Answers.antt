@@ -6,7 +6,7 @@ use native.Mathlib.Omega.{arith}
 use lib.ListN.{length}
 use Rattle.account.proofs.AllKept.{all_figures, all_locals, all_class_sums, all_class_locals}
 use Rattle.account.proofs.KeptClasses.{Gathers, gathers, gathered_job, figures_kept, sums_kept, locals_back, class_locals_back}
-use Rattle.account.proofs.KeptWork.{zones_count, zones_rise, places_long}
+use Rattle.account.proofs.KeptWork.{zones_count, places_long}
 use Rattle.account.proofs.kept_zones.work_classes.Goals as goal
 use Rattle.account.proofs.kept_zones.work_classes.Goals.{After-gather-gathered, After-gather_pairs}
 
@@ -25,10 +25,6 @@ returns-then-zones-job c =
           ∙ sym (all_class_locals job.n job.values.now job.weights.now all valued weighted c.args.classes.now count);
       locals_after = told.locals_after ∙ sym (all_locals job.n job.values.now job.weights.now all valued weighted);
     }
-
-pub gather_pairs-requires-clause-zones : goal.gather_pairs-requires-clause-zones
-gather_pairs-requires-clause-zones c =
-    let k = c.args.kept.now in zones_rise k.job.n k.job.weights.now k.zones.now k.kept k.job.good.valued.zones
 
 -- there is a place for each zone
 placed : (c : After-gather-gathered) → length c.gather-gathered.result.places.now ≡ c.args.kept.now.job.n
