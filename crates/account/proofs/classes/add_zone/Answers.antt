@@ -116,12 +116,9 @@ module _ (t : In-loop-k) where
   each (suc zero) = (rd w64 local_is tt).same
   each (suc (suc place)) = (part_is (k * 3 + 2) 2 refl (omega arith)).same
 
-pub add_pairs-requires : goal.add_pairs-requires
+pub add_pairs-requires-clause-parts_value : goal.add_pairs-requires-clause-parts_value
 unfolding table table_rows
-add_pairs-requires c = record {
-  i_lt_n = c.requires.i_lt_n;
-  parts_value = refl;
-}
+add_pairs-requires-clause-parts_value c = refl
 
 pub bounds-work-i : goal.bounds-work-i
 bounds-work-i c =

@@ -7,9 +7,9 @@ use lib.IntN.{ℤ, nat_abs}
 use mir.Syntax.{w64}
 use Rattle.whole.specs.Sum.{sum}
 use Rattle.whole.specs.Table.{at, pair_at}
-use Rattle.whole.proofs.Machine.{rd, r64}
+use Rattle.whole.proofs.Machine.{rd}
 use Rattle.whole.proofs.Sum.{sum_cong}
-use Rattle.account.specs.Measures.{total_of, weight_of, squares_of}
+use Rattle.account.specs.Measures.{weight_of, squares_of}
 use Rattle.account.specs.Classes.{zones_class_row, sum_at}
 use Rattle.account.specs.Steps.{zones_class_sums, ClassJob}
 use Rattle.account.proofs.ByClass.{sums_at}
@@ -45,9 +45,6 @@ module _ (c : After-add_zones) where
 
   abbrev start : Start
   start = ((goal.at.After-spread-spread summing).Start)
-
-pub invariant_of-list : goal.invariant_of-list
-invariant_of-list c = record { valued = c.args.lists.now.good.job.valued }
 
 pub invariant_of-summed : goal.invariant_of-summed
 invariant_of-summed c = record { summed = total_held _ _ c.args.lists.now.good.job.valued c.total-total.ensures }

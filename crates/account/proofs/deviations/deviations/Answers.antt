@@ -28,9 +28,6 @@ module _ (c : After-from) where
       let bound = (total_runs _ _ c.args.summed.now.list.valued).bound c.args.summed.now.list.n (N.le_refl c.args.summed.now.list.n) in
       is__ (rd w64 product tt) (rd w64 (told _ 6400000 c.args.summed.now.summed bound) tt)
 
-pub loop-i-init : goal.loop-i-init
-loop-i-init c = λ k p. let z : ⊥ = omega arith in absurd z
-
 pub overflow_mul-deviation : goal.overflow_mul-deviation
 overflow_mul-deviation c = fit w64 (product c) tt
 

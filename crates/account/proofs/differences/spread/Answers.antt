@@ -9,7 +9,7 @@ use mir.Val.{to_z}
 use Rattle.whole.specs.Integer.{square}
 use Rattle.whole.specs.Sum.{sum}
 use Rattle.whole.specs.Table.{at}
-use Rattle.whole.proofs.Machine.{Is, nat, told, rd, is__, is_*, fit, fits_le, r64}
+use Rattle.whole.proofs.Machine.{Is, nat, told, rd, is__, is_*, fit, r64}
 use Rattle.whole.proofs.Pairs.{pairs_sum}
 use Rattle.account.specs.Measures.{total_of, spread_of}
 use Rattle.account.proofs.Running.{total_runs, square_runs}
@@ -44,9 +44,6 @@ module _ (c : After-square_sum-squares) where
       Is (r64 (to_z w64 n *ℤ r64 c.square_sum-squares.result) -ℤ r64 (r64 s.args.summed.now.total *ℤ r64 s.args.summed.now.total))
       (pos n *ℤ sum (λ i. square (x i)) n -ℤ square (sum x n)) 81920000000000
   difference = is__ (rd w64 first tt) (rd w64 second tt)
-
-pub overflow_cast-count : goal.overflow_cast-count
-overflow_cast-count c = fits_le w64 _ 64 (s ((goal.at.overflow_cast-count c).After-square_sum-squares)).args.summed.now.list.valued.zones tt
 
 pub overflow_mul-result : goal.overflow_mul-result
 overflow_mul-result c = fit w64 (first ((goal.at.overflow_mul-result c).After-square_sum-squares)) tt

@@ -3,9 +3,7 @@ use mathlib.Core.Path.{◌≡◌, sym, ap, ◌∙◌}
 use Prim.Native.Nat.{ℕ, ◌+◌, ◌*◌, ◌≤◌, ◌<◌}
 use native.Mathlib.Nat as N
 use native.Mathlib.Omega.{arith}
-use lib.Dec.{ltb}
 use lib.ListN.{length, get_or}
-use Rattle.whole.specs.Search.{count}
 use Rattle.whole.specs.Table.{table, pair_at}
 use Rattle.whole.proofs.Table.{table_cong}
 use Rattle.whole.proofs.TableRows.{rows_none, row_written, rows_done}

@@ -1,15 +1,14 @@
 -- `shuffle_cross` meets its contract: the zones take their deviations in a local array, whose first n places are lent. Assumes nothing.
-use mathlib.Core.Path.{◌≡◌, sym, ap, ◌∙◌, subst}
+use mathlib.Core.Path.{◌≡◌, sym, ap, ◌∙◌}
 use mathlib.Core.Bool.{false}
 use mathlib.Core.List.{List}
 use Prim.Native.Nat.{ℕ}
 use lib.IntN.{ℤ, pos}
 use lib.ListN.{length, get_or}
-use lib.Seq.{length-take-le}
 use mir.Syntax.{w64}
 use Rattle.whole.specs.Order.{lacks}
 use Rattle.whole.specs.Table.{table, at, pair_at}
-use Rattle.whole.proofs.Lists.{front, front_le, front_length}
+use Rattle.whole.proofs.Lists.{front}
 use Rattle.whole.proofs.Machine.{rd}
 use Rattle.whole.proofs.Table.{table_length, table_held}
 use Rattle.account.specs.Rank.{shuffled}
@@ -47,28 +46,6 @@ module _ (c : After-shuffle_deviations) where
   -- what was written
   written : c.shuffle_deviations.new.moved ≡ table moved n
   written = c.shuffle_deviations.ensures ∙ ap (table moved) a.requires
-
-pub slice_bounds-moved-end : goal.slice_bounds-moved-end
-slice_bounds-moved-end c = c.args.weighed.now.weighted.zones
-
-pub slice_bounds-shuffle_deviations-end : goal.slice_bounds-shuffle_deviations-end
-slice_bounds-shuffle_deviations-end c = sym (length-take-le _ _ c.args.weighed.now.weighted.zones)
-
-pub shuffle_deviations-requires : goal.shuffle_deviations-requires
-shuffle_deviations-requires c = record {
-  d_len = c.args.weighed.now.sized.count ∙ sym c.requires;
-  moved_len = length-take-le _ _ c.args.weighed.now.weighted.zones ∙ sym c.requires;
-}
-
-pub slice_bounds-moved-end-2 : goal.slice_bounds-moved-end-2
-slice_bounds-moved-end-2 c =
-    let s = (goal.at.slice_bounds-moved-end-2 c).After-shuffle_deviations in
-    front_le {A = ℤ} _ _ (table (moved s) (n s)) _ (written s) (as_long s)
-
-pub slice_bounds-cross_sum-end : goal.slice_bounds-cross_sum-end
-slice_bounds-cross_sum-end c =
-    let s = (goal.at.slice_bounds-cross_sum-end c).After-shuffle_deviations in
-    front_length {A = ℤ} _ _ (table (moved s) (n s)) _ (written s) (as_long s)
 
 pub invariant_of-cross_sum : goal.invariant_of-cross_sum
 invariant_of-cross_sum c =

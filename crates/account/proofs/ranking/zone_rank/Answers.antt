@@ -4,10 +4,9 @@ use Prim.Native.Nat.{ℕ}
 use mathlib.Core.List.{List}
 use lib.IntN.{ℤ}
 use lib.ListN.{length}
-use lib.Seq.{length-take-le}
 use Rattle.whole.specs.Order.{lacks}
 use Rattle.whole.specs.Table.{table, at, pair_at}
-use Rattle.whole.proofs.Lists.{front, front_le, front_length}
+use Rattle.whole.proofs.Lists.{front}
 use Rattle.whole.proofs.Table.{table_length}
 use Rattle.account.specs.Measures.{deviation_of}
 use Rattle.account.specs.Rank.{values_cross, shuffle_cross, compared, zones_rank}
@@ -46,30 +45,8 @@ module _ (c : After-deviations) where
       (ap (λ (m : ℕ). lacks (pair_at s.shuffles.now m r) m) (sym a.requires) ∙ s.good.full r h))
       (own_cross g.job.now.values.now g.job.now.weights.now g.job.now.n d e)
 
-pub invariant_of-list : goal.invariant_of-list
-invariant_of-list c = record { valued = c.args.job.now.good.valued }
-
-pub slice_bounds-d-end : goal.slice_bounds-d-end
-slice_bounds-d-end c = c.args.job.now.good.valued.zones
-
-pub slice_bounds-deviations-end : goal.slice_bounds-deviations-end
-slice_bounds-deviations-end c = sym (length-take-le _ _ c.args.job.now.good.valued.zones)
-
 pub invariant_of-deviations : goal.invariant_of-deviations
 invariant_of-deviations c = record { summed = total_held _ _ c.args.job.now.good.valued c.total-total.ensures }
-
-pub deviations-requires : goal.deviations-requires
-deviations-requires c = length-take-le _ _ c.args.job.now.good.valued.zones
-
-pub slice_bounds-d-end-2 : goal.slice_bounds-d-end-2
-slice_bounds-d-end-2 c =
-    let after_deviations = (goal.at.slice_bounds-d-end-2 c).After-deviations in
-    front_le {A = ℤ} _ _ (expected after_deviations) _ c.deviations.ensures (as_long after_deviations)
-
-pub slice_bounds-weighed-end : goal.slice_bounds-weighed-end
-slice_bounds-weighed-end c =
-    let after_deviations = (goal.at.slice_bounds-weighed-end c).After-deviations in
-    front_length {A = ℤ} _ _ (expected after_deviations) _ c.deviations.ensures (as_long after_deviations)
 
 pub invariant_of-weighed : goal.invariant_of-weighed
 invariant_of-weighed c =

@@ -1,12 +1,11 @@
 -- `zone_sums` meets its contract: the deviations are worked into a local array, whose first n places are lent. Assumes nothing.
-use mathlib.Core.Path.{◌≡◌, sym, ◌∙◌}
+use mathlib.Core.Path.{◌≡◌, ◌∙◌}
 use mathlib.Core.List.{List}
 use lib.IntN.{ℤ}
 use lib.ListN.{length}
-use lib.Seq.{length-take-le}
 use mir.Syntax.{w64}
 use Rattle.whole.specs.Table.{table, at}
-use Rattle.whole.proofs.Lists.{front, front_le, front_length}
+use Rattle.whole.proofs.Lists.{front}
 use Rattle.whole.proofs.Machine.{rd}
 use Rattle.whole.proofs.Table.{table_length}
 use Rattle.account.specs.Measures.{deviation_of}
@@ -27,30 +26,8 @@ module _ (c : After-deviations) where
   as_long : length expected ≡ a.args.job.now.n
   as_long = table_length (deviation_of (at a.args.job.now.values.now) a.args.job.now.n) a.args.job.now.n
 
-pub invariant_of-list : goal.invariant_of-list
-invariant_of-list c = record { valued = c.args.job.now.good.valued }
-
 pub invariant_of-summed : goal.invariant_of-summed
 invariant_of-summed c = record { summed = total_held _ _ c.args.job.now.good.valued c.total-total.ensures }
-
-pub slice_bounds-d-end : goal.slice_bounds-d-end
-slice_bounds-d-end c = c.args.job.now.good.valued.zones
-
-pub slice_bounds-deviations-end : goal.slice_bounds-deviations-end
-slice_bounds-deviations-end c = sym (length-take-le _ _ c.args.job.now.good.valued.zones)
-
-pub deviations-requires : goal.deviations-requires
-deviations-requires c = length-take-le _ _ c.args.job.now.good.valued.zones
-
-pub slice_bounds-d-end-2 : goal.slice_bounds-d-end-2
-slice_bounds-d-end-2 c =
-    let after_deviations = (goal.at.slice_bounds-d-end-2 c).After-deviations in
-    front_le {A = ℤ} _ _ (expected after_deviations) _ c.deviations.ensures (as_long after_deviations)
-
-pub slice_bounds-weighed-end : goal.slice_bounds-weighed-end
-slice_bounds-weighed-end c =
-    let after_deviations = (goal.at.slice_bounds-weighed-end c).After-deviations in
-    front_length {A = ℤ} _ _ (expected after_deviations) _ c.deviations.ensures (as_long after_deviations)
 
 -- the lent list holds the local numerators of the job
 held :
