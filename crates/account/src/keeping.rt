@@ -3,7 +3,7 @@ ghost use Rattle.std.specs.Prelude.{◌≡◌, ◌*◌, ◌+◌, ◌≤◌, ◌<
 ghost use Rattle.whole.specs.Search.{count};
 ghost use Rattle.whole.specs.Table.{table, table_rows, at, pair_at};
 ghost use Rattle.kept.specs.Kept.{kept_zones};
-ghost use Rattle.account.specs.Steps.{Zones, gathered, gathered_pair, gathered_pairs, place_in, at_place, placed_number};
+ghost use Rattle.account.specs.Steps.{Zones, gathered_pairs, place_in, at_place, placed_number};
 
 use crate::lists::{JobLists, ShuffleRow, ShuffleRows};
 
