@@ -25,9 +25,8 @@ use Rattle.account.proofs.Accepted.{Lawful}
 use Rattle.account.proofs.KeptJob.{six_by_count}
 use Rattle.account.proofs.KeptLists.{zones_are, values_gathered}
 
--- ---- the zones kept, as many as there are, at the front of a list
+-- ---- the zones kept, at the front of a list
 pub record Left (n : ℕ) (weights left : List ℕ) (many : ℕ) : Type 0 where
-  pub as_many : many ≡ kept_count n weights
   pub zones : take many left ≡ kept_zones n weights
   pub room : many ≤ length left
 
@@ -55,7 +54,6 @@ module _
         let same : many ≡ kept_count n weights = ap (λ (k : List ℕ). get_or k 0 0) (sym (ap many_in q) ∙ counted) in
         let all : left ≡ over kept lent = l ∙ worked_when_taken _ _ _ taken in
         let long = zones_length n weights ∙ sym same in record {
-          as_many = same;
           zones = ap (take many) all ∙ front kept (drop (length kept) lent) kept many refl long;
           room = omega (arith, ap length all, front_le kept (drop (length kept) lent) kept many refl long);
         }

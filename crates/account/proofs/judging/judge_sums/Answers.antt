@@ -57,12 +57,6 @@ returns-then-many-n c =
     let all = gathered_all zones job.n kept.rising c.if-many-n.true values job.good.valued.near.count in
     by_spread values zones values (sym all) (ne_eqb _ _ c.if-many-eq0.false) _ (rw c.if-many-n.true c.judge_spread.ensures)
 
-pub slice_bounds-space-end : goal.slice_bounds-space-end
-slice_bounds-space-end c = room c
-
-pub slice_bounds-kept_values-end : goal.slice_bounds-kept_values-end
-slice_bounds-kept_values-end c = sym (length-take-le _ _ (room ((goal.at.slice_bounds-kept_values-end c).Else-many-n)))
-
 -- the values that are gathered
 values_are : (c : After-gather) → c.gather.new.out ≡ gathered c.args.kept.now.job.values.now c.args.kept.now.zones.now
 values_are c =

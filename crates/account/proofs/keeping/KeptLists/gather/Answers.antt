@@ -38,6 +38,3 @@ loop-k-preserved g c =
     let below = kept.rising.below k (omega arith) in
     let read = slice_get_read list (length list) c.from-zone.result c.index-list-zone.result refl (omega arith) c.index-list-zone.is in
     one_more list c.loop-k.out (λ q. get_or kept.zones.now q 0) k _ (omega arith) (rw (sym c.from-zone.ensures) read) c.loop-k.invariant
-
-pub returns : goal.returns
-returns g c = λ k h. c.loop-k.invariant k (omega arith)
