@@ -90,6 +90,10 @@ module _ (values : List ℤ) (n : ℕ) (v : Valued values n) where
   unfolding total_of
   total_told e = told _ 6400000 e ((total_runs values n v).bound n (N.le_refl n))
 
+  -- S as it is handed on
+  pub total_held : {y : ℤ} → y ≡ total_of (at values) n → r64 y ≡ total_of (at values) n
+  total_held e = (rd w64 (total_told e) tt).same
+
   pub spread_told : {y : ℤ} → y ≡ spread_of (at values) n → Is y (spread_of (at values) n) 80640000000000
   spread_told e = told _ 80640000000000 e (spread_of_size (at values) n v.zones v.near.size)
 

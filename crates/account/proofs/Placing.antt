@@ -18,7 +18,7 @@ use Rattle.whole.proofs.Search.{some_none, some_witness}
 use Rattle.whole.proofs.Table.{is_table, stored}
 use Rattle.kept.specs.Kept.{passing}
 use Rattle.kept.proofs.KeptShuffle.{as_many}
-use Rattle.kept.proofs.Passing.{place_below, nth_place}
+use Rattle.kept.proofs.Passing.{place_below, nth_place, nth_stands, passing_cong}
 use Rattle.account.specs.Steps.{Zones, place_in, placed_number}
 
 -- ---- the first k zones of the list have their places written, and all others the list's length
@@ -141,3 +141,14 @@ module _ (places : List ℕ) (many n : ℕ) (row : ℕ → ℕ) where
             so_many = count_no has_place p k so.so_many (le-ltb (get_or places (row p) 0) many l);
             holds = so.holds;
           }
+
+-- ---- a row that names the same has the same placed numbers
+module _
+    (places : List ℕ) (many n : ℕ) (f g : ℕ → ℕ) (same : (p : ℕ) → p < n → f p ≡ g p) (all : lacks g n ≡ false)
+    (fits : count (λ i. ltb (get_or places i 0) many) n ≡ many) where
+  pub placed_cong : (k : ℕ) → k < many → placed_number places many n f k ≡ placed_number places many n g k
+  placed_cong k h =
+      let passes = has_place places many n g in
+      let stands = nth_stands passes n k (omega (arith, h, in_all places many n g all fits)) in
+      ap (λ l. get_or places (f (get_or l k 0)) 0) (passing_cong _ passes n (λ p q. ap (λ z. ltb (get_or places z 0) many) (same p q)))
+      ∙ ap (λ z. get_or places z 0) (same _ stands.below)

@@ -2,14 +2,18 @@
 use mathlib.Core.Path.{◌≡◌, refl, sym, ap, ◌∙◌, subst}
 use mathlib.Core.Bool.{Bool, true, false, not}
 use mathlib.Core.List.{List}
-use Prim.Native.Nat.{ℕ, ◌+◌, ◌*◌, ◌≤◌, ◌<◌}
+use Prim.Native.Nat.{ℕ, zero, suc, ◌+◌, ◌*◌, ◌≤◌, ◌<◌}
 use native.Mathlib.Nat as N
+use native.Mathlib.Numerals.{add-one}
 use native.Mathlib.Omega.{arith}
 use borrow.Author.Tests.{ne_eqb}
 use lib.Dec.{T, ltb, ltb→lt}
-use lib.IntN.{ℤ, pos, nat_abs, ◌-ℤ◌}
-use lib.ListN.{length, get_or}
+use lib.IntN.{ℤ, pos, nat_abs, ◌+ℤ◌, ◌-ℤ◌}
+use lib.ListN.{length, get_or, take}
+use lib.Seq.{take_all}
 use mir.Syntax.{w32}
+use Rattle.std.specs.List.{sum_by}
+use Rattle.std.proofs.lemmas.List.Sums.{sum_by_more}
 use Rattle.whole.specs.Integer.{square, is_zero}
 use Rattle.whole.specs.Search.{any_above}
 use Rattle.whole.specs.Sum.{sum}
@@ -54,6 +58,15 @@ module _ (values : List ℤ) (n : ℕ) (v : Valued values n) where
       (e ∙ ap (λ z. square (z -ℤ r32 (at values j))) (value_is i h).same ∙ ap (λ z. square (at values i -ℤ z)) (value_is j k).same)
       (square_size (at values) n v.zones v.near.size i j h k)
 
+-- ---- the sum of the front of a list, as std has it
+front_sum : (l : List ℕ) (i : ℕ) → i ≤ length l → pos (sum_by (λ x. x) (take i l)) ≡ sum (λ k. pos (get_or l k 0)) i
+unfolding sum
+front_sum l zero h = refl
+front_sum l (suc i) h =
+    ap (λ m. pos (sum_by (λ x. x) (take m l))) (sym (add-one i))
+    ∙ ap pos (sum_by_more (λ x. x) l i 0 (omega arith))
+    ∙ ap (λ z. z +ℤ pos (get_or l i 0)) (front_sum l i (omega arith))
+
 -- ---- the weights
 module _ (weights : List ℕ) (n : ℕ) (w : Weighted weights n) where
   pub place : (i j : ℕ) → i < n → j < n → i * n + j < length weights
@@ -69,6 +82,13 @@ module _ (weights : List ℕ) (n : ℕ) (w : Weighted weights n) where
   flat_weight =
       sum_rows (λ k. pos (get_or weights k 0)) n n
       ∙ sum_cong _ _ n (λ i p. sum_cong _ _ n (λ j q. ap pos (sym (N.mul-one (get_or weights (i * n + j) 0)))))
+
+  -- as std adds them
+  pub added_weight : pos (sum_by (λ x. x) weights) ≡ weight_of (pair_at weights n) n
+  added_weight =
+      ap (λ t. pos (sum_by (λ x. x) t)) (sym (take_all (n * n) weights (omega (arith, w.count))))
+      ∙ front_sum weights (n * n) (omega (arith, w.count))
+      ∙ flat_weight
 
   -- and W is 0 exactly where none is above 0
   pub weightless : is_zero (weight_of (pair_at weights n) n) ≡ not (any_above 0 weights)

@@ -1,5 +1,5 @@
 -- A row of a list that has one row of n after another, lent as a part of it. Assumes nothing.
-use mathlib.Core.Path.{◌≡◌, ◌∙◌}
+use mathlib.Core.Path.{◌≡◌, ap, ◌∙◌}
 use mathlib.Core.List.{List}
 use Prim.Native.Nat.{ℕ, ◌+◌, ◌*◌, ◌-◌, ◌≤◌, ◌<◌}
 use native.Mathlib.Omega.{arith}
@@ -22,3 +22,14 @@ module _ {A : Type 0} (l : List A) (n i : ℕ) where
 
     pub row_at : (j : ℕ) (d : A) → j < n → get_or row j d ≡ get_or l (i * n + j) d
     row_at j d p = get_or-between l (i * n) (i * n + n) j d (omega arith)
+
+-- the same as a call has cut it out
+module _ {A : Type 0} (l : List A) (n i : ℕ) (there : i * n + n ≤ length l) (part : List A) (e : part ≡ take n (drop (i * n) l)) where
+  pub is_row : part ≡ row l n i
+  is_row = e ∙ ap (λ m. take m (drop (i * n) l)) (omega arith)
+
+  pub part_length : length part ≡ n
+  part_length = ap length is_row ∙ row_length l n i there
+
+  pub part_at : (j : ℕ) (d : A) → j < n → get_or part j d ≡ get_or l (i * n + j) d
+  part_at j d p = ap (λ t. get_or t j d) is_row ∙ row_at l n i there j d p

@@ -2,23 +2,45 @@
 use mathlib.Core.Path.{◌≡◌, sym, ap, ◌∙◌}
 use mathlib.Core.Bool.{false}
 use mathlib.Core.List.{List}
-use Prim.Native.Nat.{ℕ, ◌≤◌, ◌<◌}
+use Prim.Native.Nat.{ℕ, ◌+◌, ◌*◌, ◌≤◌, ◌<◌}
 use lib.IntN.{ℤ, pos, nat_abs, ◌-ℤ◌, ◌*ℤ◌}
+use lib.ListN.{length, get_or, take, drop}
 use Rattle.whole.specs.Order.{lacks}
 use Rattle.whole.specs.Table.{table, at, pair_at}
 use Rattle.whole.proofs.Permutation.{stands, full, permuted_sum}
 use Rattle.whole.proofs.Table.{table_held}
-use Rattle.shuffles.specs.Steps.{Shuffle}
+use Rattle.shuffles.specs.Steps.{Shuffles}
+use Rattle.shuffles.proofs.ShuffleList.{shuffle_there, row_lacks}
 use Rattle.account.specs.Measures.{total_of, deviation_of}
 use Rattle.account.specs.Rank.{shuffled, values_cross, shuffle_cross}
 use Rattle.account.specs.Steps.{Sized, cross_held, cross_moved}
 use Rattle.account.proofs.Adding.{cross_alike}
+use Rattle.account.proofs.Rows.{is_row, part_length, part_at}
+
+-- ---- row r of a list of shuffles, as it was cut out
+module _
+    (shuffles : List ℕ) (n rows r : ℕ) (w : Shuffles shuffles n rows) (h : r < rows) (row : List ℕ)
+    (e : row ≡ take n (drop (r * n) shuffles)) where
+  there : r * n + n ≤ length shuffles
+  there = (shuffle_there shuffles n rows r w h).row.there
+
+  pub row_long : length row ≡ n
+  row_long = part_length shuffles n r there row e
+
+  pub row_names : (i : ℕ) → i < n → get_or row i 0 ≡ pair_at shuffles n r i
+  unfolding pair_at
+  row_names i p = part_at shuffles n r there row e i 0 p
+
+  pub row_full : lacks (λ i. get_or row i 0) (length row) ≡ false
+  row_full =
+      ap (λ t. lacks (λ i. get_or t i 0) (length t)) (is_row shuffles n r there row e)
+      ∙ row_lacks shuffles n r there
+      ∙ w.full r h
 
 -- ---- the deviations that the zones take in a shuffle are no larger
 pub shuffled_size :
-    (d : List ℤ) (shuffles : List ℕ) (n r b : ℕ) → Sized b d n → Shuffle shuffles n r → (i : ℕ) → i < n →
-    nat_abs (shuffled (at d) (pair_at shuffles n r) i) ≤ b
-shuffled_size d shuffles n r b s w i p = s.size (pair_at shuffles n r i) ((full (pair_at shuffles n r) n w.full).into i p)
+    (d : List ℤ) (row : ℕ → ℕ) (n b : ℕ) → Sized b d n → lacks row n ≡ false → (i : ℕ) → i < n → nat_abs (shuffled (at d) row i) ≤ b
+shuffled_size d row n b s all i p = s.size (row i) ((full row n all).into i p)
 
 -- ---- a shuffle of the values x: S stays, and each zone takes the deviation of the zone that it takes the value of
 module _ (x : ℕ → ℤ) (row : ℕ → ℕ) (n : ℕ) (all : lacks row n ≡ false) where

@@ -1,12 +1,11 @@
 // The class account's work on zones all of which count: one pass over their pairs, each added to the sums of its own class.
 ghost use Rattle.std.specs.Prelude.{◌≡◌, ℕ, ◌*◌, ◌+◌, ◌≤◌, ◌<◌, pos, nat_abs, length};
 ghost use Rattle.whole.specs.Sum.{sum};
-ghost use Rattle.whole.specs.Table.{table, table_rows, at};
-ghost use Rattle.account.specs.Measures.{total_of, deviation_of};
+ghost use Rattle.whole.specs.Table.{table_rows, at};
 ghost use Rattle.account.specs.Answers.{listed, zones_figures};
 ghost use Rattle.account.specs.Steps.{Sized, zones_locals, zones_class_sums, zones_class_locals, row_added, zone_part, Zoned, Owned};
 
-use crate::lists::{ClassLists, ZoneValues};
+use crate::lists::{ClassDeviations, ClassLists, JobLists, Summed, ZoneValues};
 use crate::{Sums, deviations, differences};
 
 // Adds to W, P and G of class k. A local numerator is the largest number that is added, and 64 of them fit. The sums are found by place, as
@@ -28,26 +27,22 @@ pub(super) fn add_row(rows: &mut [i64], k: usize, weight: i64, cross: i64, squar
 
 // Adds the pairs of zone i to the three sums of their classes: the weight of each, the weight times d(j), and the weight times
 // (x(i) - x(j)) squared.
-pub(super) fn add_pairs(lists: &ClassLists, d: &[i64], i: usize, parts: &mut [i64])
-    requires d_value { d.now ≡ table (deviation_of (at lists.now.values.now) lists.now.n) lists.now.n }
-    requires i_lt_n { i < lists.now.n }
+pub(super) fn add_pairs(work: &ClassDeviations, i: usize, parts: &mut [i64])
+    requires i_lt_n { i < work.now.lists.job.n }
     requires parts_value { parts.old ≡ table_rows (λ k place. pos 0) 9 3 }
     ensures { parts.new
-        ≡ table_rows (zone_part lists.now.n lists.now.values.now lists.now.weights.now lists.now.classes.now i) 9 3 }
+        ≡ table_rows (zone_part work.now.lists.job.n work.now.lists.job.values.now work.now.lists.job.weights.now work.now.lists.classes.now i)
+        9 3 }
 {
-    let ClassLists {
-        n,
-        values,
-        weights,
-        classes,
-    } = *lists;
+    let ClassLists { job, classes } = work.lists;
+    let JobLists { n, values, weights } = job;
     let first = i * n;
     let own = values[i];
     for j in 0..n {
         let pair = first + j;
         let k = usize::from(classes[pair]);
         let weight = i64::from(weights[pair]);
-        let deviation = d[j];
+        let deviation = work.d[j];
         let square = differences::squared_difference(own, values[j]);
         add_row(parts, k, weight, weight * deviation, weight * square);
     }
@@ -56,25 +51,24 @@ pub(super) fn add_pairs(lists: &ClassLists, d: &[i64], i: usize, parts: &mut [i6
 // Adds zone i to the three sums of each class, and puts its local numerators, of which P is the sum, into their places: those of the
 // classes, and its own, which they add up to.
 pub(super) fn add_zone(
-    lists: &ClassLists,
-    d: &[i64],
+    work: &ClassDeviations,
     i: usize,
     rows: &mut [i64],
     class_locals: &mut [i64],
     locals: &mut [i64],
 )
-    requires d_value { d.now ≡ table (deviation_of (at lists.now.values.now) lists.now.n) lists.now.n }
-    requires i_lt_n { i < lists.now.n }
-    requires zoned { Zoned lists.now.n lists.now.values.now lists.now.weights.now lists.now.classes.now (λ k. i) rows.old class_locals.old }
-    requires owned { Owned lists.now.n lists.now.values.now lists.now.weights.now i locals.old }
-    ensures zoned_2 { Zoned lists.now.n lists.now.values.now lists.now.weights.now lists.now.classes.now
-        (λ k. i + 1) rows.new class_locals.new }
-    ensures owned_2 { Owned lists.now.n lists.now.values.now lists.now.weights.now (i + 1) locals.new }
+    requires i_lt_n { i < work.now.lists.job.n }
+    requires zoned { Zoned work.now.lists.job.n work.now.lists.job.values.now work.now.lists.job.weights.now
+        work.now.lists.classes.now (λ k. i) rows.old class_locals.old }
+    requires owned { Owned work.now.lists.job.n work.now.lists.job.values.now work.now.lists.job.weights.now i locals.old }
+    ensures zoned_2 { Zoned work.now.lists.job.n work.now.lists.job.values.now work.now.lists.job.weights.now
+        work.now.lists.classes.now (λ k. i + 1) rows.new class_locals.new }
+    ensures owned_2 { Owned work.now.lists.job.n work.now.lists.job.values.now work.now.lists.job.weights.now (i + 1) locals.new }
 {
-    let n = lists.n;
+    let n = work.lists.job.n;
     let mut parts: [i64; 27] = [0; 27];
-    add_pairs(lists, d, i, &mut parts);
-    let deviation = d[i];
+    add_pairs(work, i, &mut parts);
+    let deviation = work.d[i];
     let mut own: i64 = 0;
     for k in 0..9 {
         let place = k * 3;
@@ -88,29 +82,26 @@ pub(super) fn add_zone(
     locals[i] = own;
 }
 
-// The rows and the local numerators, zone by zone: d is worked once, for all of them.
+// The rows and the local numerators, zone by zone.
 pub(super) fn add_zones(
-    lists: &ClassLists,
-    total: i64,
+    work: &ClassDeviations,
     rows: &mut [i64],
     class_locals: &mut [i64],
     locals: &mut [i64],
 )
-    requires total_value { total ≡ total_of (at lists.now.values.now) lists.now.n }
     requires rows_len { length rows.old ≡ 27 }
-    requires class_locals_len { length class_locals.old ≡ 9 * lists.now.n }
-    requires locals_len { length locals.old ≡ lists.now.n }
-    ensures rows_after { rows.new ≡ zones_class_sums lists.now.n lists.now.values.now lists.now.weights.now lists.now.classes.now }
+    requires class_locals_len { length class_locals.old ≡ 9 * work.now.lists.job.n }
+    requires locals_len { length locals.old ≡ work.now.lists.job.n }
+    ensures rows_after { rows.new
+        ≡ zones_class_sums work.now.lists.job.n work.now.lists.job.values.now work.now.lists.job.weights.now work.now.lists.classes.now }
     ensures class_locals_after { class_locals.new
-        ≡ zones_class_locals lists.now.n lists.now.values.now lists.now.weights.now lists.now.classes.now }
-    ensures locals_after { locals.new ≡ zones_locals lists.now.n lists.now.values.now lists.now.weights.now }
+        ≡ zones_class_locals work.now.lists.job.n work.now.lists.job.values.now work.now.lists.job.weights.now work.now.lists.classes.now }
+    ensures locals_after { locals.new
+        ≡ zones_locals work.now.lists.job.n work.now.lists.job.values.now work.now.lists.job.weights.now }
 {
-    let ClassLists { n, values, .. } = *lists;
-    let mut d: [i64; 64] = [0; 64];
-    deviations::deviations(&ZoneValues { n, values }, total, &mut d[..n]);
     rows.fill(0);
-    for i in 0..n {
-        add_zone(lists, &d[..n], i, rows, class_locals, locals);
+    for i in 0..work.lists.job.n {
+        add_zone(work, i, rows, class_locals, locals);
     }
 }
 
@@ -121,6 +112,7 @@ pub(super) fn nine_together(rows: &[i64], place: usize) -> i64
     requires by_index { (k : ℕ) → k < 9 → nat_abs (at rows.now (k * 3 + place)) ≤ 94371840000000000 }
     ensures { result ≡ sum (λ k. at rows.now (k * 3 + place)) 9 }
 {
+    // by a loop: for a signed sum at the end of a chain the check finds no bound
     let mut acc: i64 = 0;
     for k in 0..9 {
         acc += rows[k * 3 + place];
@@ -136,19 +128,26 @@ pub(super) fn zone_classes(
     locals: &mut [i64],
 ) -> Sums
     requires rows_len { length rows.old ≡ 27 }
-    requires class_locals_len { length class_locals.old ≡ 9 * lists.now.n }
-    requires locals_len { length locals.old ≡ lists.now.n }
-    ensures result_value { listed result ≡ zones_figures lists.now.n lists.now.values.now lists.now.weights.now }
-    ensures rows_after { rows.new ≡ zones_class_sums lists.now.n lists.now.values.now lists.now.weights.now lists.now.classes.now }
+    requires class_locals_len { length class_locals.old ≡ 9 * lists.now.job.n }
+    requires locals_len { length locals.old ≡ lists.now.job.n }
+    ensures result_value { listed result ≡ zones_figures lists.now.job.n lists.now.job.values.now lists.now.job.weights.now }
+    ensures rows_after { rows.new ≡ zones_class_sums lists.now.job.n lists.now.job.values.now lists.now.job.weights.now lists.now.classes.now }
     ensures class_locals_after { class_locals.new
-        ≡ zones_class_locals lists.now.n lists.now.values.now lists.now.weights.now lists.now.classes.now }
-    ensures locals_after { locals.new ≡ zones_locals lists.now.n lists.now.values.now lists.now.weights.now }
+        ≡ zones_class_locals lists.now.job.n lists.now.job.values.now lists.now.job.weights.now lists.now.classes.now }
+    ensures locals_after { locals.new ≡ zones_locals lists.now.job.n lists.now.job.values.now lists.now.job.weights.now }
 {
-    let ClassLists { n, values, .. } = *lists;
+    let JobLists { n, values, .. } = lists.job;
     let list = ZoneValues { n, values };
     let total = deviations::total(&list);
-    let spread = differences::spread(&list, total);
-    add_zones(lists, total, rows, class_locals, locals);
+    let summed = Summed { list, total };
+    let spread = differences::spread(&summed);
+    let mut d: [i64; 64] = [0; 64];
+    deviations::deviations(&summed, &mut d[..n]);
+    let work = ClassDeviations {
+        lists: *lists,
+        d: &d[..n],
+    };
+    add_zones(&work, rows, class_locals, locals);
     let weight = nine_together(rows, 0);
     let cross = deviations::sum_of(n, locals);
     let squares = nine_together(rows, 2);

@@ -5,12 +5,13 @@ ghost use Rattle.whole.specs.Table.{table, at, pair_at};
 ghost use Rattle.account.specs.Measures.{total_of, deviation_of, row_of, local_of};
 ghost use Rattle.account.specs.Steps.{Sized};
 
-use crate::lists::{Weighed, ZoneValues};
+use crate::lists::{self, Summed, Weighed, ZoneValues};
 
 // S.
 pub(super) fn total(list: &ZoneValues) -> i64
     ensures { result ≡ total_of (at list.now.values.now) list.now.n }
 {
+    // by a loop, as all sums here: for a signed sum at the end of a chain the check finds no bound
     let mut acc: i64 = 0;
     for x in list.values {
         acc += i64::from(*x);
@@ -19,14 +20,15 @@ pub(super) fn total(list: &ZoneValues) -> i64
 }
 
 // The deviations d(i), with their sign, from S.
-pub(super) fn deviations(list: &ZoneValues, total: i64, d: &mut [i64])
-    requires total_value { total ≡ total_of (at list.now.values.now) list.now.n }
-    requires d_len { length d.old ≡ list.now.n }
-    ensures { d.new ≡ table (deviation_of (at list.now.values.now) list.now.n) list.now.n }
+pub(super) fn deviations(summed: &Summed, d: &mut [i64])
+    requires { length d.old ≡ summed.now.list.n }
+    ensures { d.new ≡ table (deviation_of (at summed.now.list.values.now) summed.now.list.n) summed.now.list.n }
 {
-    let ZoneValues { n, values } = *list;
-    // no From leads here from a usize
+    let ZoneValues { n, values } = summed.list;
+    let total = summed.total;
+    // no From leads here from a usize, and TryFrom and an unwrap are no plainer
     let count = n as i64;
+    // by place: of a zip over iter_mut no proof knows what it wrote
     for (i, deviation) in d.iter_mut().enumerate() {
         *deviation = count * i64::from(values[i]) - total;
     }
@@ -39,10 +41,9 @@ pub(super) fn neighbour_sum(weighed: &Weighed, i: usize) -> i64
     ensures { result ≡ row_of (pair_at weighed.now.weights.now weighed.now.n) (λ i j. at weighed.now.d.now j) i weighed.now.n }
 {
     let d = weighed.d;
-    let first = i * weighed.n;
-    let row = &weighed.weights[first..first + weighed.n];
+    let row = lists::row(weighed.weights, weighed.n, i);
     let mut acc: i64 = 0;
-    // by j: a zip of the two costs a tenth more where there are few zones
+    // by j, as measured: a zip of the two takes a tenth longer where there are few zones
     for (j, weight) in row.iter().enumerate() {
         acc += i64::from(*weight) * d[j];
     }
@@ -56,6 +57,7 @@ pub(super) fn local_numerators(weighed: &Weighed, locals: &mut [i64])
         ≡ table (local_of (pair_at weighed.now.weights.now weighed.now.n) (at weighed.now.d.now) weighed.now.n) weighed.now.n }
 {
     let d = weighed.d;
+    // by place: of a zip over iter_mut no proof knows what it wrote
     for (i, local) in locals.iter_mut().enumerate() {
         let neighbours = neighbour_sum(weighed, i);
         *local = d[i] * neighbours;

@@ -3,9 +3,9 @@ ghost use Rattle.std.specs.Prelude.{◌≡◌, ◌≤◌, ◌<◌, nat_abs, ◌-
 ghost use Rattle.whole.specs.Integer.{square};
 ghost use Rattle.whole.specs.Sum.{sum};
 ghost use Rattle.whole.specs.Table.{at, pair_at};
-ghost use Rattle.account.specs.Measures.{total_of, spread_of, row_of, squares_of};
+ghost use Rattle.account.specs.Measures.{spread_of, row_of, squares_of};
 
-use crate::lists::{JobLists, ZoneValues};
+use crate::lists::{self, JobLists, Summed, ZoneValues};
 
 // The squared difference of two values.
 pub(super) fn squared_difference(a: i32, b: i32) -> i64
@@ -21,6 +21,7 @@ pub(super) fn squared_difference(a: i32, b: i32) -> i64
 pub(super) fn square_sum(list: &ZoneValues) -> i64
     ensures { result ≡ sum (λ i. square (at list.now.values.now i)) list.now.n }
 {
+    // by a loop, as all sums here: for a signed sum at the end of a chain the check finds no bound
     let mut acc: i64 = 0;
     for value in list.values {
         let x = i64::from(*value);
@@ -30,12 +31,12 @@ pub(super) fn square_sum(list: &ZoneValues) -> i64
 }
 
 // M from S, without a walk over the pairs: n times the sum of the squares, less the square of the sum.
-pub(super) fn spread(list: &ZoneValues, total: i64) -> i64
-    requires { total ≡ total_of (at list.now.values.now) list.now.n }
-    ensures { result ≡ spread_of (at list.now.values.now) list.now.n }
+pub(super) fn spread(summed: &Summed) -> i64
+    ensures { result ≡ spread_of (at summed.now.list.values.now) summed.now.list.n }
 {
-    let squares = square_sum(list);
-    // no From leads here from a usize
+    let Summed { list, total } = *summed;
+    let squares = square_sum(&list);
+    // no From leads here from a usize, and TryFrom and an unwrap are no plainer
     let count = list.n as i64;
     count * squares - total * total
 }
@@ -48,10 +49,9 @@ pub(super) fn row_squares(job: &JobLists, i: usize) -> i64
 {
     let values = job.values;
     let own = values[i];
-    let first = i * job.n;
-    let row = &job.weights[first..first + job.n];
+    let row = lists::row(job.weights, job.n, i);
     let mut acc: i64 = 0;
-    // by j: a zip of the two is compiled to products of vectors, which take half as long again
+    // by j, as measured: a zip of the two is compiled to products of vectors, and takes half as long again
     for (j, weight) in row.iter().enumerate() {
         acc += i64::from(*weight) * squared_difference(own, values[j]);
     }

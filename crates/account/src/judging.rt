@@ -12,7 +12,7 @@ ghost use Rattle.account.specs.Rank.{rank_refusal};
 ghost use Rattle.account.specs.Steps.{gathered, Judged};
 
 use crate::keeping::KeptLists;
-use crate::lists::{JobLists, ZoneValues};
+use crate::lists::{JobLists, Summed, ZoneValues};
 use crate::{deviations, differences};
 use judges::Places;
 use refusals::Refusal;
@@ -39,7 +39,7 @@ pub(super) fn judge_spread(list: &ZoneValues) -> Result<(), Refusal>
         ((is_zero (spread_of (at list.now.values.now) list.now.n), 7) ∷ []) }
 {
     let total = deviations::total(list);
-    if differences::spread(list, total) == 0 {
+    if differences::spread(&Summed { list: *list, total }) == 0 {
         return Err(Refusal::Spreadless);
     }
     Ok(())

@@ -3,10 +3,9 @@ ghost use Rattle.std.specs.Prelude.{◌≡◌, ◌*◌, ◌+◌, ◌≤◌, ◌<
 ghost use Rattle.whole.specs.Search.{count};
 ghost use Rattle.whole.specs.Table.{table, table_rows, at, pair_at};
 ghost use Rattle.kept.specs.Kept.{kept_zones};
-ghost use Rattle.shuffles.specs.Steps.{Shuffle, Shuffles};
 ghost use Rattle.account.specs.Steps.{Zones, gathered_pairs, place_in, at_place, placed_number};
 
-use crate::lists::JobLists;
+use crate::lists::{JobLists, ShuffleRow, ShuffleRows};
 
 // A job with the zones that are kept of it, rising.
 #[derive(Clone, Copy)]
@@ -97,19 +96,17 @@ pub(super) fn put_back_rows(places: &[u8], many: usize, numbers: &[i64], out: &m
     }
 }
 
-// The numbers of shuffle r that have a place below `many`, in order, each by its place.
-pub(super) fn keep_row(n: usize, shuffles: &[u8], r: usize, places: &[u8], out: &mut [u8])
-    requires shuffle { Shuffle shuffles.now n r }
-    requires places_len { length places.now ≡ n }
-    requires n_value { count (λ i. ltb (get_or places.now i 0) (length out.old)) n ≡ length out.old }
+// The numbers of a shuffle that have a place below the length of `out`, in order, each by its place.
+pub(super) fn keep_row(row: &ShuffleRow, places: &[u8], out: &mut [u8])
+    requires places_len { length places.now ≡ length row.now.zones.now }
+    requires n_value { count (λ i. ltb (get_or places.now i 0) (length out.old)) (length row.now.zones.now) ≡ length out.old }
     ensures { out.new
-        ≡ table (placed_number places.now (length out.old) n (pair_at shuffles.now n r))
+        ≡ table (placed_number places.now (length out.old) (length row.now.zones.now) (λ i. get_or row.now.zones.now i 0))
         (length out.old) }
 {
-    let first = r * n;
-    let row = &shuffles[first..first + n];
+    // counts the numbers that have a place, and not the turns
     let mut k: usize = 0;
-    for zone in row {
+    for zone in row.zones {
         let place = places[usize::from(*zone)];
         if usize::from(place) < out.len() {
             out[k] = place;
@@ -119,23 +116,18 @@ pub(super) fn keep_row(n: usize, shuffles: &[u8], r: usize, places: &[u8], out: 
 }
 
 // The same of each of so many shuffles.
-pub(super) fn keep_rows(
-    n: usize,
-    shuffles: &[u8],
-    rows: usize,
-    places: &[u8],
-    many: usize,
-    out: &mut [u8],
-)
-    requires shuffles { Shuffles shuffles.now n rows }
-    requires places_len { length places.now ≡ n }
-    requires n_value { count (λ i. ltb (get_or places.now i 0) many) n ≡ many }
-    requires out_len { length out.old ≡ rows * many }
+pub(super) fn keep_rows(shuffles: &ShuffleRows, places: &[u8], many: usize, out: &mut [u8])
+    requires places_len { length places.now ≡ shuffles.now.n }
+    requires n_value { count (λ i. ltb (get_or places.now i 0) many) shuffles.now.n ≡ many }
+    requires out_len { length out.old ≡ shuffles.now.rows * many }
     ensures { out.new
-        ≡ table_rows (λ r. placed_number places.now many n (pair_at shuffles.now n r)) rows many }
+        ≡ table_rows (λ r. placed_number places.now many shuffles.now.n (pair_at shuffles.now.shuffles.now shuffles.now.n r))
+        shuffles.now.rows many }
 {
-    for r in 0..rows {
+    // by place: of a chunk that chunks_exact_mut lends no proof knows what was written
+    for r in 0..shuffles.rows {
+        let row = shuffles.shuffle(r);
         let first = r * many;
-        keep_row(n, shuffles, r, places, &mut out[first..first + many]);
+        keep_row(&row, places, &mut out[first..first + many]);
     }
 }

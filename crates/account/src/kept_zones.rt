@@ -10,7 +10,7 @@ ghost use Rattle.account.specs.Rank.{zones_rank, three};
 ghost use Rattle.account.specs.Steps.{ClassJob, gathered, gathered_pairs, place_in};
 
 use crate::keeping::KeptLists;
-use crate::lists::{ClassLists, JobLists};
+use crate::lists::{ClassLists, JobLists, ShuffleRows};
 use crate::{Counts, Sums, classes, keeping, ranking, working};
 
 // The job of the zones kept, and the place of each zone of the whole job among them.
@@ -99,24 +99,14 @@ pub(super) fn work_classes<'a>(
 {
     let KeptLists { job, zones } = *kept;
     if zones.len() == job.n {
-        let JobLists { n, values, weights } = job;
-        let lists = ClassLists {
-            n,
-            values,
-            weights,
-            classes,
-        };
+        let lists = ClassLists { job, classes };
         return classes::zone_classes(&lists, rows, class_locals, locals);
     }
     let mut value_space: [i32; 64] = [0; 64];
     let mut weight_space: [u8; 4096] = rooms::room();
     let mut place_space: [u8; 64] = [0; 64];
     let gathered = gather(kept, &mut value_space, &mut weight_space, &mut place_space);
-    let JobLists {
-        n: many,
-        values,
-        weights,
-    } = gathered.job;
+    let many = gathered.job.n;
     let pairs = many * many;
     let mut class_space: [u8; 4096] = rooms::room();
     let kept_classes = &mut class_space[..pairs];
@@ -127,9 +117,7 @@ pub(super) fn work_classes<'a>(
     let mut local_space: [i64; 64] = [0; 64];
     let kept_locals = &mut local_space[..many];
     let lists = ClassLists {
-        n: many,
-        values,
-        weights,
+        job: gathered.job,
         classes: kept_classes,
     };
     let sums = classes::zone_classes(&lists, rows, kept_nine, kept_locals);
@@ -148,8 +136,13 @@ pub(super) fn work_rank(kept: &KeptLists, shuffles: &[u8], rows: usize) -> Count
         (kept_shuffles kept.now.job.n kept.now.job.weights.now rows shuffles.now) }
 {
     let KeptLists { job, zones } = *kept;
+    let lent = ShuffleRows {
+        n: job.n,
+        shuffles,
+        rows,
+    };
     if zones.len() == job.n {
-        return ranking::zone_rank(&job, shuffles, rows);
+        return ranking::zone_rank(&job, &lent);
     }
     let mut value_space: [i32; 64] = [0; 64];
     let mut weight_space: [u8; 4096] = rooms::room();
@@ -159,6 +152,11 @@ pub(super) fn work_rank(kept: &KeptLists, shuffles: &[u8], rows: usize) -> Count
     let numbers = rows * many;
     let mut shuffle_space: [u8; 31936] = rooms::room();
     let kept_shuffles = &mut shuffle_space[..numbers];
-    keeping::keep_rows(job.n, shuffles, rows, gathered.places, many, kept_shuffles);
-    ranking::zone_rank(&gathered.job, kept_shuffles, rows)
+    keeping::keep_rows(&lent, gathered.places, many, kept_shuffles);
+    let kept_rows = ShuffleRows {
+        n: many,
+        shuffles: kept_shuffles,
+        rows,
+    };
+    ranking::zone_rank(&gathered.job, &kept_rows)
 }

@@ -1,5 +1,10 @@
 // What was judged, with the facts that the judges found: the work takes these, and no loose lists. Each has n beside its lists, as the
 // caller gives it: the weights have n rows of n.
+ghost use Rattle.std.specs.Prelude.{◌≡◌, false, ◌*◌, ◌+◌, ◌≤◌, ◌<◌, length, get_or, take, drop};
+ghost use Rattle.whole.specs.Order.{lacks};
+ghost use Rattle.whole.specs.Table.{table, at};
+ghost use Rattle.shuffles.specs.Steps.{Shuffles};
+ghost use Rattle.account.specs.Measures.{total_of, deviation_of};
 ghost use Rattle.account.specs.Steps.{Sized, Valued, Weighted, Job, ClassJob};
 
 // The values of n zones.
@@ -8,6 +13,14 @@ pub(super) struct ZoneValues<'a> {
     pub(super) n: usize,
     pub(super) values: &'a [i32],
     ghost valued: { Valued values.now n },
+}
+
+// The same with S, which is worked once.
+#[derive(Clone, Copy)]
+pub(super) struct Summed<'a> {
+    pub(super) list: ZoneValues<'a>,
+    pub(super) total: i64,
+    ghost summed: { total ≡ total_of (at list.values.now) list.n },
 }
 
 // A job of n zones. Its lists are lent by a caller, who names no lifetime for both.
@@ -22,11 +35,17 @@ pub(super) struct JobLists<'a, 'b> {
 // A job with the classes of its pairs.
 #[derive(Clone, Copy)]
 pub(super) struct ClassLists<'a> {
-    pub(super) n: usize,
-    pub(super) values: &'a [i32],
-    pub(super) weights: &'a [u8],
+    pub(super) job: JobLists<'a, 'a>,
     pub(super) classes: &'a [u8],
-    ghost good: { ClassJob values.now weights.now classes.now n },
+    ghost good: { ClassJob job.values.now job.weights.now classes.now job.n },
+}
+
+// The same with the deviations, which are worked once.
+#[derive(Clone, Copy)]
+pub(super) struct ClassDeviations<'a> {
+    pub(super) lists: ClassLists<'a>,
+    pub(super) d: &'a [i64],
+    ghost worked: { d.now ≡ table (deviation_of (at lists.job.values.now) lists.job.n) lists.job.n },
 }
 
 // The deviations of n zones, and the weights between them.
@@ -37,4 +56,42 @@ pub(super) struct Weighed<'a> {
     pub(super) d: &'a [i64],
     ghost weighted: { Weighted weights.now n },
     ghost sized: { Sized 12800000 d.now n },
+}
+
+// One shuffle: each number of the zones stands in it.
+#[derive(Clone, Copy)]
+pub(super) struct ShuffleRow<'a> {
+    pub(super) zones: &'a [u8],
+    ghost few: { length zones.now ≤ 64 },
+    ghost full: { lacks (λ i. get_or zones.now i 0) (length zones.now) ≡ false },
+}
+
+// A list of shuffles, so many rows of n.
+#[derive(Clone, Copy)]
+pub(super) struct ShuffleRows<'a> {
+    pub(super) n: usize,
+    pub(super) shuffles: &'a [u8],
+    pub(super) rows: usize,
+    ghost good: { Shuffles shuffles.now n rows },
+}
+
+impl ShuffleRows<'_> {
+    // Shuffle r.
+    pub(super) fn shuffle(&self, r: usize) -> ShuffleRow<'_>
+        requires { r < self.now.rows }
+        ensures { result.zones.now ≡ take self.now.n (drop (r * self.now.n) self.now.shuffles.now) }
+    {
+        ShuffleRow {
+            zones: row(self.shuffles, self.n, r),
+        }
+    }
+}
+
+// Row r of a list that has rows of n one after another.
+pub(super) fn row(list: &[u8], n: usize, r: usize) -> &[u8]
+    requires { r * n + n ≤ length list.now }
+    ensures { result.now ≡ take n (drop (r * n) list.now) }
+{
+    let first = r * n;
+    &list[first..first + n]
 }

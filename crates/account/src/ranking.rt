@@ -1,10 +1,11 @@
 // The rank's work on zones all of which count: S, d and their own P are worked once, then the P of each shuffle.
-ghost use Rattle.std.specs.Prelude.{◌≡◌};
-ghost use Rattle.shuffles.specs.Steps.{Shuffle, Shuffles};
-ghost use Rattle.account.specs.Rank.{compared, zones_rank, three};
+ghost use Rattle.std.specs.Prelude.{◌≡◌, length, get_or};
+ghost use Rattle.whole.specs.Table.{at, pair_at};
+ghost use Rattle.account.specs.Measures.{cross_of};
+ghost use Rattle.account.specs.Rank.{shuffled, compared, zones_rank, three};
 ghost use Rattle.account.specs.Steps.{cross_held, cross_moved};
 
-use crate::lists::{JobLists, Weighed, ZoneValues};
+use crate::lists::{JobLists, ShuffleRow, ShuffleRows, Summed, Weighed, ZoneValues};
 use crate::{Counts, deviations, shuffling};
 use std::cmp::Ordering;
 
@@ -12,6 +13,7 @@ use std::cmp::Ordering;
 pub(super) fn cross_sum(weighed: &Weighed) -> i64
     ensures { result ≡ cross_held weighed.now.weights.now weighed.now.n weighed.now.d.now }
 {
+    // by a loop: for a signed sum at the end of a chain the check finds no bound
     let mut acc: i64 = 0;
     for (i, deviation) in weighed.d.iter().enumerate() {
         let neighbours = deviations::neighbour_sum(weighed, i);
@@ -20,14 +22,16 @@ pub(super) fn cross_sum(weighed: &Weighed) -> i64
     acc
 }
 
-// The P of shuffle r, from the job's deviations.
-pub(super) fn shuffle_cross(weighed: &Weighed, shuffles: &[u8], r: usize) -> i64
-    requires { Shuffle shuffles.now weighed.now.n r }
-    ensures { result ≡ cross_moved weighed.now.weights.now weighed.now.n weighed.now.d.now shuffles.now r }
+// The P of a shuffle, from the job's deviations.
+pub(super) fn shuffle_cross(weighed: &Weighed, row: &ShuffleRow) -> i64
+    requires { length row.now.zones.now ≡ weighed.now.n }
+    ensures { result
+        ≡ cross_of (pair_at weighed.now.weights.now weighed.now.n)
+        (shuffled (at weighed.now.d.now) (λ i. get_or row.now.zones.now i 0)) weighed.now.n }
 {
     let Weighed { n, weights, d } = *weighed;
     let mut moved: [i64; 64] = [0; 64];
-    shuffling::shuffle_deviations(n, d, shuffles, r, &mut moved[..n]);
+    shuffling::shuffle_deviations(d, row, &mut moved[..n]);
     cross_sum(&Weighed {
         n,
         weights,
@@ -36,18 +40,20 @@ pub(super) fn shuffle_cross(weighed: &Weighed, shuffles: &[u8], r: usize) -> i64
 }
 
 // How many shuffles have a P less than, equal to, greater than the job's own.
-pub(super) fn tally(weighed: &Weighed, shuffles: &[u8], rows: usize) -> Counts
-    requires { Shuffles shuffles.now weighed.now.n rows }
+pub(super) fn tally(weighed: &Weighed, shuffles: &ShuffleRows) -> Counts
+    requires { shuffles.now.n ≡ weighed.now.n }
     ensures { three result
-        ≡ compared (cross_moved weighed.now.weights.now weighed.now.n weighed.now.d.now shuffles.now)
-        (cross_held weighed.now.weights.now weighed.now.n weighed.now.d.now) rows }
+        ≡ compared (cross_moved weighed.now.weights.now weighed.now.n weighed.now.d.now shuffles.now.shuffles.now)
+        (cross_held weighed.now.weights.now weighed.now.n weighed.now.d.now) shuffles.now.rows }
 {
     let own = cross_sum(weighed);
     let mut less: usize = 0;
     let mut equal: usize = 0;
     let mut greater: usize = 0;
-    for r in 0..rows {
-        let cross = shuffle_cross(weighed, shuffles, r);
+    // by r: chunks_exact wants an n above 0, which no clause here has
+    for r in 0..shuffles.rows {
+        let row = shuffles.shuffle(r);
+        let cross = shuffle_cross(weighed, &row);
         match cross.cmp(&own) {
             Ordering::Less => less += 1,
             Ordering::Equal => equal += 1,
@@ -62,19 +68,20 @@ pub(super) fn tally(weighed: &Weighed, shuffles: &[u8], rows: usize) -> Counts
 }
 
 // The rank of n zones.
-pub(super) fn zone_rank(job: &JobLists, shuffles: &[u8], rows: usize) -> Counts
-    requires { Shuffles shuffles.now job.now.n rows }
-    ensures { three result ≡ zones_rank rows job.now.n job.now.values.now job.now.weights.now shuffles.now }
+pub(super) fn zone_rank(job: &JobLists, shuffles: &ShuffleRows) -> Counts
+    requires { shuffles.now.n ≡ job.now.n }
+    ensures { three result
+        ≡ zones_rank shuffles.now.rows job.now.n job.now.values.now job.now.weights.now shuffles.now.shuffles.now }
 {
     let JobLists { n, values, weights } = *job;
     let list = ZoneValues { n, values };
     let total = deviations::total(&list);
     let mut d: [i64; 64] = [0; 64];
-    deviations::deviations(&list, total, &mut d[..n]);
+    deviations::deviations(&Summed { list, total }, &mut d[..n]);
     let weighed = Weighed {
         n,
         weights,
         d: &d[..n],
     };
-    tally(&weighed, shuffles, rows)
+    tally(&weighed, shuffles)
 }

@@ -5,4 +5,4 @@ use Rattle.account.proofs.classes.add_pairs.Given as goal
 
 abbrev pub invariant-loop-j : goal.invariant-loop-j
 invariant-loop-j l =
-    l.parts ≡ table_rows (pairs_in l.fn.lists.n l.fn.lists.values.now l.fn.lists.weights.now l.fn.lists.classes.now l.i l.j) 9 3
+    l.parts ≡ table_rows (pairs_in l.fn.work.lists.job.n l.fn.work.lists.job.values.now l.fn.work.lists.job.weights.now l.fn.work.lists.classes.now l.i l.j) 9 3

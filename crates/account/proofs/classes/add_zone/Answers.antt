@@ -30,22 +30,22 @@ use Rattle.account.proofs.classes.add_zone.Goals.{In-loop-k, Start}
 -- what the call was lent
 module _ (s : Start) where
   abbrev n : ℕ
-  n = s.args.lists.now.n
+  n = s.args.work.now.lists.job.n
 
   abbrev i : ℕ
   i = s.args.i
 
   abbrev values : List ℤ
-  values = s.args.lists.now.values.now
+  values = s.args.work.now.lists.job.values.now
 
   abbrev weights : List ℕ
-  weights = s.args.lists.now.weights.now
+  weights = s.args.work.now.lists.job.weights.now
 
   abbrev classes : List ℕ
-  classes = s.args.lists.now.classes.now
+  classes = s.args.work.now.lists.classes.now
 
   zones : n ≤ 64
-  zones = s.args.lists.now.good.job.valued.zones
+  zones = s.args.work.now.lists.good.job.valued.zones
 
   inside : i < n
   inside = s.requires.i_lt_n
@@ -56,7 +56,7 @@ module _ (s : Start) where
     bound =
         λ m le.
         let small : (q : ℕ) → q < m → nat_abs (zones_class_local n values weights classes q i) ≤ 94371840000000000 =
-        λ q p. class_local_size n values weights classes s.args.lists.now.good q i inside in
+        λ q p. class_local_size n values weights classes s.args.work.now.lists.good q i inside in
         omega (arith, sum_size (λ q. zones_class_local n values weights classes q i) m 94371840000000000 small);
     small = tt;
   }
@@ -85,23 +85,23 @@ module _ (t : In-loop-k) where
   part_is place p e h =
       let part = zone_part (n start) (values start) (weights start) (classes start) (i start) in
       let held = ap (at parts) e ∙ sums_at part parts t.add_pairs.ensures k p low h in
-      let size = part_size (n start) (values start) (weights start) (classes start) start.args.lists.now.good (i start) k p (inside start) in
+      let size = part_size (n start) (values start) (weights start) (classes start) start.args.work.now.lists.good (i start) k p (inside start) in
       rd w64 (told (part k p) 23040000000000 held size) tt
 
   local_is :
-      Is (r64 (at start.args.d.now (i start)) *ℤ r64 (at parts (k * 3 + 1)))
+      Is (r64 (at start.args.work.now.d.now (i start)) *ℤ r64 (at parts (k * 3 + 1)))
       (zones_class_local (n start) (values start) (weights start) (classes start) k (i start)) 94371840000000000
   unfolding zones_class_local local_of zone_part
   local_is =
-      let v = start.args.lists.now.good.job.valued in
-      let d = deviation_is (values start) (n start) start.args.d.now v start.requires.d_value (i start) (inside start) in
+      let v = start.args.work.now.lists.good.job.valued in
+      let d = deviation_is (values start) (n start) start.args.work.now.d.now v start.args.work.now.worked (i start) (inside start) in
       to 94371840000000000 (is_* d (part_is (k * 3 + 1) 1 refl (omega arith))) refl
-      (class_local_size (n start) (values start) (weights start) (classes start) start.args.lists.now.good k (i start) (inside start))
+      (class_local_size (n start) (values start) (weights start) (classes start) start.args.work.now.lists.good k (i start) (inside start))
 
   abbrev added : ClassRow
   added = record {
     weight = r64 (at parts (k * 3));
-    cross = r64 (r64 (at start.args.d.now (i start)) *ℤ r64 (at parts (k * 3 + 1)));
+    cross = r64 (r64 (at start.args.work.now.d.now (i start)) *ℤ r64 (at parts (k * 3 + 1)));
     squares = r64 (at parts (k * 3 + 2));
   }
 
@@ -116,24 +116,20 @@ module _ (t : In-loop-k) where
   each (suc zero) = (rd w64 local_is tt).same
   each (suc (suc place)) = (part_is (k * 3 + 2) 2 refl (omega arith)).same
 
-pub add_pairs-requires : goal.add_pairs-requires
+pub add_pairs-requires-clause-parts_value : goal.add_pairs-requires-clause-parts_value
 unfolding table table_rows
-add_pairs-requires c = record {
-  d_value = c.requires.d_value;
-  i_lt_n = c.requires.i_lt_n;
-  parts_value = refl;
-}
+add_pairs-requires-clause-parts_value c = refl
 
-pub bounds-d-i : goal.bounds-d-i
-bounds-d-i c =
+pub bounds-work-i : goal.bounds-work-i
+bounds-work-i c =
     let a = c.args in
-    omega (arith, c.requires.i_lt_n, (deviations_sized a.lists.now.values.now a.lists.now.n a.d.now c.args.lists.now.good.job.valued c.requires.d_value).count)
+    omega (arith, c.requires.i_lt_n, (deviations_sized a.work.now.lists.job.values.now a.work.now.lists.job.n a.work.now.d.now c.args.work.now.lists.good.job.valued c.args.work.now.worked).count)
 
 pub loop-k-init : goal.loop-k-init
 loop-k-init c =
     let a = c.args in
     let none : (k : ℕ) → k < 9 → a.i ≡ zones_in a.i 0 k = λ k p. rw (le-ltb k 0 (omega arith)) refl in (
-      same_zones a.lists.now.n a.lists.now.values.now a.lists.now.weights.now a.lists.now.classes.now (λ k. a.i) (zones_in a.i 0) _ _ none c.requires.zoned,
+      same_zones a.work.now.lists.job.n a.work.now.lists.job.values.now a.work.now.lists.job.weights.now a.work.now.lists.classes.now (λ k. a.i) (zones_in a.i 0) _ _ none c.requires.zoned,
       running_none _,
     )
 
@@ -144,9 +140,9 @@ pub add_row-requires : goal.add_row-requires
 add_row-requires c =
     let t = (goal.at.add_row-requires c).In-loop-k in
     let a = c.args in
-    let most : (q : ℕ) → q < 9 → zones_in a.i (k t) q ≤ a.lists.now.n = λ q p. omega (arith, zones_most a.i (k t) q, c.requires.i_lt_n) in record {
+    let most : (q : ℕ) → q < 9 → zones_in a.i (k t) q ≤ a.work.now.lists.job.n = λ q p. omega (arith, zones_most a.i (k t) q, c.requires.i_lt_n) in record {
       sized =
-          zones_sized a.lists.now.n a.lists.now.values.now a.lists.now.weights.now a.lists.now.classes.now c.args.lists.now.good (zones_in a.i (k t)) _ _ most c.loop-k.invariant.0;
+          zones_sized a.work.now.lists.job.n a.work.now.lists.job.values.now a.work.now.lists.job.weights.now a.work.now.lists.classes.now c.args.work.now.lists.good (zones_in a.i (k t)) _ _ most c.loop-k.invariant.0;
       k_bound = low t;
       weight_bound = added_small (part_is t (k t * 3) 0 (omega arith) (omega arith)) (omega arith);
       cross_bound = added_small (rd w64 (local_is t) tt) (omega arith);
@@ -161,7 +157,7 @@ loop-k-preserved c =
     let t = (goal.at.loop-k-preserved c).In-loop-k in
     let a = c.args in
     let b = c.loop-k in (
-      one_class a.lists.now.n a.lists.now.values.now a.lists.now.weights.now a.lists.now.classes.now a.i (k t) (added t) b.rows _ b.class_locals c.requires.i_lt_n (low t)
+      one_class a.work.now.lists.job.n a.work.now.lists.job.values.now a.work.now.lists.job.weights.now a.work.now.lists.classes.now a.i (k t) (added t) b.rows _ b.class_locals c.requires.i_lt_n (low t)
           b.invariant.0 c.add_row.ensures (each t),
       (rd w64 (own_more t) tt).same,
     )
@@ -175,13 +171,13 @@ returns c =
     -- what is stored is L(i)
     let own_is =
     running_done _ _ b.k (to_z w64 b.own-bits) nine b.invariant.1
-    ∙ locals_together a.lists.now.n a.lists.now.values.now a.lists.now.weights.now a.lists.now.classes.now c.args.lists.now.good.low a.i c.requires.i_lt_n in record {
+    ∙ locals_together a.work.now.lists.job.n a.work.now.lists.job.values.now a.work.now.lists.job.weights.now a.work.now.lists.classes.now c.args.work.now.lists.good.low a.i c.requires.i_lt_n in record {
       zoned_2 =
-          same_zones a.lists.now.n a.lists.now.values.now a.lists.now.weights.now a.lists.now.classes.now (zones_in a.i b.k) (λ k. a.i + 1) _ _ all b.invariant.0;
+          same_zones a.work.now.lists.job.n a.work.now.lists.job.values.now a.work.now.lists.job.weights.now a.work.now.lists.classes.now (zones_in a.i b.k) (λ k. a.i + 1) _ _ all b.invariant.0;
       owned_2 = record {
         count = length-set a.locals.now a.i _ ∙ c.requires.owned.count;
         numerators =
-            stored (local_of (pair_at a.lists.now.weights.now a.lists.now.n) (deviation_of (at a.lists.now.values.now) a.lists.now.n) a.lists.now.n) (pos 0) _ a.locals.now a.i
+            stored (local_of (pair_at a.work.now.lists.job.weights.now a.work.now.lists.job.n) (deviation_of (at a.work.now.lists.job.values.now) a.work.now.lists.job.n) a.work.now.lists.job.n) (pos 0) _ a.locals.now a.i
             (omega (arith, c.requires.i_lt_n, c.requires.owned.count)) own_is c.requires.owned.numerators;
       };
     }

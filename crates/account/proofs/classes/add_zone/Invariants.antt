@@ -7,5 +7,5 @@ use Rattle.account.proofs.classes.add_zone.Given as goal
 
 abbrev pub invariant-loop-k : goal.invariant-loop-k
 invariant-loop-k l =
-    Zoned l.fn.lists.n l.fn.lists.values.now l.fn.lists.weights.now l.fn.lists.classes.now (zones_in l.i l.k) l.rows l.class_locals
-    × (l.own ≡ sum (λ q. zones_class_local l.fn.lists.n l.fn.lists.values.now l.fn.lists.weights.now l.fn.lists.classes.now q l.i) l.k)
+    Zoned l.fn.work.lists.job.n l.fn.work.lists.job.values.now l.fn.work.lists.job.weights.now l.fn.work.lists.classes.now (zones_in l.i l.k) l.rows l.class_locals
+    × (l.own ≡ sum (λ q. zones_class_local l.fn.work.lists.job.n l.fn.work.lists.job.values.now l.fn.work.lists.job.weights.now l.fn.work.lists.classes.now q l.i) l.k)

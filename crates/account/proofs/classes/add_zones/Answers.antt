@@ -29,10 +29,10 @@ unfolding zones_locals zones_local
 returns c =
     let g = c.args in
     let b = c.loop-i in
-    let all : b.i ≡ g.lists.now.n = omega arith in
-    let classes = all_zones g.lists.now.n g.lists.now.values.now g.lists.now.weights.now g.lists.now.classes.now b.i b.rows b.class_locals all b.invariant.0 in
-    let f = local_of (pair_at g.lists.now.weights.now g.lists.now.n) (deviation_of (at g.lists.now.values.now) g.lists.now.n) g.lists.now.n in record {
+    let all : b.i ≡ g.work.now.lists.job.n = omega arith in
+    let classes = all_zones g.work.now.lists.job.n g.work.now.lists.job.values.now g.work.now.lists.job.weights.now g.work.now.lists.classes.now b.i b.rows b.class_locals all b.invariant.0 in
+    let f = local_of (pair_at g.work.now.lists.job.weights.now g.work.now.lists.job.n) (deviation_of (at g.work.now.lists.job.values.now) g.work.now.lists.job.n) g.work.now.lists.job.n in record {
       rows_after = classes.0;
       class_locals_after = classes.1;
-      locals_after = is_table f g.lists.now.n (pos 0) b.locals b.invariant.1.count (λ k p. b.invariant.1.numerators k (omega (arith, all)));
+      locals_after = is_table f g.work.now.lists.job.n (pos 0) b.locals b.invariant.1.count (λ k p. b.invariant.1.numerators k (omega (arith, all)));
     }

@@ -3,4 +3,4 @@ use Rattle.account.proofs.classes.add_zones.Given as goal
 
 abbrev pub invariant-loop-i : goal.invariant-loop-i
 invariant-loop-i l =
-    Zoned l.fn.lists.n l.fn.lists.values.now l.fn.lists.weights.now l.fn.lists.classes.now (λ k. l.i) l.rows l.class_locals × Owned l.fn.lists.n l.fn.lists.values.now l.fn.lists.weights.now l.i l.locals
+    Zoned l.fn.work.lists.job.n l.fn.work.lists.job.values.now l.fn.work.lists.job.weights.now l.fn.work.lists.classes.now (λ k. l.i) l.rows l.class_locals × Owned l.fn.work.lists.job.n l.fn.work.lists.job.values.now l.fn.work.lists.job.weights.now l.i l.locals

@@ -7,13 +7,13 @@ use lib.IntN.{ℤ, nat_abs}
 use mir.Syntax.{w64}
 use Rattle.whole.specs.Sum.{sum}
 use Rattle.whole.specs.Table.{at, pair_at}
-use Rattle.whole.proofs.Machine.{rd, r64}
+use Rattle.whole.proofs.Machine.{rd}
 use Rattle.whole.proofs.Sum.{sum_cong}
-use Rattle.account.specs.Measures.{total_of, weight_of, squares_of}
+use Rattle.account.specs.Measures.{weight_of, squares_of}
 use Rattle.account.specs.Classes.{zones_class_row, sum_at}
 use Rattle.account.specs.Steps.{zones_class_sums, ClassJob}
 use Rattle.account.proofs.ByClass.{sums_at}
-use Rattle.account.proofs.Locals.{locals_sized, locals_cross, total_told, spread_told, weight_told, cross_told, squares_told, same_figures}
+use Rattle.account.proofs.Locals.{locals_sized, locals_cross, total_held, spread_told, weight_told, cross_told, squares_told, same_figures}
 use Rattle.account.proofs.NineClasses.{weights_together, squares_together}
 use Rattle.account.proofs.ZoneByZone.{class_weight_size, class_squares_size}
 use Rattle.account.proofs.classes.zone_classes.Goals as goal
@@ -38,13 +38,6 @@ module _ (n : ℕ) (values : List ℤ) (weights classes : List ℕ) (g : ClassJo
   square_together : sum (λ k. at rows (k * 3 + 2)) 9 ≡ squares_of (pair_at weights n) (at values) n
   square_together = sum_cong _ _ 9 (λ k h. row_is k 2 h (omega arith)) ∙ squares_together n values weights classes g.low
 
--- S as it is handed on
-summed :
-    (c : After-total-total) →
-    let a = c.args in
-    r64 c.total-total.result ≡ total_of (at a.lists.now.values.now) a.lists.now.n
-summed c = (rd w64 (total_told _ _ c.args.lists.now.good.job.valued c.total-total.ensures) tt).same
-
 -- the call that is answered with the rows and the local numerators
 module _ (c : After-add_zones) where
   abbrev summing : After-spread-spread
@@ -53,20 +46,8 @@ module _ (c : After-add_zones) where
   abbrev start : Start
   start = ((goal.at.After-spread-spread summing).Start)
 
-pub invariant_of-list : goal.invariant_of-list
-invariant_of-list c = record { valued = c.args.lists.now.good.job.valued }
-
-pub spread-spread-requires : goal.spread-spread-requires
-spread-spread-requires c = summed ((goal.at.spread-spread-requires c).After-total-total)
-
-pub add_zones-requires : goal.add_zones-requires
-add_zones-requires c =
-    let p = c.requires in record {
-      total_value = summed ((goal.at.add_zones-requires c).After-total-total);
-      rows_len = p.rows_len;
-      class_locals_len = p.class_locals_len;
-      locals_len = p.locals_len;
-    }
+pub invariant_of-summed : goal.invariant_of-summed
+invariant_of-summed c = record { summed = total_held _ _ c.args.lists.now.good.job.valued c.total-total.ensures }
 
 pub nine_together-weight-requires : goal.nine_together-weight-requires
 nine_together-weight-requires c =
@@ -76,7 +57,7 @@ nine_together-weight-requires c =
     let g = (start after_add_zones).args.lists.now.good in record {
       place_bound = omega arith;
       rows_len = c.add_zones.auto.rows ∙ (start after_add_zones).requires.rows_len;
-      by_index = weight_small a.lists.now.n a.lists.now.values.now a.lists.now.weights.now a.lists.now.classes.now g _ rows;
+      by_index = weight_small a.lists.now.job.n a.lists.now.job.values.now a.lists.now.job.weights.now a.lists.now.classes.now g _ rows;
     }
 
 pub sum_of-cross-requires : goal.sum_of-cross-requires
@@ -94,7 +75,7 @@ nine_together-squares-requires c =
     let g = (start after_add_zones).args.lists.now.good in record {
       place_bound = omega arith;
       rows_len = c.add_zones.auto.rows ∙ (start after_add_zones).requires.rows_len;
-      by_index = squares_small a.lists.now.n a.lists.now.values.now a.lists.now.weights.now a.lists.now.classes.now g _ rows;
+      by_index = squares_small a.lists.now.job.n a.lists.now.job.values.now a.lists.now.job.weights.now a.lists.now.classes.now g _ rows;
     }
 
 pub returns : goal.returns
@@ -106,10 +87,10 @@ returns c =
     let g = s.args.lists.now.good in
     let r = g.job in
     let held = c.add_zones.ensures in
-    let weight = c.nine_together-weight.ensures ∙ weight_together a.lists.now.n a.lists.now.values.now a.lists.now.weights.now a.lists.now.classes.now g _ held.rows_after in
-    let squares = c.nine_together-squares.ensures ∙ square_together a.lists.now.n a.lists.now.values.now a.lists.now.weights.now a.lists.now.classes.now g _ held.rows_after in record {
-      result_value = same_figures a.lists.now.n a.lists.now.values.now a.lists.now.weights.now _ _ _ _ _
-          (summed ((goal.at.After-spread-spread m).After-total-total))
+    let weight = c.nine_together-weight.ensures ∙ weight_together a.lists.now.job.n a.lists.now.job.values.now a.lists.now.job.weights.now a.lists.now.classes.now g _ held.rows_after in
+    let squares = c.nine_together-squares.ensures ∙ square_together a.lists.now.job.n a.lists.now.job.values.now a.lists.now.job.weights.now a.lists.now.classes.now g _ held.rows_after in record {
+      result_value = same_figures a.lists.now.job.n a.lists.now.job.values.now a.lists.now.job.weights.now _ _ _ _ _
+          (total_held _ _ r.valued m.total-total.ensures)
           (rd w64 (spread_told _ _ r.valued m.spread-spread.ensures) tt).same
           (rd w64 (weight_told _ _ r.weighted weight) tt).same
           (rd w64 (cross_told _ _ _ r (c.sum_of-cross.ensures ∙ locals_cross _ _ _ r _ held.locals_after)) tt).same

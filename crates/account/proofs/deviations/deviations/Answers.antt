@@ -15,21 +15,18 @@ use Rattle.account.proofs.deviations.deviations.Goals.{After-from}
 
 -- n x(i), and n x(i) − S
 module _ (c : After-from) where
-  product : Is (to_z w64 c.args.list.now.n *ℤ r64 c.from.result) (pos c.args.list.now.n *ℤ at c.args.list.now.values.now c.loop-i.i) 6400000
+  product : Is (to_z w64 c.args.summed.now.list.n *ℤ r64 c.from.result) (pos c.args.summed.now.list.n *ℤ at c.args.summed.now.list.values.now c.loop-i.i) 6400000
   product =
-      is_* (nat w64 c.args.list.now.n 64 c.args.list.now.valued.zones tt)
-      (rd w64 (value_told _ _ c.args.list.now.valued c.loop-i.i (omega arith) c.from.ensures) tt)
+      is_* (nat w64 c.args.summed.now.list.n 64 c.args.summed.now.list.valued.zones tt)
+      (rd w64 (value_told _ _ c.args.summed.now.list.valued c.loop-i.i (omega arith) c.from.ensures) tt)
 
   deviation :
-      Is (r64 (to_z w64 c.args.list.now.n *ℤ r64 c.from.result) -ℤ r64 c.args.total)
-      (deviation_of (at c.args.list.now.values.now) c.args.list.now.n c.loop-i.i) 12800000
+      Is (r64 (to_z w64 c.args.summed.now.list.n *ℤ r64 c.from.result) -ℤ r64 c.args.summed.now.total)
+      (deviation_of (at c.args.summed.now.list.values.now) c.args.summed.now.list.n c.loop-i.i) 12800000
   unfolding deviation_of total_of
   deviation =
-      let bound = (total_runs _ _ c.args.list.now.valued).bound c.args.list.now.n (N.le_refl c.args.list.now.n) in
-      is__ (rd w64 product tt) (rd w64 (told _ 6400000 c.requires.total_value bound) tt)
-
-pub loop-i-init : goal.loop-i-init
-loop-i-init c = λ k p. let z : ⊥ = omega arith in absurd z
+      let bound = (total_runs _ _ c.args.summed.now.list.valued).bound c.args.summed.now.list.n (N.le_refl c.args.summed.now.list.n) in
+      is__ (rd w64 product tt) (rd w64 (told _ 6400000 c.args.summed.now.summed bound) tt)
 
 pub overflow_mul-deviation : goal.overflow_mul-deviation
 overflow_mul-deviation c = fit w64 (product c) tt
@@ -39,10 +36,10 @@ overflow_sub-deviation c = fit w64 (deviation c) tt
 
 pub loop-i-preserved : goal.loop-i-preserved
 loop-i-preserved c =
-    stored (deviation_of (at c.args.list.now.values.now) c.args.list.now.n) (pos 0) _ c.loop-i.d c.loop-i.i (omega arith) (rd w64 (deviation c) tt).same
+    stored (deviation_of (at c.args.summed.now.list.values.now) c.args.summed.now.list.n) (pos 0) _ c.loop-i.d c.loop-i.i (omega arith) (rd w64 (deviation c) tt).same
     c.loop-i.invariant
 
 pub returns : goal.returns
 returns c =
-    is_table (deviation_of (at c.args.list.now.values.now) c.args.list.now.n) c.args.list.now.n (pos 0) c.loop-i.d (omega arith)
+    is_table (deviation_of (at c.args.summed.now.list.values.now) c.args.summed.now.list.n) c.args.summed.now.list.n (pos 0) c.loop-i.d (omega arith)
     (λ k p. c.loop-i.invariant k (omega arith))

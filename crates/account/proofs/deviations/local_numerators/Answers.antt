@@ -20,9 +20,6 @@ local c =
     let p = c.args.weighed.now in
     local_is _ _ p.weighted _ c.loop-i.i p.sized (omega arith) c.neighbour_sum-neighbours.ensures
 
-pub loop-i-init : goal.loop-i-init
-loop-i-init c = λ k p. let z : ⊥ = omega arith in absurd z
-
 pub overflow_mul-local : goal.overflow_mul-local
 overflow_mul-local c = fit w64 (local ((goal.at.overflow_mul-local c).After-neighbour_sum-neighbours)) tt
 

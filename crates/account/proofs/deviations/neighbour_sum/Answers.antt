@@ -13,7 +13,7 @@ use Rattle.whole.proofs.Accumulate.{running_none, running_more, running_done}
 use Rattle.whole.proofs.Machine.{Is, val, told, rd, is_*, fit, r64}
 use Rattle.account.specs.Measures.{row_of}
 use Rattle.account.proofs.Reading.{weight_le}
-use Rattle.account.proofs.Rows.{row_in, row_length, row_at}
+use Rattle.account.proofs.Rows.{row_in, part_length, part_at}
 use Rattle.account.proofs.Running.{neighbours_run}
 use Rattle.account.proofs.deviations.neighbour_sum.Goals as goal
 use Rattle.account.proofs.deviations.neighbour_sum.Goals.{After-from}
@@ -33,12 +33,12 @@ module _ (c : After-from) where
   there = row_in _ _ _ c.args.weighed.now.weighted.count c.requires
 
   before : j < c.args.weighed.now.n
-  before = omega (arith, row_length c.args.weighed.now.weights.now c.args.weighed.now.n c.args.i there)
+  before = omega (arith, part_length c.args.weighed.now.weights.now c.args.weighed.now.n c.args.i there _ c.row-row.ensures)
 
   -- what the code has read of the weight
   read : c.from.result ≡ pos (weight j)
   unfolding pair_at
-  read = c.from.ensures ∙ ap pos (row_at c.args.weighed.now.weights.now c.args.weighed.now.n c.args.i there j 0 before)
+  read = c.from.ensures ∙ ap pos (part_at c.args.weighed.now.weights.now c.args.weighed.now.n c.args.i there _ c.row-row.ensures j 0 before)
 
   term : Is (r64 c.from.result *ℤ r64 (deviation j)) (pos (weight j) *ℤ deviation j) 115200000
   term =
@@ -68,5 +68,5 @@ pub returns : goal.returns
 unfolding row_of
 returns c =
     let there = row_in _ _ _ c.args.weighed.now.weighted.count c.requires in
-    let long = row_length c.args.weighed.now.weights.now c.args.weighed.now.n c.args.i there in
+    let long = part_length c.args.weighed.now.weights.now c.args.weighed.now.n c.args.i there _ c.row-row.ensures in
     running_done _ c.args.weighed.now.n c.loop-j.j (to_z w64 c.loop-j.acc-bits) (omega (arith, long)) c.loop-j.invariant

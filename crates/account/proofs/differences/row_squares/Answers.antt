@@ -14,7 +14,7 @@ use Rattle.whole.proofs.Machine.{Is, told, rd, is_*, fit, r64}
 use Rattle.whole.specs.Table.{at, pair_at}
 use Rattle.account.specs.Measures.{row_of}
 use Rattle.account.proofs.Reading.{weight_le, difference_told}
-use Rattle.account.proofs.Rows.{row_in, row_length, row_at}
+use Rattle.account.proofs.Rows.{row_in, part_length, part_at}
 use Rattle.account.proofs.Running.{row_squares_run}
 use Rattle.account.proofs.differences.row_squares.Goals as goal
 use Rattle.account.proofs.differences.row_squares.Goals.{After-squared_difference}
@@ -35,12 +35,12 @@ module _ (c : After-squared_difference) where
   there = row_in _ _ _ c.args.job.now.good.weighted.count c.requires
 
   before : j < c.args.job.now.n
-  before = omega (arith, row_length c.args.job.now.weights.now c.args.job.now.n c.args.i there)
+  before = omega (arith, part_length c.args.job.now.weights.now c.args.job.now.n c.args.i there _ c.row-row.ensures)
 
   -- what the code has read of the weight
   read : c.from.result ≡ pos (weight j)
   unfolding pair_at
-  read = c.from.ensures ∙ ap pos (row_at c.args.job.now.weights.now c.args.job.now.n c.args.i there j 0 before)
+  read = c.from.ensures ∙ ap pos (part_at c.args.job.now.weights.now c.args.job.now.n c.args.i there _ c.row-row.ensures j 0 before)
 
   term : Is (r64 c.from.result *ℤ r64 c.squared_difference.result) (pos (weight j) *ℤ apart j) 360000000000
   term =
@@ -70,5 +70,5 @@ pub returns : goal.returns
 unfolding row_of
 returns c =
     let there = row_in _ _ _ c.args.job.now.good.weighted.count c.requires in
-    let long = row_length c.args.job.now.weights.now c.args.job.now.n c.args.i there in
+    let long = part_length c.args.job.now.weights.now c.args.job.now.n c.args.i there _ c.row-row.ensures in
     running_done _ c.args.job.now.n c.loop-j.j (to_z w64 c.loop-j.acc-bits) (omega (arith, long)) c.loop-j.invariant

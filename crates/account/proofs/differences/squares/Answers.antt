@@ -31,9 +31,6 @@ turn c =
 pub loop-i-init : goal.loop-i-init
 loop-i-init c = running_none _
 
-pub row_squares-acc-requires : goal.row_squares-acc-requires
-row_squares-acc-requires c = omega arith
-
 pub overflow_add-acc : goal.overflow_add-acc
 overflow_add-acc c = fit w64 (turn c) tt
 

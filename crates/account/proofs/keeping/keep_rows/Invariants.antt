@@ -7,4 +7,4 @@ use Rattle.account.proofs.keeping.keep_rows.Given as goal
 
 abbrev pub invariant-loop-r : goal.invariant-loop-r
 invariant-loop-r l =
-    take (l.r * l.many) l.out ≡ table_rows (λ r'. placed_number l.places l.many l.n (pair_at l.shuffles l.n r')) l.r l.many
+    take (l.r * l.many) l.out ≡ table_rows (λ r'. placed_number l.places l.many l.fn.shuffles.n (pair_at l.fn.shuffles.shuffles.now l.fn.shuffles.n r')) l.r l.many

@@ -32,13 +32,14 @@ keep_rows-requires-clause-places_len c =
 pub keep_rows-requires-clause-n_value : goal.keep_rows-requires-clause-n_value
 keep_rows-requires-clause-n_value c = counted ((goal.at.keep_rows-requires-clause-n_value c).After-gather-gathered)
 
-pub zone_rank-requires-2 : goal.zone_rank-requires-2
-zone_rank-requires-2 c =
+pub invariant_of-kept_rows : goal.invariant_of-kept_rows
+invariant_of-kept_rows c =
     let k = c.args.kept.now in
-    let g = c.gather-gathered.ensures in
-    rw g.n
-    (gathered_shuffles k.job.n k.job.weights.now k.zones.now k.kept c.args.rows c.args.shuffles.now c.requires _ g.places _
-    (rw (sym g.n) c.keep_rows.ensures))
+    let g = c.gather-gathered.ensures in record {
+      good = rw g.n
+          (gathered_shuffles k.job.n k.job.weights.now k.zones.now k.kept c.args.rows c.args.shuffles.now c.requires _ g.places _
+          (rw (sym g.n) c.keep_rows.ensures));
+    }
 
 pub returns : goal.returns
 returns c =

@@ -1,17 +1,18 @@
 -- `shuffle_cross` meets its contract: the zones take their deviations in a local array, whose first n places are lent. Assumes nothing.
-use mathlib.Core.Path.{◌≡◌, sym, ◌∙◌}
+use mathlib.Core.Path.{◌≡◌, sym, ap, ◌∙◌}
+use mathlib.Core.Bool.{false}
 use mathlib.Core.List.{List}
 use Prim.Native.Nat.{ℕ}
 use lib.IntN.{ℤ, pos}
-use lib.ListN.{length}
-use lib.Seq.{length-take-le}
+use lib.ListN.{length, get_or}
 use mir.Syntax.{w64}
+use Rattle.whole.specs.Order.{lacks}
 use Rattle.whole.specs.Table.{table, at, pair_at}
-use Rattle.whole.proofs.Lists.{front, front_le, front_length}
+use Rattle.whole.proofs.Lists.{front}
 use Rattle.whole.proofs.Machine.{rd}
 use Rattle.whole.proofs.Table.{table_length, table_held}
 use Rattle.account.specs.Rank.{shuffled}
-use Rattle.account.specs.Steps.{Sized, cross_held, cross_moved}
+use Rattle.account.specs.Steps.{Sized}
 use Rattle.account.proofs.Adding.{cross_alike}
 use Rattle.account.proofs.Locals.{deviations_cross_told}
 use Rattle.account.proofs.Reading.{table_sized}
@@ -27,60 +28,36 @@ module _ (c : After-shuffle_deviations) where
   abbrev n : ℕ
   n = a.args.weighed.now.n
 
+  abbrev names : ℕ → ℕ
+  names i = get_or a.args.row.now.zones.now i 0
+
   abbrev moved : ℕ → ℤ
-  moved = shuffled (at a.args.weighed.now.d.now) (pair_at a.args.shuffles.now n a.args.r)
+  moved = shuffled (at a.args.weighed.now.d.now) names
+
+  all : lacks names n ≡ false
+  all = ap (lacks names) (sym a.requires) ∙ a.args.row.now.full
 
   as_long : length (table moved n) ≡ n
   as_long = table_length moved n
 
   sized : (l : List ℤ) → l ≡ table moved n → Sized 12800000 l n
-  sized l e = table_sized 12800000 n moved l e (shuffled_size _ _ _ _ _ a.args.weighed.now.sized a.requires)
+  sized l e = table_sized 12800000 n moved l e (shuffled_size _ _ _ _ a.args.weighed.now.sized all)
 
-  same :
-      (l : List ℤ) → l ≡ table moved n →
-      cross_held a.args.weighed.now.weights.now n l ≡ cross_moved a.args.weighed.now.weights.now n a.args.weighed.now.d.now a.args.shuffles.now a.args.r
-  same l e = cross_alike (pair_at a.args.weighed.now.weights.now n) n (at l) moved (table_held moved n (pos 0) l e)
-
-pub slice_bounds-moved-end : goal.slice_bounds-moved-end
-slice_bounds-moved-end c = c.args.weighed.now.weighted.zones
-
-pub slice_bounds-shuffle_deviations-end : goal.slice_bounds-shuffle_deviations-end
-slice_bounds-shuffle_deviations-end c = sym (length-take-le _ _ c.args.weighed.now.weighted.zones)
-
-pub shuffle_deviations-requires : goal.shuffle_deviations-requires
-shuffle_deviations-requires c = record {
-  d_len = c.args.weighed.now.sized.count;
-  moved_len = length-take-le _ _ c.args.weighed.now.weighted.zones;
-  shuffle = c.requires;
-}
-
-pub slice_bounds-moved-end-2 : goal.slice_bounds-moved-end-2
-slice_bounds-moved-end-2 c =
-    let after_shuffle_deviations = (goal.at.slice_bounds-moved-end-2 c).After-shuffle_deviations in
-    front_le {A = ℤ} _ _ (table (moved after_shuffle_deviations) (n after_shuffle_deviations)) _ c.shuffle_deviations.ensures (as_long
-    after_shuffle_deviations)
-
-pub slice_bounds-cross_sum-end : goal.slice_bounds-cross_sum-end
-slice_bounds-cross_sum-end c =
-    let after_shuffle_deviations = (goal.at.slice_bounds-cross_sum-end c).After-shuffle_deviations in
-    front_length {A = ℤ} _ _ (table (moved after_shuffle_deviations) (n after_shuffle_deviations)) _ c.shuffle_deviations.ensures (as_long
-    after_shuffle_deviations)
+  -- what was written
+  written : c.shuffle_deviations.new.moved ≡ table moved n
+  written = c.shuffle_deviations.ensures ∙ ap (table moved) a.requires
 
 pub invariant_of-cross_sum : goal.invariant_of-cross_sum
 invariant_of-cross_sum c =
-    let after_shuffle_deviations = (goal.at.invariant_of-cross_sum c).After-shuffle_deviations in
-    record {
-      weighted = (a after_shuffle_deviations).args.weighed.now.weighted;
-      sized = sized after_shuffle_deviations _ (front {A = ℤ} _ _ (table (moved after_shuffle_deviations) (n after_shuffle_deviations)) _
-          c.shuffle_deviations.ensures (as_long after_shuffle_deviations));
+    let s = (goal.at.invariant_of-cross_sum c).After-shuffle_deviations in record {
+      weighted = (a s).args.weighed.now.weighted;
+      sized = sized s _ (front {A = ℤ} _ _ (table (moved s) (n s)) _ (written s) (as_long s));
     }
 
 pub returns : goal.returns
 returns c =
-    let after_shuffle_deviations = (goal.at.returns c).After-shuffle_deviations in
-    let e = same after_shuffle_deviations _ (front {A = ℤ} _ _ (table (moved after_shuffle_deviations) (n after_shuffle_deviations)) _
-    c.shuffle_deviations.ensures (as_long after_shuffle_deviations)) in
-    let s = a after_shuffle_deviations in
-    let w = s.args.weighed.now in
-    (rd w64 (deviations_cross_told _ _ w.weighted (moved after_shuffle_deviations) (shuffled_size _ _ _ _ _ w.sized s.requires)
-    (c.cross_sum.ensures ∙ e)) tt).same
+    let s = (goal.at.returns c).After-shuffle_deviations in
+    let w = (a s).args.weighed.now in
+    let held = table_held (moved s) (n s) (pos 0) _ (front {A = ℤ} _ _ (table (moved s) (n s)) _ (written s) (as_long s)) in
+    (rd w64 (deviations_cross_told _ _ w.weighted (moved s) (shuffled_size _ _ _ _ w.sized (all s))
+    (c.cross_sum.ensures ∙ cross_alike (pair_at w.weights.now w.n) w.n _ (moved s) held)) tt).same

@@ -4,4 +4,4 @@ use Rattle.account.proofs.ranking.tally.Given as goal
 
 abbrev pub invariant-loop-r : goal.invariant-loop-r
 invariant-loop-r l =
-    Tallied (cross_moved l.fn.weighed.weights.now l.fn.weighed.n l.fn.weighed.d.now l.shuffles) (cross_held l.fn.weighed.weights.now l.fn.weighed.n l.fn.weighed.d.now) l.less l.equal l.greater l.r
+    Tallied (cross_moved l.fn.weighed.weights.now l.fn.weighed.n l.fn.weighed.d.now l.fn.shuffles.shuffles.now) (cross_held l.fn.weighed.weights.now l.fn.weighed.n l.fn.weighed.d.now) l.less l.equal l.greater l.r

@@ -1,18 +1,17 @@
 -- `zone_rank` meets its contract: the deviations are worked once, and a shuffle's deviations are the job's, shuffled. Assumes nothing.
-use mathlib.Core.Path.{◌≡◌, sym, ◌∙◌}
+use mathlib.Core.Path.{◌≡◌, sym, ap, ◌∙◌}
+use Prim.Native.Nat.{ℕ}
 use mathlib.Core.List.{List}
 use lib.IntN.{ℤ}
 use lib.ListN.{length}
-use lib.Seq.{length-take-le}
-use Rattle.whole.specs.Table.{table, at}
-use mir.Syntax.{w64}
-use Rattle.whole.proofs.Machine.{rd}
-use Rattle.whole.proofs.Lists.{front, front_le, front_length}
+use Rattle.whole.specs.Order.{lacks}
+use Rattle.whole.specs.Table.{table, at, pair_at}
+use Rattle.whole.proofs.Lists.{front}
 use Rattle.whole.proofs.Table.{table_length}
 use Rattle.account.specs.Measures.{deviation_of}
 use Rattle.account.specs.Rank.{values_cross, shuffle_cross, compared, zones_rank}
 use Rattle.account.specs.Steps.{cross_held, cross_moved}
-use Rattle.account.proofs.Locals.{deviations_sized, total_told}
+use Rattle.account.proofs.Locals.{deviations_sized, total_held}
 use Rattle.account.proofs.Shuffled.{own_cross, its_cross}
 use Rattle.account.proofs.Tallied.{compared_cong}
 use Rattle.account.proofs.ranking.zone_rank.Goals as goal
@@ -33,41 +32,21 @@ module _ (c : After-deviations) where
   same :
       (d : List ℤ) → d ≡ expected →
       let g = a.args in
-      compared (cross_moved g.job.now.weights.now g.job.now.n d g.shuffles.now) (cross_held g.job.now.weights.now g.job.now.n d) g.rows
-      ≡ compared (shuffle_cross g.job.now.n g.job.now.values.now g.job.now.weights.now g.shuffles.now)
+      let s = g.shuffles.now in
+      compared (cross_moved g.job.now.weights.now g.job.now.n d s.shuffles.now) (cross_held g.job.now.weights.now g.job.now.n d) s.rows
+      ≡ compared (shuffle_cross g.job.now.n g.job.now.values.now g.job.now.weights.now s.shuffles.now)
       (values_cross g.job.now.n g.job.now.weights.now (at g.job.now.values.now))
-      g.rows
+      s.rows
   same d e =
       let g = a.args in
-      compared_cong _ _ _ _ g.rows
-      (λ r h. its_cross g.job.now.values.now g.job.now.weights.now g.job.now.n d e g.shuffles.now r (a.requires.full r h))
+      let s = g.shuffles.now in
+      compared_cong _ _ _ _ s.rows
+      (λ r h. its_cross g.job.now.values.now g.job.now.weights.now g.job.now.n d e s.shuffles.now r
+      (ap (λ (m : ℕ). lacks (pair_at s.shuffles.now m r) m) (sym a.requires) ∙ s.good.full r h))
       (own_cross g.job.now.values.now g.job.now.weights.now g.job.now.n d e)
 
-pub invariant_of-list : goal.invariant_of-list
-invariant_of-list c = record { valued = c.args.job.now.good.valued }
-
-pub slice_bounds-d-end : goal.slice_bounds-d-end
-slice_bounds-d-end c = c.args.job.now.good.valued.zones
-
-pub slice_bounds-deviations-end : goal.slice_bounds-deviations-end
-slice_bounds-deviations-end c = sym (length-take-le _ _ c.args.job.now.good.valued.zones)
-
-pub deviations-requires : goal.deviations-requires
-deviations-requires c =
-    let v = c.args.job.now.good.valued in record {
-      total_value = (rd w64 (total_told _ _ v c.total-total.ensures) tt).same;
-      d_len = length-take-le _ _ v.zones;
-    }
-
-pub slice_bounds-d-end-2 : goal.slice_bounds-d-end-2
-slice_bounds-d-end-2 c =
-    let after_deviations = (goal.at.slice_bounds-d-end-2 c).After-deviations in
-    front_le {A = ℤ} _ _ (expected after_deviations) _ c.deviations.ensures (as_long after_deviations)
-
-pub slice_bounds-weighed-end : goal.slice_bounds-weighed-end
-slice_bounds-weighed-end c =
-    let after_deviations = (goal.at.slice_bounds-weighed-end c).After-deviations in
-    front_length {A = ℤ} _ _ (expected after_deviations) _ c.deviations.ensures (as_long after_deviations)
+pub invariant_of-deviations : goal.invariant_of-deviations
+invariant_of-deviations c = record { summed = total_held _ _ c.args.job.now.good.valued c.total-total.ensures }
 
 pub invariant_of-weighed : goal.invariant_of-weighed
 invariant_of-weighed c =

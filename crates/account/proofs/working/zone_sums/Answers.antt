@@ -1,27 +1,19 @@
 -- `zone_sums` meets its contract: the deviations are worked into a local array, whose first n places are lent. Assumes nothing.
-use mathlib.Core.Path.{◌≡◌, sym, ◌∙◌}
+use mathlib.Core.Path.{◌≡◌, ◌∙◌}
 use mathlib.Core.List.{List}
 use lib.IntN.{ℤ}
 use lib.ListN.{length}
-use lib.Seq.{length-take-le}
 use mir.Syntax.{w64}
 use Rattle.whole.specs.Table.{table, at}
-use Rattle.whole.proofs.Lists.{front, front_le, front_length}
-use Rattle.whole.proofs.Machine.{rd, r64}
+use Rattle.whole.proofs.Lists.{front}
+use Rattle.whole.proofs.Machine.{rd}
 use Rattle.whole.proofs.Table.{table_length}
-use Rattle.account.specs.Measures.{total_of, deviation_of}
+use Rattle.account.specs.Measures.{deviation_of}
 use Rattle.account.specs.Steps.{zones_locals}
-use Rattle.account.proofs.Locals.{total_told, spread_told, weight_told, cross_told, squares_told, same_figures}
+use Rattle.account.proofs.Locals.{total_held, spread_told, weight_told, cross_told, squares_told, same_figures}
 use Rattle.account.proofs.Locals.{deviations_sized, locals_are, locals_sized, locals_cross}
 use Rattle.account.proofs.working.zone_sums.Goals as goal
-use Rattle.account.proofs.working.zone_sums.Goals.{After-deviations, After-local_numerators, After-total-total, Start}
-
--- S as it is handed on
-summed :
-    (c : After-total-total) →
-    let a = c.args in
-    r64 c.total-total.result ≡ total_of (at a.job.now.values.now) a.job.now.n
-summed c = (rd w64 (total_told _ _ c.args.job.now.good.valued c.total-total.ensures) tt).same
+use Rattle.account.proofs.working.zone_sums.Goals.{After-deviations, After-local_numerators, Start}
 
 -- the deviations of the job, as the array's front holds them
 module _ (c : After-deviations) where
@@ -34,34 +26,8 @@ module _ (c : After-deviations) where
   as_long : length expected ≡ a.args.job.now.n
   as_long = table_length (deviation_of (at a.args.job.now.values.now) a.args.job.now.n) a.args.job.now.n
 
-pub invariant_of-list : goal.invariant_of-list
-invariant_of-list c = record { valued = c.args.job.now.good.valued }
-
-pub spread-spread-requires : goal.spread-spread-requires
-spread-spread-requires c = summed ((goal.at.spread-spread-requires c).After-total-total)
-
-pub slice_bounds-d-end : goal.slice_bounds-d-end
-slice_bounds-d-end c = c.args.job.now.good.valued.zones
-
-pub slice_bounds-deviations-end : goal.slice_bounds-deviations-end
-slice_bounds-deviations-end c = sym (length-take-le _ _ c.args.job.now.good.valued.zones)
-
-pub deviations-requires : goal.deviations-requires
-deviations-requires c =
-    let v = c.args.job.now.good.valued in record {
-      total_value = summed ((goal.at.deviations-requires c).After-total-total);
-      d_len = length-take-le _ _ v.zones;
-    }
-
-pub slice_bounds-d-end-2 : goal.slice_bounds-d-end-2
-slice_bounds-d-end-2 c =
-    let after_deviations = (goal.at.slice_bounds-d-end-2 c).After-deviations in
-    front_le {A = ℤ} _ _ (expected after_deviations) _ c.deviations.ensures (as_long after_deviations)
-
-pub slice_bounds-weighed-end : goal.slice_bounds-weighed-end
-slice_bounds-weighed-end c =
-    let after_deviations = (goal.at.slice_bounds-weighed-end c).After-deviations in
-    front_length {A = ℤ} _ _ (expected after_deviations) _ c.deviations.ensures (as_long after_deviations)
+pub invariant_of-summed : goal.invariant_of-summed
+invariant_of-summed c = record { summed = total_held _ _ c.args.job.now.good.valued c.total-total.ensures }
 
 -- the lent list holds the local numerators of the job
 held :
@@ -95,7 +61,7 @@ returns c =
     let r = job.good in
     let locals = held ((goal.at.returns c).After-local_numerators) in record {
       result_value = same_figures job.n job.values.now job.weights.now _ _ _ _ _
-          (summed ((goal.at.returns c).After-total-total))
+          (total_held _ _ r.valued c.total-total.ensures)
           (rd w64 (spread_told _ _ r.valued c.spread-spread.ensures) tt).same
           (rd w64 (weight_told _ _ r.weighted c.weight_sum-weight.ensures) tt).same
           (rd w64 (cross_told _ _ _ r (c.sum_of-cross.ensures ∙ locals_cross _ _ _ r _ locals)) tt).same
