@@ -92,7 +92,7 @@ fn put_coefficient(figures: &mut [u64], place: usize, coefficient: Coefficient)
     }
 }
 
-// Moran and Geary of pair k. C lends the pairs as a flat list, and of one taken as arrays (`as_chunks_mut`) it is not known what it ends as.
+// Moran and Geary of pair k. C lends the pairs as a flat list; of one taken as arrays (`as_chunks_mut`) it is not known what it ends as.
 pub(super) fn put_pair(figures: &mut [u64], k: usize, pair: Pair)
     requires k_bound { k < 9 }
     requires k_in_bounds { k * 2 + 1 < length figures.old }

@@ -1,6 +1,6 @@
 // Lines of a report into a page that has room for them. Each call is told the place to begin at, and answers the place behind what it has
 // put.
-// Room is asked for from that place on, so that no type of the page carries it. C lends the page as a bare list. A struct of it and the place
+// Room is asked for from that place on, so that no type of the page carries it. A struct of the page and the place
 // is no plainer: each call would say besides that it holds the same page.
 ghost use Rattle.std.specs.Prelude.{[], ◌∷◌, ◌++◌, ◌≤◌, length};
 ghost use Rattle.pages.specs.Lines.{numbers, bits as bits_of};
