@@ -31,8 +31,8 @@ pub(super) fn add_pairs(work: &ClassDeviations, i: usize, parts: &mut [i64])
     requires i_lt_n { i < work.now.lists.job.n }
     requires parts_value { parts.old ≡ table_rows (λ k place. pos 0) 9 3 }
     ensures { parts.new
-        ≡ table_rows (zone_part work.now.lists.job.n work.now.lists.job.values.now work.now.lists.job.weights.now work.now.lists.classes.now i)
-        9 3 }
+        ≡ table_rows (zone_part work.now.lists.job.n work.now.lists.job.values.now work.now.lists.job.weights.now
+        work.now.lists.classes.now i) 9 3 }
 {
     let ClassLists { job, classes } = work.lists;
     let JobLists { n, values, weights } = job;
@@ -131,7 +131,8 @@ pub(super) fn zone_classes(
     requires class_locals_len { length class_locals.old ≡ 9 * lists.now.job.n }
     requires locals_len { length locals.old ≡ lists.now.job.n }
     ensures result_value { listed result ≡ zones_figures lists.now.job.n lists.now.job.values.now lists.now.job.weights.now }
-    ensures rows_after { rows.new ≡ zones_class_sums lists.now.job.n lists.now.job.values.now lists.now.job.weights.now lists.now.classes.now }
+    ensures rows_after { rows.new ≡ zones_class_sums lists.now.job.n lists.now.job.values.now lists.now.job.weights.now
+        lists.now.classes.now }
     ensures class_locals_after { class_locals.new
         ≡ zones_class_locals lists.now.job.n lists.now.job.values.now lists.now.job.weights.now lists.now.classes.now }
     ensures locals_after { locals.new ≡ zones_locals lists.now.job.n lists.now.job.values.now lists.now.job.weights.now }
