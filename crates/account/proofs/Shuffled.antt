@@ -15,7 +15,7 @@ use Rattle.account.specs.Measures.{total_of, deviation_of}
 use Rattle.account.specs.Rank.{shuffled, values_cross, shuffle_cross}
 use Rattle.account.specs.Steps.{Sized, cross_held, cross_moved}
 use Rattle.account.proofs.Adding.{cross_alike}
-use Rattle.account.proofs.Rows.{is_row, part_length, part_at}
+use Rattle.account.proofs.Rows.{part_length, part_at}
 
 -- ---- row r of a list of shuffles, as it was cut out
 module _
@@ -33,7 +33,7 @@ module _
 
   pub row_full : lacks (λ i. get_or row i 0) (length row) ≡ false
   row_full =
-      ap (λ t. lacks (λ i. get_or t i 0) (length t)) (is_row shuffles n r there row e)
+      ap (λ t. lacks (λ i. get_or t i 0) (length t)) e
       ∙ row_lacks shuffles n r there
       ∙ w.full r h
 

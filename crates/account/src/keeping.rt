@@ -5,7 +5,7 @@ ghost use Rattle.whole.specs.Table.{table, table_rows, at, pair_at};
 ghost use Rattle.kept.specs.Kept.{kept_zones};
 ghost use Rattle.account.specs.Steps.{Zones, gathered_pairs, place_in, at_place, placed_number};
 
-use crate::lists::{JobLists, ShuffleRow, ShuffleRows};
+use crate::lists::{self, JobLists, ShuffleRow, ShuffleRows};
 
 // A job with the zones that are kept of it, rising.
 #[derive(Clone, Copy)]
@@ -41,8 +41,7 @@ impl KeptLists<'_> {
         let n = self.job.n;
         let many = self.zones.len();
         for (k, zone) in self.zones.iter().enumerate() {
-            let from = usize::from(*zone) * n;
-            let row = &pairs[from..from + n];
+            let row = lists::row(pairs, n, usize::from(*zone));
             let first = k * many;
             self.gather(row, &mut out[first..first + many]);
         }

@@ -15,7 +15,7 @@ pub(super) fn put_kept(weights: &Weights, zones: &mut [u8]) -> usize
     let mut many: usize = 0; // of the zones kept: enumerate would number them, and not say how many they are
     for i in 0..weights.n {
         if weights.touches(&columns, i) {
-            zones[many] = i as u8; // no From leads here from a usize
+            zones[many] = i as u8; // no From leads here from a usize; TryFrom and an unwrap is no plainer
             many += 1;
         }
     }

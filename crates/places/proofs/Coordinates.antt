@@ -18,7 +18,7 @@ use Rattle.whole.proofs.Compare.{equal_same, equal_true}
 use Rattle.whole.proofs.Search.{some_cong}
 use Rattle.places.specs.Places.{across, up, at_one_place}
 use Rattle.places.specs.Steps.{coordinates}
-use Rattle.places.proofs.Any.{any_front}
+use Rattle.whole.proofs.Chains.{any_front}
 
 -- a zone of the list, and no zone past its end
 abbrev pub zone_at : List (List ℤ) → ℕ → List ℤ

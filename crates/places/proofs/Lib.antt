@@ -1,6 +1,5 @@
 -- Laws of distances, circles and classes, and of an accepted call, each file named by its subject. What the buyer asks for by name is in
 -- the file of theorems.
-pub mod Any
 pub mod Coordinates
 pub mod Distance
 pub mod Circles

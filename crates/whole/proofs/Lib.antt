@@ -10,6 +10,7 @@ pub mod Called
 pub mod Search
 pub mod Compare
 pub mod Counting
+pub mod Chains
 pub mod Permutation
 pub mod Order
 pub mod Rules

@@ -4,7 +4,7 @@ use Rattle.std.proofs.lemmas.Iterator.{YieldsList-from_slice}
 use Rattle.std.proofs.lemmas.Iterator.Search.{any_from_yields_List}
 use Rattle.whole.specs.Integer.{beyond}
 use Rattle.whole.specs.Search.{any_beyond}
-use Rattle.judges.proofs.Searched.{by_places}
+use Rattle.whole.proofs.Chains.{any_some}
 use Rattle.judges.proofs.any_beyond.Goals as goal
 
 pub returns : goal.returns
@@ -12,4 +12,4 @@ unfolding any_beyond
 returns c =
     let a = c.args in
     any_from_yields_List (beyond a.limit) _ _ _ c.any.ensures.ran (YieldsList-from_slice a.numbers.now cc) (λ x b q k. search (rules, tests))
-    ∙ by_places (beyond a.limit) (pos 0) a.numbers.now
+    ∙ any_some (beyond a.limit) a.numbers.now (pos 0)

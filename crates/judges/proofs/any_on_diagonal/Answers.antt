@@ -10,7 +10,7 @@ use lib.ListN.{get_or-eq_default}
 use Rattle.whole.specs.Search.{some, any_on_diagonal}
 use Rattle.whole.specs.Table.{pair_at}
 use Rattle.whole.proofs.Search.{some_found, none_some}
-use Rattle.judges.proofs.Searched.{item_there}
+use Rattle.whole.proofs.Chains.{item_there}
 use Rattle.judges.proofs.any_on_diagonal.Goals as goal
 use Rattle.judges.proofs.any_on_diagonal.Goals.{After-any}
 

@@ -7,7 +7,7 @@ use Rattle.std.proofs.lemmas.Iterator.{YieldsList-from_slice}
 use Rattle.std.proofs.lemmas.Iterator.Search.{any_from_yields_List}
 use Rattle.whole.specs.Integer.{beyond, equal}
 use Rattle.kept.specs.Returned.{not_returned, missing, any_value_beyond}
-use Rattle.kept.proofs.Chains.{any_some}
+use Rattle.whole.proofs.Chains.{any_some}
 use Rattle.kept.proofs.returned.any_value_beyond.Goals as goal
 
 pub returns : goal.returns

@@ -5,7 +5,7 @@ use Rattle.std.proofs.Common.{rules}
 use Rattle.std.specs.List.{count_by}
 use Rattle.whole.specs.Integer.{equal}
 use Rattle.kept.specs.Returned.{not_returned, missing, missing_count}
-use Rattle.kept.proofs.Chains.{counted}
+use Rattle.whole.proofs.Chains.{counted}
 use Rattle.kept.proofs.returned.count_missing.Goals as goal
 
 pub returns : goal.returns

@@ -17,7 +17,7 @@ use Rattle.whole.specs.Search.{some}
 use Rattle.whole.proofs.Search.{some_cong}
 use Rattle.places.specs.Places.{any_at_one_place}
 use Rattle.places.specs.Steps.{coordinates}
-use Rattle.places.proofs.Any.{any_some}
+use Rattle.whole.proofs.Chains.{any_some}
 use Rattle.places.proofs.Coordinates.{zone_at, zones_given, earlier_is}
 use Rattle.places.proofs.judging.any_at_one_place.Goals as goal
 use Rattle.places.proofs.judging.any_at_one_place.Goals.{After-any}

@@ -11,7 +11,7 @@ use Rattle.std.proofs.Common.{rules}
 use Rattle.std.proofs.lemmas.List.Sorted.{answers_always}
 use Rattle.whole.proofs.Search.{none_some, some_found}
 use Rattle.places.specs.Bands.{any_empty_band, any_not_rising, any_misplaced}
-use Rattle.places.proofs.Any.{any_some}
+use Rattle.whole.proofs.Chains.{any_some}
 use Rattle.places.proofs.judging.any_misplaced.Goals as goal
 use Rattle.places.proofs.judging.any_misplaced.Goals.{After-contains}
 

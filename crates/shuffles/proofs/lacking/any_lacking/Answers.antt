@@ -8,7 +8,7 @@ use Rattle.whole.specs.Order.{lacks}
 use Rattle.whole.specs.Search.{some}
 use Rattle.whole.specs.Table.{pair_at}
 use Rattle.whole.proofs.Search.{some_found, none_some}
-use Rattle.judges.proofs.Searched.{item_there, said, found as at_hit}
+use Rattle.whole.proofs.Chains.{item_there, said, found as at_hit}
 use Rattle.shuffles.proofs.ShuffleList.{row_lacks}
 use Rattle.shuffles.proofs.lacking.any_lacking.Goals as goal
 use Rattle.shuffles.proofs.lacking.any_lacking.Goals.{After-any}

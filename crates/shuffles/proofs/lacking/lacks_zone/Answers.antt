@@ -12,7 +12,7 @@ use Rattle.whole.specs.Search.{some}
 use Rattle.whole.specs.Table.{table}
 use Rattle.whole.proofs.Search.{some_cong}
 use Rattle.whole.proofs.Table.{table_length, table_at, table_front}
-use Rattle.judges.proofs.Searched.{by_places}
+use Rattle.whole.proofs.Chains.{any_some}
 use Rattle.shuffles.specs.Steps.{mark_of}
 use Rattle.shuffles.proofs.ShuffleList.{unnamed}
 use Rattle.shuffles.proofs.lacking.lacks_zone.Goals as goal
@@ -26,7 +26,7 @@ lacking row n l h e =
     let named : ℕ → Bool = λ k. some (λ i. eqb (row i) k) n in
     let mark : ℕ → ℕ = λ k. mark_of (named k) in
     let front : take n l ≡ table mark n = ap (take n) e ∙ table_front mark n 256 (omega arith) in
-    by_places (λ m. eqb m 0) 0 (take n l)
+    any_some (λ m. eqb m 0) (take n l) 0
     ∙ rw (front, table_length mark n)
     (some_cong _ _ n (λ k p. ap (λ m. eqb m 0) (table_at mark n k 0 p) ∙ unnamed (named k)))
 

@@ -1,16 +1,23 @@
--- What a chain finds or counts of a list, as a search of its places. Assumes nothing.
-use mathlib.Core.Path.{◌≡◌, refl, sym, ap, ◌∙◌}
+-- What the library's methods find or count of a list, as a search of its places. Assumes nothing.
+use mathlib.Core.Path.{◌≡◌, refl, sym, ap, subst, ◌∙◌}
 use mathlib.Core.Bool.{Bool, true, false, cond, ◌||◌}
-use mathlib.Core.List.{List}
-use Prim.Native.Nat.{ℕ, zero, suc, ◌+◌, ◌≤◌}
+use mathlib.Core.Logic.{⊎_elim}
+use mathlib.Core.List.{List, [], ◌∷◌}
+use Prim.Native.Nat.{ℕ, zero, suc, ◌+◌, ◌≤◌, ◌<◌}
 use native.Mathlib.Nat as N
 use native.Mathlib.Numerals.{add-one}
 use native.Mathlib.Omega.{arith}
 use lib.ListN.{length, get_or, take}
 use lib.Seq.{take_all}
-use Rattle.std.specs.List.{list_any, count_by, filter, range_with_len}
+use Rattle.std.specs.Iterator.Runs.{Run}
+use Rattle.std.specs.List.{fold, list_any, count_by, filter, range_with_len}
+use Rattle.std.specs.Option.{IfSome, IsSomeAnd}
+use Rattle.std.specs.Prelude.{Option, Some}
+use Rattle.std.proofs.Math.Bool.{or_assoc, or-false}
+use Rattle.std.proofs.iter.runs.Made.{at-is}
 use Rattle.std.proofs.lemmas.List.Folds.{list_any_more}
 use Rattle.std.proofs.lemmas.List.FromFn.{length-range_with_len, get_or-range_with_len}
+use Rattle.std.proofs.lemmas.Option.{slice_get_cases}
 use Rattle.std.proofs.lemmas.List.Sums.{count_by_more_yes, count_by_more_no, length-filter}
 use Rattle.whole.specs.Search.{some, count}
 use Rattle.whole.proofs.Counting.{count_cong}
@@ -20,7 +27,7 @@ module _ {A : Type 0} (test : A → Bool) (items : List A) (d : A) where
   passes k = test (get_or items k d)
 
   -- of the first i
-  any_front : (i : ℕ) → i ≤ length items → list_any test (take i items) ≡ some passes i
+  pub any_front : (i : ℕ) → i ≤ length items → list_any test (take i items) ≡ some passes i
   unfolding some
   any_front zero h = refl
   any_front (suc i) h =
@@ -54,3 +61,24 @@ range_counted test n =
     ∙ counted test (range_with_len 0 n) 0
     ∙ ap (count (λ k. test (get_or (range_with_len 0 n) k 0))) (length-range_with_len 0 n)
     ∙ count_cong _ test n (λ k h. ap test (get_or-range_with_len 0 n k 0 h ∙ N.zero-add k))
+
+-- ---- by a method that is not left at the first find
+from_found : {A : Type 0} (test : A → Bool) (found : Bool) (list : List A) → fold (λ b x. b || test x) found list ≡ (found || list_any test list)
+from_found test found [] = sym (or-false found)
+from_found test found (x ∷ xs) = from_found test (found || test x) xs ∙ or_assoc found (test x) (list_any test xs)
+
+pub folded_some : {A : Type 0} (test : A → Bool) (list : List A) (d : A) →
+    fold (λ b x. b || test x) false list ≡ some (λ k. test (get_or list k d)) (length list)
+folded_some test list d = from_found test false list ∙ any_some test list d
+
+-- ---- a chain that is searched gave an item at each place before its end
+pub item_there : {S A : Type 0} {steps : S → Option A → S → Type 0} (run : Run steps) (k : ℕ) → k < run.len → (x : A) × (run.at k ≡ Some x)
+item_there run k h =
+    ⊎_elim (λ w. (w.0, at-is run k ∙ w.2)) (λ w. let z : ⊥ = omega (arith, run.long, w.0, h) in absurd z) (slice_get_cases run.items k).1
+
+-- and what is said of the item there, or of one that is there, holds of it
+pub said : {A : Type 0} {o : Option A} (P : A → Type 0) {x : A} → IfSome o P → o ≡ Some x → P x
+said P h e = subst (λ o. IfSome o P) e h
+
+pub found : {A : Type 0} {o : Option A} (P : A → Type 0) {x : A} → IsSomeAnd o P → o ≡ Some x → P x
+found P h e = subst (λ o. IsSomeAnd o P) e h

@@ -1,2 +1,0 @@
--- Laws that the judges' searches need.
-pub mod Searched
