@@ -1,5 +1,5 @@
-// The hot list of a job: its zones by their local numerators go to a lent list. A layer above the account, which relies on its promises
-// alone. The order of any list of local numerators.
+// The hot list of a job: its zones by their local numerators go to a lent list, by an order that any list of local numerators has. A layer
+// above the account, which relies on its promises alone.
 #![tactic(auto)]
 
 mod ordering;

@@ -15,7 +15,7 @@ use judges::Places;
 use marking::Weights;
 use refusals::Refusal;
 
-// Of values not returned, which no other call here looks at yet: whether one that is returned is beyond the limit, and how many there are.
+// Of values not returned: whether one that is returned is beyond the limit, and how many there are. No other crate asks for these yet.
 pub use returned::{any_value_beyond, count_missing};
 
 // Puts the zones kept, rising, at the front of `zones`, which has 64 places, and answers how many they are. Where n is outside 2 to 64

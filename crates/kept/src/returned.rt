@@ -6,7 +6,7 @@ ghost use Rattle.kept.specs.Returned.{not_returned, missing, missing_count, redu
 
 use crate::marking::Weights;
 
-// The value that marks a value not returned: a marking value and no Option, since the list of values is lent by C.
+// The value that marks a value not returned: a marking value and no Option, since document 02 has it stand among the values that C lends.
 const NOT_RETURNED: i32 = i32::MIN;
 
 // Whether a value is not returned.
@@ -16,11 +16,11 @@ fn is_missing(value: i32) -> bool
     value == NOT_RETURNED
 }
 
-// Whether a value is returned and beyond 100,000 in size. The mark is looked for last, so that a good value costs two comparisons.
+// Whether a value is returned and beyond 100,000 in size.
 fn value_beyond(value: i32) -> bool
     ensures { result ≡ (beyond 100000 value && not (equal value not_returned)) }
 {
-    value > 100000 || (value < -100000 && !is_missing(value))
+    value.unsigned_abs() > 100000 && !is_missing(value)
 }
 
 // Whether some value that is returned is beyond 100,000 in size.

@@ -1,4 +1,4 @@
-// A float from a whole number of at most 53 digits: cast, which loses nothing, and multiplied by a power of 2, which is exact.
+// A float from a whole number of at most 2^53: cast, which loses nothing, and multiplied by a power of 2, which is exact.
 ghost use Rattle.std.specs.Prelude.{false, ◌⊎◌, ◌≡◌, ◌*◌, ◌^◌, ◌≤◌, ◌<◌};
 ghost use Rattle.std.specs.Float.{binary64};
 ghost use Rattle.std.specs.Float.Ieee.{round};
@@ -24,6 +24,6 @@ pub(super) fn scaled(m: u64, doublings: u64, halvings: u64) -> f64
     requires halvings_bound { halvings ≤ 115 }
     ensures { result ≡ round binary64 false (m * 2 ^ doublings) (2 ^ halvings) }
 {
-    // no From or TryFrom leads here from a u64: the cast is exact, since m has at most 53 digits
+    // no From or TryFrom leads here from a u64: the cast is exact, since m is at most 2^53
     (m as f64) * power(doublings, halvings)
 }
