@@ -1,8 +1,6 @@
 // The class account of a job with its nine rows as structs. A layer above the account, which relies on its promises alone.
 #![tactic(auto)]
 
-mod rows;
-
 ghost use Rattle.std.specs.Prelude.{◌≡◌, length};
 ghost use Rattle.refusals.specs.Refusals.{number_of};
 ghost use Rattle.class_rows.specs.ClassRows.{rows_refusal, rows_left, locals_left};
@@ -48,6 +46,6 @@ pub fn class_rows(
         locals,
         &mut space[..n],
     )?;
-    rows::store_rows(&sums, rows);
+    rows.copy_from_slice(&ClassRow::all(&sums));
     Ok(())
 }

@@ -55,6 +55,6 @@ returns c =
     let z = own.number ∙ by_account _ _ _ _ _ _ _ _ refl (length-take-le _ _ f.0) f.1 in
     let sums = own.rows ∙ worked_by _ _ _ own.number in record {
       number = z;
-      rows = c.store_rows.ensures ∙ ap (λ (l : List ℤ). table (row_at l) 9) sums ∙ rows_in _ _ _ _ ∙ sym (worked_by _ _ _ z);
+      rows = c.copy_from_slice.ensures.after ∙ c.all.ensures ∙ ap (λ (l : List ℤ). table (row_at l) 9) sums ∙ rows_in _ _ _ _ ∙ sym (worked_by _ _ _ z);
       numerators = own.numerators ∙ worked_by _ _ _ own.number ∙ sym (worked_by _ _ _ z);
     }
