@@ -21,16 +21,8 @@ use refusals::Refusal;
 pub(super) fn judge_lists(n: usize, values: &[i32], weights: &[u8]) -> Result<(), Refusal>
     ensures { number_of result ≡ first_broken (list_rules n values.now weights.now) }
 {
-    if judges::any_beyond(100000, values) {
-        return Err(Refusal::Value);
-    }
-    if judges::any_above(9, weights) {
-        return Err(Refusal::Weight);
-    }
-    if judges::any_on_diagonal(n, weights) {
-        return Err(Refusal::Diagonal);
-    }
-    Ok(())
+    judges::judge_values(values)?;
+    judges::judge_weights(n, weights)
 }
 
 // 7 where these values do not vary.
