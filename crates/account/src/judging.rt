@@ -90,6 +90,7 @@ pub(super) fn judge_job<'a>(
 }
 
 // 1 to 7: the refusal of the account. What the n lent places hold is not judged, so their number is all that is asked for.
+#[tactic(auto, unfolding(crate::specs::Refusals::call_rules, crate::specs::Refusals::job_rules))]
 pub(super) fn judge_account<'a>(
     n: usize,
     values: &'a [i32],
@@ -113,6 +114,7 @@ pub(super) fn judge_account<'a>(
 }
 
 // 1 to 7 of a job alone.
+#[tactic(auto, unfolding(crate::specs::Refusals::call_rules, crate::specs::Refusals::job_refusal))]
 pub fn judge(n: usize, values: &[i32], weights: &[u8]) -> Result<(), Refusal>
     ensures { number_of result ≡ job_refusal n values.now weights.now }
 {
@@ -122,6 +124,7 @@ pub fn judge(n: usize, values: &[i32], weights: &[u8]) -> Result<(), Refusal>
 }
 
 // 1 to 7, then 9: the class account's refusal.
+#[tactic(auto, unfolding(crate::specs::Classes::class_rules, crate::specs::Refusals::call_rules, crate::specs::Refusals::job_rules))]
 pub(super) fn judge_classes<'a>(
     n: usize,
     values: &'a [i32],
