@@ -21,16 +21,8 @@ use refusals::Refusal;
 pub(super) fn judge_lists(n: usize, values: &[i32], weights: &[u8]) -> Result<(), Refusal>
     ensures { number_of result ≡ first_broken (list_rules n values.now weights.now) }
 {
-    if judges::any_beyond(100000, values) {
-        return Err(Refusal::Value);
-    }
-    if judges::any_above(9, weights) {
-        return Err(Refusal::Weight);
-    }
-    if judges::any_on_diagonal(n, weights) {
-        return Err(Refusal::Diagonal);
-    }
-    Ok(())
+    judges::judge_values(values)?;
+    judges::judge_weights(n, weights)
 }
 
 // 7 where these values do not vary.
@@ -98,6 +90,7 @@ pub(super) fn judge_job<'a>(
 }
 
 // 1 to 7: the refusal of the account. What the n lent places hold is not judged, so their number is all that is asked for.
+#[tactic(auto, unfolding(crate::specs::Refusals::call_rules, crate::specs::Refusals::job_rules))]
 pub(super) fn judge_account<'a>(
     n: usize,
     values: &'a [i32],
@@ -121,6 +114,7 @@ pub(super) fn judge_account<'a>(
 }
 
 // 1 to 7 of a job alone.
+#[tactic(auto, unfolding(crate::specs::Refusals::call_rules, crate::specs::Refusals::job_refusal))]
 pub fn judge(n: usize, values: &[i32], weights: &[u8]) -> Result<(), Refusal>
     ensures { number_of result ≡ job_refusal n values.now weights.now }
 {
@@ -130,6 +124,7 @@ pub fn judge(n: usize, values: &[i32], weights: &[u8]) -> Result<(), Refusal>
 }
 
 // 1 to 7, then 9: the class account's refusal.
+#[tactic(auto, unfolding(crate::specs::Classes::class_rules, crate::specs::Refusals::call_rules, crate::specs::Refusals::job_rules))]
 pub(super) fn judge_classes<'a>(
     n: usize,
     values: &'a [i32],

@@ -2,7 +2,7 @@
 // of a job where it is read or written: the counts of its sections, and the lengths of the six buffers.
 #![tactic(auto)]
 
-ghost use Rattle.std.specs.Prelude.{◌≡◌, [], ◌∷◌};
+ghost use Rattle.std.specs.Prelude.{◌≡◌, [], ◌∷◌, ltb};
 ghost use Rattle.whole.specs.Rules.{first_broken, misfits};
 ghost use Rattle.refusals.specs.Refusals.{number_of};
 ghost use Rattle.image.specs.Image.{zone_count_rule, none_or_all_rule, join_count_rule, band_count_rule, shuffle_count_rule};
@@ -31,6 +31,7 @@ pub struct Lists<'a> {
 }
 
 // 1: a count of values outside 2 to 64.
+// It only passes on, and stays, as public functions do by a rule of the project: it promises the image's own rule.
 pub fn judge_zone_count(n: usize) -> Result<(), Refusal>
     ensures { number_of result ≡ first_broken (zone_count_rule n ∷ []) }
 {
@@ -47,14 +48,21 @@ pub fn judge_none_or_all(n: usize, k: usize) -> Result<(), Refusal>
     Ok(())
 }
 
+// 15: more items of a section than there can be.
+fn judge_most(most: usize, k: usize) -> Result<(), Refusal>
+    ensures { number_of result ≡ first_broken ((ltb most k, 15) ∷ []) }
+{
+    if k > most {
+        return Err(Refusal::Count);
+    }
+    Ok(())
+}
+
 // 15: more joins than there can be.
 pub fn judge_join_count(k: usize) -> Result<(), Refusal>
     ensures { number_of result ≡ first_broken (join_count_rule k ∷ []) }
 {
-    if k > 4032 {
-        return Err(Refusal::Count);
-    }
-    Ok(())
+    judge_most(4032, k)
 }
 
 // 12: more than 8 bands, or bands without places.
@@ -71,13 +79,11 @@ pub fn judge_band_count(places: usize, k: usize) -> Result<(), Refusal>
 pub fn judge_shuffle_count(k: usize) -> Result<(), Refusal>
     ensures { number_of result ≡ first_broken (shuffle_count_rule k ∷ []) }
 {
-    if k > 499 {
-        return Err(Refusal::Count);
-    }
-    Ok(())
+    judge_most(499, k)
 }
 
 // 2: a buffer not of its exact length.
+// Six lengths, and no struct of them: a public signature stays, by a rule of the project.
 pub fn judge_lengths(
     values: usize,
     categories: usize,

@@ -5,6 +5,7 @@ ghost use Rattle.joins.specs.Joins.{join_table};
 ghost use Rattle.joins.specs.Steps.{Counted};
 
 // The categories of n zones, and a row of n weights for each.
+// n stands beside the lists as the C interface lends it; that they are so long is what the ghost fields say.
 #[derive(Clone, Copy)]
 pub(super) struct Zones<'a> {
     pub(super) n: usize,
@@ -24,11 +25,13 @@ impl Zones<'_> {
         requires before { Counted self.now.n self.now.categories.now self.now.weights.now entries.old (i * self.now.n) }
         ensures { Counted self.now.n self.now.categories.now self.now.weights.now entries.new ((i + 1) * self.now.n) }
     {
+        // cut out by its place: `chunks_exact(self.n).nth(i)` would be an Option that is never None, and no plainer
         let first = i * self.n;
         let row = &self.weights[first..first + self.n];
         let from = usize::from(self.categories[i]);
         for (j, weight) in row.iter().enumerate() {
             let to = usize::from(self.categories[j]);
+            // of one flat list, as the C interface lends the table
             let entry = from * 8 + to;
             entries[entry] += i64::from(*weight);
         }

@@ -7,6 +7,7 @@ use judges::Places;
 use refusals::Refusal;
 
 // 1, 2, 4, 5 and 8. What the lent places hold is not judged, so their number is all that is asked for.
+#[tactic(auto, unfolding(crate::specs::Joins::join_rules, crate::specs::Joins::join_refusal))]
 pub(super) fn judge_joins(
     n: usize,
     categories: &[u8],
@@ -23,14 +24,6 @@ pub(super) fn judge_joins(
             (table, Places::Fixed(64)),
         ],
     )?;
-    if judges::any_above(9, weights) {
-        return Err(Refusal::Weight);
-    }
-    if judges::any_on_diagonal(n, weights) {
-        return Err(Refusal::Diagonal);
-    }
-    if judges::any_above(7, categories) {
-        return Err(Refusal::Category);
-    }
-    Ok(())
+    judges::judge_weights(n, weights)?;
+    judges::judge_categories(categories)
 }

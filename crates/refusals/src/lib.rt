@@ -48,6 +48,7 @@ pub enum Refusal {
 }
 
 // The number of a cause.
+// A conversion under a name of its own: a public function stays, by a rule of the project, and a From beside it would say the same twice.
 pub fn number_by(refusal: Refusal) -> u8
     ensures { result ≡ number_by refusal }
 {

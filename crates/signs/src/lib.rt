@@ -1,5 +1,5 @@
-// The size and the sign of a signed number: the library's methods, under public names that promise what they give in the words that the
-// figures are told in.
+// The size and the sign of a signed number, promised in the words that the figures are told in.
+// The library's methods alone are called, and both functions stay, as public ones do by a rule of the project.
 #![tactic(auto)]
 
 ghost use Rattle.std.specs.Prelude.{◌≡◌, nat_abs};

@@ -6,14 +6,19 @@ use Prim.Native.Nat.{ℕ, ◌+◌, ◌-◌, ◌*◌, ◌≤◌, min}
 use native.Mathlib.Nat.{eq-zero-or-pos}
 use native.Mathlib.Omega.{arith}
 use lib.ListN.{length, get_or-eq_default}
-use Rattle.words.specs.Words.{byte_at, two_at, word_at, long_at}
+use Rattle.words.specs.Words.{byte_at, word_at}
 
 pub byte_beyond : (bytes : List ℕ) (at : ℕ) → length bytes ≤ at → byte_at bytes at ≡ 0
 byte_beyond bytes at h = get_or-eq_default bytes 0 h
 
-pub two_beyond : (bytes : List ℕ) (at : ℕ) → length bytes ≤ at → two_at bytes at ≡ 0
-unfolding two_at
-two_beyond bytes at h = omega (arith, byte_beyond bytes at h, byte_beyond bytes (at + 1) (omega arith))
+-- a place too large for the machine is beyond the end, as its greatest number is
+pub byte_far :
+    (bytes : List ℕ) (place at : ℕ) → length bytes ≤ 18446744073709551615 → at ≡ min place 18446744073709551615 →
+    byte_at bytes at ≡ byte_at bytes place
+byte_far bytes place at h e =
+    ⊎_elim (λ l. ap (byte_at bytes) {x = at} {y = place} (omega arith))
+    (λ l. byte_beyond bytes at (omega arith) ∙ sym (byte_beyond bytes place (omega arith)))
+    (eq-zero-or-pos (place - 18446744073709551615))
 
 pub word_beyond : (bytes : List ℕ) (at : ℕ) → length bytes ≤ at → word_at bytes at ≡ 0
 unfolding word_at
@@ -26,7 +31,7 @@ word_beyond bytes at h =
       byte_beyond bytes (at + 3) (omega arith),
     )
 
--- a place too large for the machine is beyond the end, as its greatest number is
+-- and so is one of four bytes
 pub word_far :
     (bytes : List ℕ) (k at : ℕ) → length bytes ≤ 18446744073709551615 → at ≡ min (k * 4) 18446744073709551615 →
     word_at bytes at ≡ word_at bytes (4 * k)
@@ -34,7 +39,3 @@ word_far bytes k at h e =
     ⊎_elim (λ l. ap (word_at bytes) {x = at} {y = 4 * k} (omega arith))
     (λ l. word_beyond bytes at (omega arith) ∙ sym (word_beyond bytes (4 * k) (omega arith)))
     (eq-zero-or-pos (k * 4 - 18446744073709551615))
-
-pub long_beyond : (bytes : List ℕ) (at : ℕ) → length bytes ≤ at → long_at bytes at ≡ 0
-unfolding long_at
-long_beyond bytes at h = omega (arith, word_beyond bytes at h, word_beyond bytes (at + 4) (omega arith))

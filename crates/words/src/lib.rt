@@ -1,17 +1,26 @@
 // Numbers in bytes, their lowest byte first, for whatever takes them from an image or from a program's input.
 #![tactic(auto)]
 
-ghost use Rattle.std.specs.Prelude.{◌≡◌, List, ℕ, ◌*◌, ◌<◌, length};
+ghost use Rattle.std.specs.Prelude.{◌≡◌, List, ℕ, ◌+◌, ◌*◌, ◌<◌, length};
 ghost use Rattle.std.specs.Int.{w32, w64};
 ghost use Rattle.std.proofs.Common.{to_z};
 ghost use Rattle.whole.specs.Table.{table};
 ghost use Rattle.words.specs.Words.{byte_at, two_at, word_at, long_at};
+
+use std::array;
 
 // The byte at a place, or 0 beyond the end.
 fn byte(bytes: &[u8], at: usize) -> u8
     ensures { result ≡ byte_at bytes.now at }
 {
     bytes.get(at).copied().unwrap_or(0)
+}
+
+// As many bytes from a place on as are asked for, those beyond the end 0.
+fn taken<const N: usize>(bytes: &[u8], at: usize) -> [u8; N]
+    ensures { result ≡ table (λ k. byte_at bytes.now (at + k)) N }
+{
+    array::from_fn(|k| byte(bytes, at.saturating_add(k)))
 }
 
 // The number of one byte.
@@ -23,45 +32,32 @@ pub fn byte_at(bytes: &[u8], at: usize) -> u32
 }
 
 // The number of two bytes.
-#[tactic(auto, using(crate::proofs::Beyond::two_beyond), unfolding(crate::specs::Words::two_at))]
+#[tactic(auto, unfolding(crate::specs::Words::two_at, whole::specs::Table::table))]
 pub fn two_at(bytes: &[u8], at: usize) -> u32
     ensures value { result ≡ two_at bytes.now at }
     ensures upper_bound { result < 65536 }
 {
-    if at > bytes.len() {
-        return 0;
-    }
-    u32::from(u16::from_le_bytes([byte(bytes, at), byte(bytes, at + 1)]))
+    u32::from(u16::from_le_bytes(taken(bytes, at)))
 }
 
 // The number of four bytes.
-#[tactic(auto, using(crate::proofs::Beyond::word_beyond), unfolding(crate::specs::Words::word_at))]
+#[tactic(auto, unfolding(crate::specs::Words::word_at, whole::specs::Table::table))]
 pub fn word_at(bytes: &[u8], at: usize) -> u32
     ensures { result ≡ word_at bytes.now at }
 {
-    if at > bytes.len() {
-        return 0;
-    }
-    u32::from_le_bytes([
-        byte(bytes, at),
-        byte(bytes, at + 1),
-        byte(bytes, at + 2),
-        byte(bytes, at + 3),
-    ])
+    u32::from_le_bytes(taken(bytes, at))
 }
 
-// The number of eight bytes, by its two words as its definition says it: u64::from_le_bytes of eight reads is no plainer.
-#[tactic(auto, using(crate::proofs::Beyond::long_beyond), unfolding(crate::specs::Words::long_at))]
+// The number of eight bytes.
+#[tactic(auto, unfolding(crate::specs::Words::long_at, crate::specs::Words::word_at, whole::specs::Table::table))]
 pub fn long_at(bytes: &[u8], at: usize) -> u64
     ensures { result ≡ long_at bytes.now at }
 {
-    if at > bytes.len() {
-        return 0;
-    }
-    u64::from(word_at(bytes, at)) + 4294967296 * u64::from(word_at(bytes, at + 4))
+    u64::from_le_bytes(taken(bytes, at))
 }
 
-// The signed number that 32 bits stand for: here and below the library's method, under a public name that promises it.
+// The signed number that 32 bits stand for.
+// Here and below the library's method alone is called, and the function stays, as public ones do by a rule of the project.
 pub fn signed_word(word: u32) -> i32
     ensures { result ≡ to_z w32 word }
 {
