@@ -1,5 +1,5 @@
 // The weights of a job and the joins that they are: their judge, how many there are, and their bytes.
-ghost use Rattle.std.specs.Prelude.{◌≡◌, ℕ, ◌*◌, ◌<◌, length};
+ghost use Rattle.std.specs.Prelude.{◌≡◌, ◌*◌, ◌<◌, length};
 ghost use Rattle.whole.specs.Rules.{first_broken, in_turn};
 ghost use Rattle.whole.specs.Table.{each};
 ghost use Rattle.refusals.specs.Refusals.{number_of};
@@ -28,11 +28,11 @@ pub(super) fn judge_weights(table: &Table) -> Result<(), Refusal>
     Ok(())
 }
 
-// How many joins a table has, of however many zones: one for each weight above 0.
-pub(super) fn count_joins(weights: &[u8]) -> usize
-    ensures { (n : ℕ) → result ≡ length (joins_of n weights.now) }
+// How many joins a table has: one for each weight above 0.
+pub(super) fn count_joins(table: &Table) -> usize
+    ensures { result ≡ length (joins_of table.now.n table.now.weights.now) }
 {
-    weights.iter().filter(|weight| **weight > 0).count()
+    table.weights.iter().filter(|weight| **weight > 0).count()
 }
 
 // The bytes of the join of a weight above 0.

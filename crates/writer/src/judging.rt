@@ -18,7 +18,7 @@ use refusals::Refusal;
 fn judge_values(job: &SizedLists) -> Result<(), Refusal>
     ensures { number_of result ≡ first_broken (value_rules (take job.now.given.values job.now.lists.values.now)) }
 {
-    if judges::any_beyond(100000, &job.lists.values[..job.given.values]) {
+    if judges::any_beyond(100000, job.values()) {
         return Err(Refusal::Value);
     }
     Ok(())
@@ -30,9 +30,8 @@ fn judge_categories(job: &SizedLists) -> Result<(), Refusal>
         ≡ first_broken (none_or_all_rule job.now.given.values job.now.given.categories
         ∷ category_rules (take job.now.given.categories job.now.lists.categories.now)) }
 {
-    let k = job.given.categories;
-    image::judge_none_or_all(job.given.values, k)?;
-    if judges::any_above(7, &job.lists.categories[..k]) {
+    image::judge_none_or_all(job.given.values, job.given.categories)?;
+    if judges::any_above(7, job.categories()) {
         return Err(Refusal::Category);
     }
     Ok(())
@@ -56,8 +55,7 @@ fn judge_places(job: &SizedLists) -> Result<(), Refusal>
         ∷ places_in_turn (take (2 * job.now.given.places) job.now.lists.places.now)) }
 {
     image::judge_none_or_all(job.given.values, job.given.places)?;
-    let coordinates = 2 * job.given.places;
-    places::judge_in_turn(&job.lists.places[..coordinates])
+    places::judge_in_turn(job.places())
 }
 
 // 12: the bands.
@@ -66,9 +64,8 @@ fn judge_bands(job: &SizedLists) -> Result<(), Refusal>
         ≡ first_broken (band_count_rule job.now.given.places job.now.given.bands
         ∷ band_rules (take job.now.given.bands job.now.lists.bands.now)) }
 {
-    let k = job.given.bands;
-    image::judge_band_count(job.given.places, k)?;
-    if places::any_misplaced(&job.lists.bands[..k]) {
+    image::judge_band_count(job.given.places, job.given.bands)?;
+    if places::any_misplaced(job.bands()) {
         return Err(Refusal::Bands);
     }
     Ok(())
@@ -80,10 +77,8 @@ fn judge_shuffles(job: &SizedLists) -> Result<(), Refusal>
         ≡ first_broken (shuffle_count_rule job.now.given.shuffles
         ∷ shuffle_rules job.now.given.values (take (job.now.given.shuffles * job.now.given.values) job.now.lists.shuffles.now)) }
 {
-    let n = job.given.values;
     image::judge_shuffle_count(job.given.shuffles)?;
-    let entries = job.given.shuffles * n;
-    shuffles::judge_shuffles(n, &job.lists.shuffles[..entries])
+    shuffles::judge_shuffles(job.given.values, job.shuffles())
 }
 
 // The parts, where 1 and 2 are judged.
@@ -113,9 +108,5 @@ pub(super) fn judge(lists: Lists, given: Given) -> Result<(), Refusal>
     )?;
     let job = SizedLists { given, lists };
     judge_parts(&job)?;
-    account::judge(
-        given.values,
-        &lists.values[..given.values],
-        job.table().weights,
-    )
+    account::judge(given.values, job.values(), job.table().weights)
 }
