@@ -2,12 +2,14 @@
 // above a limit, and whether a weight stands on the diagonal.
 #![tactic(auto)]
 
+mod lists;
 mod sizes;
 
 ghost use Rattle.std.specs.Prelude.{◌≡◌};
 ghost use Rattle.whole.specs.Integer.{beyond};
 ghost use Rattle.whole.specs.Search.{any_beyond, any_above, any_on_diagonal};
 
+pub use lists::{judge_categories, judge_values, judge_weights};
 pub use sizes::{Places, judge_lent, judge_zones};
 
 // Whether a number is beyond the limit in size.
@@ -24,7 +26,7 @@ pub fn any_beyond(limit: u32, numbers: &[i32]) -> bool
     numbers.iter().any(|number| is_beyond(limit, *number))
 }
 
-// Whether some number is above the limit. Not left at the first one, so that the compiler can look at several at a time.
+// Whether some number is above the limit. Each is looked at; an `any`, which would end at the first, is no plainer: either is one chain.
 pub fn any_above(limit: u8, numbers: &[u8]) -> bool
     ensures { result ≡ any_above limit numbers.now }
 {
