@@ -5,7 +5,7 @@ ghost use Rattle.refusals.specs.Refusals.{number_of};
 ghost use Rattle.places.specs.Places.{places_in_turn};
 ghost use Rattle.image.specs.Joins.{weight_rules};
 ghost use Rattle.image.specs.Image.{none_or_all_rule, band_count_rule, shuffle_count_rule};
-ghost use Rattle.image.specs.Image.{value_rules, category_rules, band_rules, shuffle_rules};
+ghost use Rattle.image.specs.Image.{category_rules, band_rules, shuffle_rules};
 ghost use Rattle.image.specs.Writer.{listed, lent_job, part_rules};
 ghost use Rattle.writer.specs.Steps.{judged_rules};
 
@@ -14,16 +14,6 @@ use crate::lists::{SizedLists, Table};
 use image::{Given, Lists};
 use refusals::Refusal;
 
-// 3: the values.
-fn judge_values(job: &SizedLists) -> Result<(), Refusal>
-    ensures { number_of result ≡ first_broken (value_rules (take job.now.given.values job.now.lists.values.now)) }
-{
-    if judges::any_beyond(100000, job.values()) {
-        return Err(Refusal::Value);
-    }
-    Ok(())
-}
-
 // 15 and 8: the categories.
 fn judge_categories(job: &SizedLists) -> Result<(), Refusal>
     ensures { number_of result
@@ -31,10 +21,7 @@ fn judge_categories(job: &SizedLists) -> Result<(), Refusal>
         ∷ category_rules (take job.now.given.categories job.now.lists.categories.now)) }
 {
     image::judge_none_or_all(job.given.values, job.given.categories)?;
-    if judges::any_above(7, job.categories()) {
-        return Err(Refusal::Category);
-    }
-    Ok(())
+    judges::judge_categories(job.categories())
 }
 
 // 5 and 4: the weights. Which of them comes first, row by row, is asked only where a search of the table finds one.
@@ -85,7 +72,7 @@ fn judge_shuffles(job: &SizedLists) -> Result<(), Refusal>
 fn judge_parts(job: &SizedLists) -> Result<(), Refusal>
     ensures { number_of result ≡ first_broken (part_rules job.now.given (lent_job job.now.given (listed job.now.lists))) }
 {
-    judge_values(job)?;
+    judges::judge_values(job.values())?;
     judge_categories(job)?;
     judge_weights(&job.table())?;
     judge_places(job)?;
