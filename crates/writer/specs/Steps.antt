@@ -2,8 +2,10 @@
 use Rattle.std.specs.Prelude.{◌≡◌, false, List, [], ◌∷◌, ◌++◌, ℕ, zero, suc, ◌+◌, ◌*◌, ◌≤◌, length, take}
 use Rattle.std.proofs.lemmas.List.Edits.{sets}
 use Rattle.whole.specs.Rules.{Rule, misfits, size_rules}
+use Rattle.whole.specs.Table.{each}
 use Rattle.account.specs.Refusals.{sum_rules}
-use Rattle.image.specs.Joins.{joins_of}
+use Rattle.image.specs.Joins.{joins_from, joins_of}
+use Rattle.image.specs.Image.{join_bytes}
 use Rattle.image.specs.Reader.{Buffers, buffer_lengths}
 use Rattle.image.specs.Writer.{lent_job, part_rules}
 use Rattle.image.specs.declared.Given.{Given}
@@ -46,6 +48,10 @@ one_byte x = x ∷ []
 abbrev pub bytes_of : ℕ → ℕ → ℕ → List ℕ
 bytes_of from to zero = []
 bytes_of from to (suc w) = from ∷ to ∷ suc w ∷ []
+
+-- the bytes of the joins of a row of weights, those from one zone
+abbrev pub row_bytes : ℕ → List ℕ → List ℕ
+row_bytes from row = each join_bytes (joins_from (length row) (from * length row) row)
 
 -- counts that are within their limits
 pub record Counted (given : Given) (joins : ℕ) : Type 0 where
