@@ -72,6 +72,7 @@ fn judge_bands(count: usize, items: &[u8]) -> Result<(), Refusal>
     let mut space = [0; 8];
     let bands = &mut space[..count];
     words::entries_in(items, bands);
+    // The writer has this test too: one judge for both would be a public function of places about this one `if`, which is no plainer.
     if places::any_misplaced(bands) {
         Err(Refusal::Bands)
     } else {

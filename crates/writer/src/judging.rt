@@ -40,6 +40,7 @@ fn judge_bands(job: &SizedLists) -> Result<(), Refusal>
         ∷ band_rules (take job.now.given.bands job.now.lists.bands.now)) }
 {
     image::judge_band_count(job.given.places, job.given.bands)?;
+    // The reader has this test too: one judge for both would be a public function of places about this one `if`, which is no plainer.
     if places::any_misplaced(job.bands()) {
         return Err(Refusal::Bands);
     }
