@@ -2,7 +2,7 @@
 ghost use Rattle.std.specs.Prelude.{◌≡◌, true, false, [], ◌∷◌, ℕ, ◌+◌, ◌*◌, ◌≤◌, ◌<◌, ltb, length, drop, take, MatchResult, IfOk};
 ghost use Rattle.whole.specs.Rules.{first_broken};
 ghost use Rattle.places.specs.Places.{places_in_turn};
-ghost use Rattle.image.specs.Image.{count, items, after, signed_words, words, value_rules, category_rules, band_rules, shuffle_rules};
+ghost use Rattle.image.specs.Image.{count, items, after, signed_words, words, value_rules, band_rules, shuffle_rules};
 ghost use Rattle.image.specs.Image.{in_values, in_categories, in_joins, in_places, in_bands, in_shuffles};
 ghost use Rattle.refusals.specs.Refusals.{number_by, number_of};
 ghost use Rattle.reader.specs.Steps.{Held, Joins};
@@ -50,22 +50,7 @@ fn judge_values(count: usize, items: &[u8]) -> Result<(), Refusal>
     let mut space = [0; 64];
     let values = &mut space[..count];
     words::entries_in(items, values);
-    if judges::any_beyond(100000, values) {
-        Err(Refusal::Value)
-    } else {
-        Ok(())
-    }
-}
-
-// 8: a category above 7.
-fn judge_categories(categories: &[u8]) -> Result<(), Refusal>
-    ensures { number_of result ≡ first_broken (category_rules categories.now) }
-{
-    if judges::any_above(7, categories) {
-        Err(Refusal::Category)
-    } else {
-        Ok(())
-    }
+    judges::judge_values(values)
 }
 
 // 10 and 11: a place too far off, or that of an earlier zone.
@@ -87,6 +72,7 @@ fn judge_bands(count: usize, items: &[u8]) -> Result<(), Refusal>
     let mut space = [0; 8];
     let bands = &mut space[..count];
     words::entries_in(items, bands);
+    // The writer has this test too: one judge for both would be a public function of places about this one `if`, which is no plainer.
     if places::any_misplaced(bands) {
         Err(Refusal::Bands)
     } else {
@@ -118,7 +104,7 @@ pub(super) fn in_categories(zones: Zones, left: &[u8]) -> Result<(Section<'_>, &
     let (count, items) = count_of(left)?;
     image::judge_none_or_all(zones.n, count)?;
     let (categories, rest) = cut_off(count, 1, items)?;
-    judge_categories(categories.items)?;
+    judges::judge_categories(categories.items)?;
     Ok((categories, rest))
 }
 

@@ -1,22 +1,22 @@
--- The joins of a table of weights, as a loop over its places meets them. Assumes nothing.
+-- The joins of a table of weights, as a loop over its rows and one over the weights of a row meet them. Assumes nothing.
 use mathlib.Core.Path.{◌≡◌, refl, sym, ap, ◌∙◌}
 use mathlib.Core.Bool.{cond}
 use mathlib.Core.List.{List, [], ◌∷◌, ◌++◌, append_assoc}
-use Prim.Native.Nat.{ℕ, zero, suc, ◌+◌, ◌*◌, ◌-◌, ◌/◌, ◌%◌, ◌≤◌, ◌<◌}
+use Prim.Native.Nat.{ℕ, zero, suc, ◌+◌, ◌*◌, ◌/◌, ◌%◌, ◌≤◌, ◌<◌}
 use native.Mathlib.Nat as N
 use native.Mathlib.Omega.{arith}
 use borrow.Author.Tests.{lt-ltb}
 use lib.Dec.{ltb}
 use lib.Arith.{digits_div, digits_mod}
-use lib.ListN.{length, get_or, take, drop, length-append, length-take, take-append-drop}
-use lib.Seq.{length-take-le, get_or-take, get_or-drop}
+use lib.ListN.{length, get_or, take, drop, length-append, length-drop, take-append-drop}
+use lib.Seq.{length-take-le, take-add, drop-cons}
 use Rattle.std.specs.List.{count_by}
 use Rattle.std.proofs.lemmas.List.Recursion.{is_count_by}
 use Rattle.whole.specs.Table.{each}
-use Rattle.image.specs.Joins.{Join, joins_from, joins_of}
+use Rattle.image.specs.Joins.{joins_from, joins_of}
 use Rattle.image.specs.Image.{join_bytes}
-use Rattle.writer.specs.Steps.{bytes_of}
-use Rattle.whole.proofs.Stores.{front_next, front_all, each_both}
+use Rattle.writer.specs.Steps.{bytes_of, row_bytes}
+use Rattle.whole.proofs.Stores.{each_both}
 
 -- the row and the column that a place is counted by; in a table of up to 64 zones they are bytes
 module _ (n p from to : ℕ) (whole : from * n + to ≡ p) (column : to < n) where
@@ -83,74 +83,82 @@ module _ (n : ℕ) where
   one_put p zero = refl
   one_put p (suc w) = refl
 
-  -- the joins of the first p weights, and their bytes
-  module _ (weights : List ℕ) where
-    abbrev pub joins_before : ℕ → List Join
-    joins_before p = joins_of n (take p weights)
+  -- the bytes of weights from a place on, and of the first p of them
+  module _ (q : ℕ) (weights : List ℕ) where
+    abbrev pub bytes_from : List ℕ
+    bytes_from = each join_bytes (joins_from n q weights)
 
+  bytes_both : (q : ℕ) (a b : List ℕ) → bytes_from q (a ++ b) ≡ bytes_from q a ++ bytes_from (q + length a) b
+  bytes_both q a b = ap (each join_bytes) (joins_both q a b) ∙ each_both join_bytes (joins_from n q a) (joins_from n (q + length a) b)
+
+  module _ (q : ℕ) (weights : List ℕ) where
     abbrev pub bytes_before : ℕ → List ℕ
-    bytes_before p = each join_bytes (joins_before p)
+    bytes_before p = bytes_from q (take p weights)
 
     pub none_put : bytes_before 0 ≡ []
     unfolding joins_from each
     none_put = refl
 
-    joins_next :
-        (p : ℕ) → p < length weights → joins_before (p + 1) ≡ joins_before p ++ joins_from n p (get_or weights p 0 ∷ [])
-    joins_next p h =
-        ap (joins_of n) (front_next weights p 0 h)
-        ∙ joins_split (take p weights) (get_or weights p 0 ∷ [])
-        ∙ ap (λ k. joins_before p ++ joins_from n k (get_or weights p 0 ∷ [])) (length-take-le p weights (omega arith))
+    -- some more of them
+    part_put : (p m : ℕ) → p ≤ length weights → bytes_before (p + m) ≡ bytes_before p ++ bytes_from (q + p) (take m (drop p weights))
+    part_put p m h =
+        ap (bytes_from q) (take-add p m weights)
+        ∙ bytes_both q (take p weights) (take m (drop p weights))
+        ∙ ap (λ k. bytes_before p ++ bytes_from (q + k) (take m (drop p weights))) (length-take-le p weights h)
 
-    next_put :
-        (p : ℕ) → p < length weights → (from to : ℕ) → from * n + to ≡ p → to < n →
-        bytes_before (p + 1) ≡ bytes_before p ++ bytes_of from to (get_or weights p 0)
-    next_put p h from to whole column =
-        let weight = get_or weights p 0 in
-        ap (each join_bytes) (joins_next p h)
-        ∙ each_both join_bytes (joins_before p) (joins_from n p (weight ∷ []))
-        ∙ ap (λ l. bytes_before p ++ l)
-        (one_put p weight
-        ∙ ap (λ r. bytes_of r (p % n) weight) (row_is n p from to whole column)
-        ∙ ap (λ c. bytes_of from c weight) (column_is n p from to whole column))
+    part_within :
+        (p m : ℕ) → p ≤ length weights →
+        length (bytes_before p) + length (bytes_from (q + p) (take m (drop p weights))) ≤ length (bytes_from q weights)
+    part_within p m h =
+        let more = bytes_from (q + p) (take m (drop p weights)) in
+        let front = take (p + m) weights in
+        let rest = bytes_from (q + length front) (drop (p + m) weights) in
+        let whole = ap (bytes_from q) (sym (take-append-drop (p + m) weights)) ∙ bytes_both q front (drop (p + m) weights) in
+        omega (
+          arith,
+          ap length whole,
+          length-append (bytes_before (p + m)) rest,
+          ap length (part_put p m h),
+          length-append (bytes_before p) more,
+        )
 
-    pub all_put : (p : ℕ) → p ≡ length weights → bytes_before p ≡ each join_bytes (joins_of n weights)
-    all_put p e = ap (λ l. each join_bytes (joins_of n l)) (front_all weights p e)
+    -- one weight more
+    module _ (p from to : ℕ) (h : p < length weights) (whole : from * n + to ≡ q + p) (column : to < n) where
+      one_there : bytes_from (q + p) (take 1 (drop p weights)) ≡ bytes_of from to (get_or weights p 0)
+      one_there =
+          ap (λ l. bytes_from (q + p) (take 1 l)) (drop-cons weights p 0 h)
+          ∙ one_put (q + p) (get_or weights p 0)
+          ∙ ap (λ r. bytes_of r ((q + p) % n) (get_or weights p 0)) (row_is n (q + p) from to whole column)
+          ∙ ap (λ c. bytes_of from c (get_or weights p 0)) (column_is n (q + p) from to whole column)
 
-    -- the bytes of the first joins are some of all
-    before_within : (p : ℕ) → length (bytes_before p) ≤ length (each join_bytes (joins_of n weights))
-    before_within p =
-        let rest = joins_from n (length (take p weights)) (drop p weights) in
-        let whole = ap (joins_of n) (sym (take-append-drop p weights)) ∙ joins_split (take p weights) (drop p weights) in
-        let both = ap (each join_bytes) whole ∙ each_both join_bytes (joins_before p) rest in
-        omega (arith, ap length both, length-append (bytes_before p) (each join_bytes rest))
+      pub weight_more : bytes_before (p + 1) ≡ bytes_before p ++ bytes_of from to (get_or weights p 0)
+      weight_more = part_put p 1 (omega arith) ∙ ap (λ l. bytes_before p ++ l) one_there
 
-    -- the weight at column `to` of row `from`
-    module _ (from to weight : ℕ) (in_row : to < length (take (from * n + n - from * n) (drop (from * n) weights))) (row : from < n) (there : length weights ≡ n * n)
-        (read : weight ≡ get_or (take (from * n + n - from * n) (drop (from * n) weights)) to 0) where
-      column : to < n
-      column = omega (arith, length-take (from * n + n - from * n) (drop (from * n) weights))
+      pub weight_within : length (bytes_before p) + length (bytes_of from to (get_or weights p 0)) ≤ length (bytes_from q weights)
+      weight_within = omega (arith, part_within p 1 (omega arith), ap length one_there)
 
-      inside : from * n + to < length weights
-      inside = let rows : (from + 1) * n ≤ n * n = N.mul-le-mul {n₂ = n} {m₂ = n} (omega arith) (omega arith) in omega (arith, column)
+-- one row more of a table
+module _ (n : ℕ) (weights : List ℕ) (from m : ℕ) (row : from < n) (there : length weights ≡ n * n) (e : m ≡ n) where
+  inside : (from + 1) * n ≤ n * n
+  inside = N.mul-le-mul {n₂ = n} {m₂ = n} (omega arith) (omega arith)
 
-      weight_is : weight ≡ get_or weights (from * n + to) 0
-      weight_is =
-          read
-          ∙ get_or-take (from * n + n - from * n) (drop (from * n) weights) to 0 (omega (arith, column))
-          ∙ get_or-drop (from * n) weights to 0
+  length_is : length (take m (drop (from * n) weights)) ≡ n
+  length_is = ap (λ k. length (take k (drop (from * n) weights))) e ∙ length-take-le n (drop (from * n) weights) (omega (arith, length-drop (from * n) weights, inside))
 
-      pub more_put : bytes_before (from * n + (to + 1)) ≡ bytes_before (from * n + to) ++ bytes_of from to weight
-      more_put =
-          ap bytes_before {x = from * n + (to + 1)} {y = from * n + to + 1} (omega arith)
-          ∙ next_put (from * n + to) inside from to refl column
-          ∙ ap (λ w. bytes_before (from * n + to) ++ bytes_of from to w) (sym weight_is)
+  row_there : row_bytes from (take m (drop (from * n) weights)) ≡ bytes_from n (0 + from * n) (take n (drop (from * n) weights))
+  row_there =
+      let row = take n (drop (from * n) weights) in
+      rw length_is (ap (λ k. bytes_from n (from * n) (take k (drop (from * n) weights))) e)
+      ∙ ap (λ q. bytes_from n q row) {x = from * n} {y = 0 + from * n} (omega arith)
 
-      pub more_within : length (bytes_before (from * n + to)) + length (bytes_of from to weight) ≤ length (each join_bytes (joins_of n weights))
-      more_within =
-          omega (
-            arith,
-            ap length more_put,
-            length-append (bytes_before (from * n + to)) (bytes_of from to weight),
-            before_within (from * n + (to + 1)),
-          )
+  pub row_more :
+      bytes_before n 0 weights ((from + 1) * n) ≡ bytes_before n 0 weights (from * n) ++ row_bytes from (take m (drop (from * n) weights))
+  row_more =
+      ap (bytes_before n 0 weights) {x = (from + 1) * n} {y = from * n + n} (omega arith)
+      ∙ part_put n 0 weights (from * n) n (omega (arith, inside))
+      ∙ ap (λ l. bytes_before n 0 weights (from * n) ++ l) (sym row_there)
+
+  pub row_within :
+      length (bytes_before n 0 weights (from * n)) + length (row_bytes from (take m (drop (from * n) weights)))
+      ≤ length (each join_bytes (joins_of n weights))
+  row_within = omega (arith, part_within n 0 weights (from * n) n (omega (arith, inside)), ap length row_there)

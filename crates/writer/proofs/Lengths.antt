@@ -1,8 +1,7 @@
 -- The six sections of an image one after the other, and the length of all. Assumes nothing.
 use mathlib.Core.Path.{◌≡◌, refl, sym, ap, ◌∙◌}
 use mathlib.Core.List.{List, [], ◌∷◌, ◌++◌}
-use Prim.Native.Nat.{ℕ, ◌+◌, ◌*◌, ◌≤◌}
-use native.Mathlib.Nat as N
+use Prim.Native.Nat.{ℕ, ◌+◌, ◌*◌}
 use native.Mathlib.Omega.{arith}
 use lib.ListN.{length, take, length-append}
 use Rattle.whole.specs.Table.{each}
@@ -12,15 +11,9 @@ use Rattle.image.specs.Image.{signed_bytes, join_bytes, section_bytes, job_bytes
 use Rattle.image.specs.Reader.{Buffers}
 use Rattle.image.specs.Writer.{lent_job}
 use Rattle.image.specs.declared.Given.{Given}
-use Rattle.writer.specs.Steps.{Counted, one_byte, length_with}
+use Rattle.writer.specs.Steps.{Storable, one_byte, length_with}
 use Rattle.whole.proofs.Stores.{each_length}
-use Rattle.writer.proofs.Parts.{Whole, regroup}
-
--- a length with counts that are within their limits
-pub short : (given : Given) (k : ℕ) → Counted given k → length_with given k ≤ 45100
-short given k c =
-    let rows : given.shuffles * given.values ≤ 31936 = N.mul-le-mul {n₂ = 499} {m₂ = 64} c.shuffles c.zones in
-    omega arith
+use Rattle.writer.proofs.Parts.{regroup}
 
 -- bytes are the bytes of each
 each_byte : (bytes : List ℕ) → each one_byte bytes ≡ bytes
@@ -105,7 +98,7 @@ module _ (given : Given) (lent : Buffers) (k : ℕ) where
       ∙ ap (framed k (each one_byte categories)) (sym (each_byte shuffles))
       ∙ regroup values_section categories_section joins_section places_section bands_section shuffles_section
 
-  pub all_length : Whole given lent k → length (job_bytes given (lent_job given lent)) ≡ length_with given k
+  pub all_length : Storable given lent k → length (job_bytes given (lent_job given lent)) ≡ length_with given k
   all_length w =
       let v = each_length signed_bytes 4 (λ x. refl) (take n lent.values) ∙ ap (λ m. 4 * m) w.values in
       let c = each_length one_byte 1 (λ x. refl) (take given.categories lent.categories) in

@@ -20,7 +20,7 @@ use Rattle.image.proofs.Buffers.{exact}
 use Rattle.image.proofs.Called.{limited, job_within}
 use Rattle.image.proofs.Parts.{parted}
 use Rattle.image.proofs.Weights.{weights_light, weights_clear, sums_decide}
-use Rattle.writer.specs.Steps.{Sized, Counted}
+use Rattle.writer.specs.Steps.{Sized, Storable}
 use Rattle.writer.proofs.Joins.{joins_few}
 
 -- six lists, one after the other
@@ -55,22 +55,12 @@ sums_last given lent sized e =
     (holds (any_beyond 100000 job.values) 2 0 p.values).0 (weights_light n job.weights there p.weights)
     (weights_clear n job.weights there p.weights)
 
--- the lists of a job in the buffers have the lengths that its counts say, and it has k joins; all counts are within their limits
-pub record Whole (given : Given) (lent : Buffers) (k : ℕ) : Type 0 where
-  pub counted : Counted given k
-  pub joins : k ≡ length (joins_of given.values (take (given.values * given.values) lent.weights))
-  pub values : length (take given.values lent.values) ≡ given.values
-  pub categories : length (take given.categories lent.categories) ≡ given.categories
-  pub weights : length (take (given.values * given.values) lent.weights) ≡ given.values * given.values
-  pub places : length (take (2 * given.places) lent.places) ≡ 2 * given.places
-  pub bands : length (take given.bands lent.bands) ≡ given.bands
-  pub shuffles : length (take (given.shuffles * given.values) lent.shuffles) ≡ given.shuffles * given.values
-
-pub whole :
+-- a job in the buffers whose parts break no rule is one that is written
+pub storable :
     (given : Given) (lent : Buffers) (k : ℕ) → Sized given lent → first_broken (part_rules given (lent_job given lent)) ≡ 0 →
-    k ≡ length (joins_of given.values (lent_job given lent).weights) → Whole given lent k
+    k ≡ length (joins_of given.values (lent_job given lent).weights) → Storable given lent k
 unfolding lent_job
-whole given lent k sized e counted =
+storable given lent k sized e counted =
     let n = given.values in
     let job = lent_job given lent in
     let p = parted given job e in
@@ -91,7 +81,6 @@ whole given lent k sized e counted =
       joins = counted;
       values = fit.values;
       categories = fit.categories;
-      weights = table;
       places = fit.places;
       bands = fit.bands;
       shuffles = fit.shuffles;

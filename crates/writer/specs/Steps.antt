@@ -1,9 +1,11 @@
 -- What the private functions of the writer promise each other. Assumes nothing.
-use Rattle.std.specs.Prelude.{◌≡◌, false, List, [], ◌∷◌, ◌++◌, ℕ, zero, suc, ◌+◌, ◌*◌, ◌≤◌, length}
+use Rattle.std.specs.Prelude.{◌≡◌, false, List, [], ◌∷◌, ◌++◌, ℕ, zero, suc, ◌+◌, ◌*◌, ◌≤◌, length, take}
 use Rattle.std.proofs.lemmas.List.Edits.{sets}
-use Rattle.whole.specs.Rules.{Rule, first_broken, misfits, size_rules}
+use Rattle.whole.specs.Rules.{Rule, misfits, size_rules}
+use Rattle.whole.specs.Table.{each}
 use Rattle.account.specs.Refusals.{sum_rules}
-use Rattle.image.specs.Joins.{joins_of}
+use Rattle.image.specs.Joins.{joins_from, joins_of}
+use Rattle.image.specs.Image.{join_bytes}
 use Rattle.image.specs.Reader.{Buffers, buffer_lengths}
 use Rattle.image.specs.Writer.{lent_job, part_rules}
 use Rattle.image.specs.declared.Given.{Given}
@@ -47,10 +49,9 @@ abbrev pub bytes_of : ℕ → ℕ → ℕ → List ℕ
 bytes_of from to zero = []
 bytes_of from to (suc w) = from ∷ to ∷ suc w ∷ []
 
--- a job that is written: it breaks no rule, and its joins are k
-pub record Storable (given : Given) (lent : Buffers) (k : ℕ) : Type 0 where
-  pub sound : first_broken (part_rules given (lent_job given lent)) ≡ 0
-  pub counted : k ≡ length (joins_of given.values (lent_job given lent).weights)
+-- the bytes of the joins of a row of weights, those from one zone
+abbrev pub row_bytes : ℕ → List ℕ → List ℕ
+row_bytes from row = each join_bytes (joins_from (length row) (from * length row) row)
 
 -- counts that are within their limits
 pub record Counted (given : Given) (joins : ℕ) : Type 0 where
@@ -60,6 +61,16 @@ pub record Counted (given : Given) (joins : ℕ) : Type 0 where
   pub places : given.places ≤ 64
   pub bands : given.bands ≤ 8
   pub shuffles : given.shuffles ≤ 499
+
+-- a job that is written: its lists have the lengths that its counts say, and it has k joins; all counts are within their limits
+pub record Storable (given : Given) (lent : Buffers) (k : ℕ) : Type 0 where
+  pub counted : Counted given k
+  pub joins : k ≡ length (joins_of given.values (take (given.values * given.values) lent.weights))
+  pub values : length (take given.values lent.values) ≡ given.values
+  pub categories : length (take given.categories lent.categories) ≡ given.categories
+  pub places : length (take (2 * given.places) lent.places) ≡ 2 * given.places
+  pub bands : length (take given.bands lent.bands) ≡ given.bands
+  pub shuffles : length (take (given.shuffles * given.values) lent.shuffles) ≡ given.shuffles * given.values
 
 -- the length of an image with these counts and so many joins
 abbrev pub length_with : Given → ℕ → ℕ

@@ -1,11 +1,11 @@
 // The weights of a job and the joins that they are: their judge, how many there are, and their bytes.
-ghost use Rattle.std.specs.Prelude.{◌≡◌, ℕ, ◌*◌, ◌<◌, length};
+ghost use Rattle.std.specs.Prelude.{◌≡◌, ◌*◌, ◌≤◌, ◌<◌, length};
 ghost use Rattle.whole.specs.Rules.{first_broken, in_turn};
 ghost use Rattle.whole.specs.Table.{each};
 ghost use Rattle.refusals.specs.Refusals.{number_of};
 ghost use Rattle.image.specs.Joins.{joins_of, weight_rules};
 ghost use Rattle.image.specs.Image.{join_bytes};
-ghost use Rattle.writer.specs.Steps.{Room, Puts, bytes_of};
+ghost use Rattle.writer.specs.Steps.{Room, Puts, bytes_of, row_bytes};
 
 use crate::lists::Table;
 use crate::putting::Out;
@@ -28,11 +28,11 @@ pub(super) fn judge_weights(table: &Table) -> Result<(), Refusal>
     Ok(())
 }
 
-// How many joins a table has, of however many zones: one for each weight above 0.
-pub(super) fn count_joins(weights: &[u8]) -> usize
-    ensures { (n : ℕ) → result ≡ length (joins_of n weights.now) }
+// How many joins a table has: one for each weight above 0.
+pub(super) fn count_joins(table: &Table) -> usize
+    ensures { result ≡ length (joins_of table.now.n table.now.weights.now) }
 {
-    weights.iter().filter(|weight| **weight > 0).count()
+    table.weights.iter().filter(|weight| **weight > 0).count()
 }
 
 // The bytes of the join of a weight above 0.
@@ -48,6 +48,18 @@ fn put_join(out: &mut Out, from: usize, to: usize, weight: u8)
     }
 }
 
+// The bytes of the joins of a row of the table: those from one zone.
+fn put_row(out: &mut Out, from: usize, row: &[u8])
+    requires room { Room out.old (row_bytes from row.now) }
+    requires from_bound { from < 256 }
+    requires row_bound { length row.now ≤ 256 }
+    ensures { Puts out.old (row_bytes from row.now) out.new }
+{
+    for (to, weight) in row.iter().enumerate() {
+        put_join(out, from, to, *weight);
+    }
+}
+
 // The bytes of the joins of a table, row by row.
 pub(super) fn put_joins(out: &mut Out, table: &Table)
     requires { Room out.old (each join_bytes (joins_of table.now.n table.now.weights.now)) }
@@ -55,9 +67,6 @@ pub(super) fn put_joins(out: &mut Out, table: &Table)
 {
     let Table { n, weights } = *table;
     for from in 0..n {
-        let row = &weights[from * n..from * n + n];
-        for (to, weight) in row.iter().enumerate() {
-            put_join(out, from, to, *weight);
-        }
+        put_row(out, from, &weights[from * n..from * n + n]);
     }
 }

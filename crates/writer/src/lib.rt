@@ -13,7 +13,7 @@ ghost use Rattle.refusals.specs.Refusals.{number_of};
 ghost use Rattle.image.specs.Writer.{listed, write_refusal, write_length, write_left};
 ghost use Rattle.writer.specs.Answers.{length_of};
 
-use crate::lists::SizedLists;
+use crate::lists::{CountedJob, SizedLists};
 use image::{Given, Lists};
 use refusals::Refusal;
 
@@ -26,11 +26,12 @@ pub fn write(lists: Lists, given: Given, out: &mut [u8]) -> Result<usize, Refusa
 {
     judging::judge(lists, given)?;
     let job = SizedLists { given, lists };
-    let joins = joining::count_joins(job.table().weights);
-    let length = storing::image_length(given, joins);
+    let joins = joining::count_joins(&job.table());
+    let counted = CountedJob { job, joins };
+    let length = counted.image_length();
     if out.len() < length {
         return Err(Refusal::Output);
     }
-    storing::store(&job, joins, out);
+    counted.store(out);
     Ok(length)
 }

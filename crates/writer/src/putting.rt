@@ -6,6 +6,7 @@ ghost use Rattle.image.specs.Image.{signed_bytes, section_bytes};
 ghost use Rattle.writer.specs.Steps.{Room, Puts, one_byte};
 
 // The lent room, and the place in it behind what is put.
+// That it has room stands with each function that puts, and is no fact of this struct, since how much is asked depends on what is put.
 #[derive(Drop)]
 pub(super) struct Out<'a> {
     pub(super) bytes: &'a mut [u8],

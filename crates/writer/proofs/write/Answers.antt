@@ -13,9 +13,9 @@ use Rattle.image.specs.Image.{job_bytes}
 use Rattle.image.specs.Reader.{Buffers}
 use Rattle.image.specs.Writer.{listed, lent_job, part_rules}
 use Rattle.image.specs.declared.Given.{Given}
-use Rattle.writer.specs.Steps.{Sized, judged_rules}
+use Rattle.writer.specs.Steps.{Sized, Storable, judged_rules}
 use Rattle.writer.specs.Answers.{length_of}
-use Rattle.writer.proofs.Parts.{Whole, whole}
+use Rattle.writer.proofs.Parts.{storable}
 use Rattle.writer.proofs.Lengths.{all_length}
 use Rattle.writer.proofs.Answered as A
 use Rattle.writer.proofs.write.Goals as goal
@@ -50,11 +50,11 @@ module _ (c : After-count_joins-joins) where
   parts_sound : first_broken (part_rules (given s) (lent_job (given s) (lent s))) ≡ 0
   parts_sound = A.parts_sound (given s) (lent s) (sound passed)
 
-  parts : Whole (given s) (lent s) c.count_joins-joins.result
+  parts : Storable (given s) (lent s) c.count_joins-joins.result
   unfolding lent_job
   parts =
-      whole (given s) (lent s) c.count_joins-joins.result sized parts_sound
-      (rw c.table.ensures.weights at c.count_joins-joins.ensures (given s).values)
+      storable (given s) (lent s) c.count_joins-joins.result sized parts_sound
+      (rw (c.table.ensures.n, c.table.ensures.weights) at c.count_joins-joins.ensures)
 
 -- and their image has its length
 measured :
@@ -75,8 +75,8 @@ returns-in_err-judge c =
     let kept = A.kept (given s) (lent s) (out s) e.field-0.0 number in
     record { number = ap number_of same ∙ number; length = ap length_of same ∙ kept.length; lent = kept.left }
 
-pub image_length-length-requires : goal.image_length-length-requires
-image_length-length-requires c = (parts ((goal.at.image_length-length-requires c).After-count_joins-joins)).counted
+pub invariant_of-counted : goal.invariant_of-counted
+invariant_of-counted c = record { storable = parts ((goal.at.invariant_of-counted c).After-count_joins-joins) }
 
 pub returns-then-out-length : goal.returns-then-out-length
 unfolding length_of
@@ -92,10 +92,7 @@ returns-then-out-length c =
 pub store-requires : goal.store-requires
 unfolding lent_job
 store-requires c =
-    let j = (goal.at.store-requires c).After-count_joins-joins in record {
-      storable = record { sound = parts_sound j; counted = (parts j).joins };
-      room = omega (arith, measured ((goal.at.store-requires c).After-image_length-length), c.if-out-length.false);
-    }
+    omega (arith, measured ((goal.at.store-requires c).After-image_length-length), c.if-out-length.false)
 
 pub returns : goal.returns
 unfolding length_of

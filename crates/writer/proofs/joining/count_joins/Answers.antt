@@ -8,6 +8,7 @@ use Rattle.writer.proofs.joining.count_joins.Goals as goal
 
 pub returns : goal.returns
 returns c =
-    let weights = c.args.weights.now in
+    let table = c.args.table.now in
+    let weights = table.weights.now in
     let counted : c.count.result ≡ count_by (λ w. ltb 0 w) weights = search rules in
-    λ n. counted ∙ sym (joins_counted n weights)
+    counted ∙ sym (joins_counted table.n weights)

@@ -63,6 +63,6 @@ returns c =
     let l = (goal.at.returns c).In_ok-judge_lengths in
     let parts = part_rules (given (s l)) (job (s l)) in
     let sound = c.in_ok-judge_parts.ensures in
-    (rw c.table.ensures.weights at c.judge.ensures)
+    (rw (c.values.ensures, c.table.ensures.weights) at c.judge.ensures)
     ∙ sums_last (given (s l)) (lent (s l)) (sized l) (sym sound)
     ∙ sym (past_sizes l ∙ passes parts (sums (s l)) (parts_numbered (given (s l)) (job (s l))) sound)

@@ -24,5 +24,5 @@ returns c =
     let few : k ≤ 499 = ltb-false 499 k counted in
     let room : k * n ≤ 31936 = N.mul-le-mul {n₂ = 499} {m₂ = 64} few a.sized.zones in
     let there = length-take-le (k * n) a.lists.shuffles.now (omega (arith, lengths.shuffles)) in
-    let decided = c.judge_shuffles.ensures ∙ shuffles_decide n k entries a.sized.two a.sized.zones few there in
+    let decided = (rw c.shuffles.ensures at c.judge_shuffles.ensures) ∙ shuffles_decide n k entries a.sized.two a.sized.zones few there in
     rw counted decided

@@ -2,7 +2,7 @@
 use mathlib.Core.Path.{refl, ◌∙◌}
 use borrow.Author.Rules.{rules}
 use Rattle.writer.proofs.Behind.{puts_over}
-use Rattle.writer.proofs.storing.store.Goals as goal
+use Rattle.writer.proofs.lists.CountedJob.store.Goals as goal
 
 pub returns : goal.returns
-returns c = search rules ∙ puts_over c.put_sections.ensures refl c.requires.room
+returns c = search rules ∙ puts_over c.put_sections.ensures refl c.requires
