@@ -1,7 +1,7 @@
 // The calls for software that is not written in Rattle: C, Rust and whatever can call C. Each list is a pointer and a length. A call
 // answers the number of the refusal, 0 where none applies, since C has no Result, and its figures go to lent lists; a thin layer above the
 // calls of the other crates, which relies on their promises alone. include/dca.h says the same to a programmer in C.
-// A call that goes through several others has a second function beside it, `.._into`, for `?` wants a function that answers a Result.
+// A call that does more than hand its lists on has a second function beside it, `.._into`, for `?` wants a function that answers a Result.
 #![tactic(auto)]
 
 mod floats;

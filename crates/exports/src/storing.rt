@@ -1,4 +1,5 @@
 // What the calls answer, into lent lists.
+// No NaN, at most 64 kept: asked wherever they go, for Pair and Sums are public, and a ghost field would ask it of all who make one.
 ghost use Rattle.std.specs.Prelude.{◌≡◌, [], ◌∷◌, ◌+◌, ◌*◌, ◌≤◌, ◌<◌, length, get_or};
 ghost use Rattle.whole.specs.Table.{table};
 ghost use Rattle.account.specs.Answers.{listed};
@@ -92,7 +93,7 @@ fn put_coefficient(figures: &mut [u64], place: usize, coefficient: Coefficient)
     }
 }
 
-// Moran and Geary of pair k. C lends the pairs as a flat list; of one taken as arrays (`as_chunks_mut`) it is not known what it ends as.
+// Moran and Geary of pair k. C lends the pairs as a flat list; `as_chunks_mut` promises nothing of what it ends as.
 pub(super) fn put_pair(figures: &mut [u64], k: usize, pair: Pair)
     requires k_bound { k < 9 }
     requires k_in_bounds { k * 2 + 1 < length figures.old }

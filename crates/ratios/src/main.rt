@@ -8,6 +8,7 @@
 use std::io;
 use std::io::Print;
 
+// The line of one ratio.
 fn print_answer(rt: &impl Print, p: i64, q: i64) -> io::Result<()> {
     match nearest::nearest(p, q) {
         Ok(x) => println!(rt; "{:016X}", x.to_bits()),
@@ -15,10 +16,12 @@ fn print_answer(rt: &impl Print, p: i64, q: i64) -> io::Result<()> {
     }
 }
 
+// The number whose eight bytes begin at a place.
 fn number_at(s: &[u8], at: usize) -> i64 {
     words::signed_long(words::long_at(s, at))
 }
 
+// A line for each ratio, in turn. What is left of fewer than 16 bytes is no ratio.
 fn run(rt: &impl Print, bytes: &[u8]) -> io::Result<()> {
     for ratio in bytes.chunks_exact(16) {
         print_answer(rt, number_at(ratio, 0), number_at(ratio, 8))?;

@@ -6,8 +6,10 @@ use native.Mathlib.Omega.{arith}
 use borrow.Author.Tests.{eq-eqb, ne_eqb}
 use lib.ListN.{length, get_or, take, drop, length-append}
 use lib.Seq.{take_at}
-use Rattle.std.specs.Prelude.{Result, Ok, Err}
+use Rattle.std.specs.Prelude.{Option, None, Some, Result, Ok, Err}
+use Rattle.std.specs.Option.{ok_or}
 use Rattle.std.specs.Result.{IsOk}
+use Rattle.std.proofs.lemmas.Grind.{common_steps}
 use Rattle.whole.specs.Table.{over}
 use Rattle.whole.proofs.Rules.{worked_when_taken}
 use Rattle.refusals.specs.declared.Refusal.{Refusal}
@@ -20,6 +22,11 @@ use Rattle.report.specs.Text.{print_refusal, print_length, page_left, line_refus
 use Rattle.report.specs.Steps.{Put, Prints}
 use Rattle.report.proofs.Puts.{put_over}
 use Rattle.report.proofs.Unrefused.{unrefused}
+
+-- the cause where the library has no array of a page
+pub untaken : {A : Type 0} (page : Option A) {e : Refusal} → page ≡ None → Err e ≡ ok_or page Length → e ≡ Length
+untaken None none same = grind (arith, common_steps, same)
+untaken (Some _) none same = grind (arith, common_steps, none)
 
 -- ---- the report
 module _ (image page : List ℕ) where

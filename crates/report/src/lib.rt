@@ -24,10 +24,8 @@ pub fn report(image: &[u8], page: &mut [u8]) -> Result<usize, Refusal>
     ensures length { length_in result ≡ print_length image.now page.old }
     ensures page { page.new ≡ page_left image.now page.old }
 {
-    match page.as_mut_array() {
-        Some(page) => reading::put_report(page, image),
-        None => Err(Refusal::Length),
-    }
+    let page = page.as_mut_array().ok_or(Refusal::Length)?;
+    reading::put_report(page, image)
 }
 
 // Puts the line of an image that is refused by that number, `refused` and the number, at the front of such a page, and answers its length.
@@ -41,8 +39,6 @@ pub fn refusal(number: u8, page: &mut [u8]) -> Result<usize, Refusal>
         word: b"refused",
         numbers: &[i64::from(number)],
     };
-    match page.as_mut_array::<16384>() {
-        Some(page) => Ok(putting::put_line(page, 0, &line)),
-        None => Err(Refusal::Length),
-    }
+    let page: &mut Page = page.as_mut_array().ok_or(Refusal::Length)?;
+    Ok(putting::put_line(page, 0, &line))
 }

@@ -7,10 +7,11 @@ ghost use Rattle.coefficients.specs.Steps.{ReadablePair, ReadablePairs};
 ghost use Rattle.report.specs.Steps.{sum_lines, ratio_lines, zone_line, table_line, row_line};
 
 use crate::putting::{self, Line};
-use account::Sums;
-use coefficients::Pair;
+use account::{ClassRow, Sums};
+use coefficients::{Pair, Whole};
 
 // The zones of a job: the weights between them, and of each its local numerator and the bits of its local Moran.
+// These two stay two lists: the public calls that fill and order them are handed each as one.
 #[derive(Clone, Copy)]
 pub(super) struct Zones<'a> {
     pub(super) weights: &'a [u8],
@@ -20,6 +21,7 @@ pub(super) struct Zones<'a> {
 }
 
 // The number of zones kept, S, M, then W P G.
+// No NaN, at most 64 kept: asked wherever they go, for Pair and Sums are public, and a ghost field would ask it of all who make one.
 pub(super) fn put_sums(page: &mut [u8], at: usize, sums: Sums) -> usize
     requires kept_bound { sums.kept ≤ 64 }
     requires room { Room page.old at 192 }
@@ -45,12 +47,14 @@ pub(super) fn put_sums(page: &mut [u8], at: usize, sums: Sums) -> usize
 }
 
 // Moran's I, Geary's c and the expected I, each as a ratio.
-pub(super) fn put_ratios(page: &mut [u8], at: usize, sums: Sums, pair: Pair) -> usize
-    requires within { Within sums }
-    requires readable_pair { ReadablePair pair }
+pub(super) fn put_ratios(page: &mut [u8], at: usize, whole: Whole) -> usize
+    requires within { Within whole.sums }
+    requires readable_pair { ReadablePair whole.pair }
     requires room { Room page.old at 352 }
-    ensures { Put page.old page.new at result 352 (ratio_lines sums pair) }
+    ensures { Put page.old page.new at result 352 (ratio_lines whole.sums whole.pair) }
 {
+    let sums = whole.sums;
+    let pair = whole.pair;
     let kept = sums.kept;
     let moran = pair.moran;
     let geary = pair.geary;
@@ -72,8 +76,8 @@ pub(super) fn put_ratios(page: &mut [u8], at: usize, sums: Sums, pair: Pair) -> 
         word: b"expected",
         numbers: &[-1, (kept - 1) as i64],
     };
-    let place = putting::put_figure_line(page, at, &of_moran, moran);
-    let end = putting::put_figure_line(page, place, &of_geary, geary);
+    let place = putting::put_field_line(page, at, &of_moran, moran);
+    let end = putting::put_field_line(page, place, &of_geary, geary);
     putting::put_line(page, end, &expected)
 }
 
@@ -97,12 +101,12 @@ pub(super) fn put_zones(
             word: b"local",
             numbers: &[i64::from(zone), zones.locals[of_zone], spread],
         };
-        place = putting::put_bits_line(page, place, &line, zones.figures[of_zone]);
+        place = putting::put_field_line(page, place, &line, zones.figures[of_zone]);
     }
     place
 }
 
-// The entries above 0 of row r of the join table.
+// The entries above 0 of row r of the join table. It lies flat, since the public call that fills it is lent it so, by C too.
 fn put_table_row(page: &mut [u8], at: usize, table: &[i64; 64], r: u8) -> usize
     requires r_bound { r < 8 }
     requires room { Room page.old at 768 }
@@ -135,7 +139,7 @@ pub(super) fn put_table(page: &mut [u8], at: usize, table: &[i64; 64]) -> usize
     place
 }
 
-// The rows of class 0 up to a class, with their pairs.
+// The rows of class 0 up to a class, with their pairs: two lists, for so the plain report, a public call, gives them.
 pub(super) fn put_rows(
     page: &mut [u8],
     at: usize,
@@ -149,15 +153,17 @@ pub(super) fn put_rows(
     ensures { Put page.old page.new at result (128 * suc last)
         (each (row_line rows.now pairs) (numbered (suc last))) }
 {
+    let of_classes = ClassRow::all(rows);
     let mut place = at;
     for k in 0..=last {
+        let row = of_classes[k];
         let pair = pairs[k];
         // no From leads here from a usize; TryFrom and an unwrap is no plainer
         let line = Line {
             word: b"class",
-            numbers: &[k as i64, rows[k * 3], rows[k * 3 + 1], rows[k * 3 + 2]],
+            numbers: &[k as i64, row.weight, row.cross, row.squares],
         };
-        place = putting::put_pair_line(page, place, &line, pair);
+        place = putting::put_field_line(page, place, &line, pair);
     }
     place
 }

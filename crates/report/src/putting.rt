@@ -1,9 +1,7 @@
 // Lines of a report into a page that has room for them. Each call is told the place to begin at, and answers the place behind what it has
-// put.
-// Room is asked for from that place on, so that no type of the page carries it. A struct of the page and the place
-// is no plainer: each call would say besides that it holds the same page.
-ghost use Rattle.std.specs.Prelude.{[], ◌∷◌, ◌++◌, ◌≤◌, length};
-ghost use Rattle.pages.specs.Lines.{numbers, bits as bits_of};
+// put. Page and place stay two, since the calls below, of crate `pages`, are public, and take the two and answer the place.
+ghost use Rattle.std.specs.Prelude.{⊤, List, [], ◌∷◌, ◌++◌, ℕ, ◌≤◌, length};
+ghost use Rattle.pages.specs.Lines.{numbers, bits};
 ghost use Rattle.report.specs.Lines.{coefficient};
 ghost use Rattle.report.specs.Steps.{Put, Room};
 ghost use Rattle.coefficients.specs.Steps.{Readable, ReadablePair};
@@ -57,41 +55,62 @@ fn put_end(page: &mut [u8], at: usize) -> usize
     pages::put_byte(page, at, b'\n')
 }
 
-// A line of numbers and the bits of a float.
-pub(super) fn put_bits_line(page: &mut [u8], at: usize, line: &Line, bits: u64) -> usize
-    requires room { Room page.old at 128 }
-    ensures { Put page.old page.new at result 128
-        (line.now.word.now ++ ((numbers line.now.numbers.now ++ bits_of bits) ++ (10 ∷ []))) }
-{
-    let place = put_start(page, at, line);
-    let end = pages::put_bits(page, place, bits);
-    put_end(page, end)
+// What a line has behind its numbers.
+pub(super) trait Field: Copy {
+    ghost text: { Self → List ℕ };
+
+    ghost printable: { Self → Type 0 };
+
+    fn put(self, page: &mut [u8], at: usize) -> usize
+        requires printable { printable self }
+        requires room { Room page.old at 34 }
+        ensures { Put page.old page.new at result 34 (text self) };
 }
 
-// A line of numbers and a coefficient.
-pub(super) fn put_figure_line(page: &mut [u8], at: usize, line: &Line, figure: Coefficient) -> usize
-    requires readable { Readable figure }
-    requires room { Room page.old at 128 }
-    ensures { Put page.old page.new at result 128
-        (line.now.word.now ++ ((numbers line.now.numbers.now ++ coefficient figure) ++ (10 ∷ []))) }
-{
-    let place = put_start(page, at, line);
-    let end = put_coefficient(page, place, figure);
-    put_end(page, end)
+// The bits of a float.
+impl Field for u64 {
+    ghost text = { bits };
+
+    ghost printable = { λ x. ⊤ };
+
+    fn put(self, page: &mut [u8], at: usize) -> usize {
+        pages::put_bits(page, at, self)
+    }
 }
 
-// A line of numbers and a pair of coefficients.
-pub(super) fn put_pair_line(page: &mut [u8], at: usize, line: &Line, pair: Pair) -> usize
-    requires readable_pair { ReadablePair pair }
+// One coefficient.
+impl Field for Coefficient {
+    ghost text = { coefficient };
+
+    ghost printable = { Readable };
+
+    fn put(self, page: &mut [u8], at: usize) -> usize {
+        put_coefficient(page, at, self)
+    }
+}
+
+// Moran and Geary.
+impl Field for Pair {
+    ghost text = { λ pair. coefficient pair.moran ++ coefficient pair.geary };
+
+    ghost printable = { ReadablePair };
+
+    fn put(self, page: &mut [u8], at: usize) -> usize {
+        let moran = self.moran;
+        let geary = self.geary;
+        let place = put_coefficient(page, at, moran);
+        put_coefficient(page, place, geary)
+    }
+}
+
+// A line of numbers and what stands behind them.
+pub(super) fn put_field_line<F: Field>(page: &mut [u8], at: usize, line: &Line, field: F) -> usize
+    requires printable { F.printable field }
     requires room { Room page.old at 128 }
     ensures { Put page.old page.new at result 128
-        (line.now.word.now ++ ((numbers line.now.numbers.now
-        ++ (coefficient pair.moran ++ coefficient pair.geary)) ++ (10 ∷ []))) }
+        (line.now.word.now ++ ((numbers line.now.numbers.now ++ F.text field) ++ (10 ∷ []))) }
 {
-    let moran = pair.moran;
-    let geary = pair.geary;
     let place = put_start(page, at, line);
-    let middle = put_coefficient(page, place, moran);
-    let end = put_coefficient(page, middle, geary);
+    let end = field.put(page, place);
     put_end(page, end)
 }

@@ -9,7 +9,8 @@ use image::Lists;
 use reader::Counts;
 use refusals::Refusal;
 
-// The lines of the job in the buffers: the first entries of each, as many as the counts say.
+// The lines of the job in the buffers: the first entries of each, as many as the counts say. Each of the six is cut at a length that is
+// worked out in its own way, so that a function for all would be no shorter.
 fn put_read(page: &mut Page, counts: Counts, held: &Lists) -> usize
     requires { Held counts (listed held.now) }
     ensures { Put page.old page.new 0 result 16128

@@ -50,11 +50,10 @@ fn put_account(page: &mut Page, whole: Whole, zones: &Zones) -> usize
         (take whole.sums.kept (in_order (length zones.now.locals.now) zones.now.weights.now zones.now.locals.now))) }
 {
     let sums = whole.sums;
-    let pair = whole.pair;
     let spread = sums.spread;
     let many = sums.kept;
     let place = lines::put_sums(page, 0, sums);
-    let end = lines::put_ratios(page, place, sums, pair);
+    let end = lines::put_ratios(page, place, whole);
     put_hot_list(page, end, zones, many, spread)
 }
 

@@ -24,4 +24,4 @@ loop-zone-preserved c =
     let numerator = to_z-of_z w64 (get_or zones.locals.now zone (pos 0)) (search rules) in
     let text = zone_text zones.locals.now zones.figures.now _ zone number numerator refl ∙ ap (zone_line _ _ _) is_zone in
     put_each_next (zone_line _ _ _) {size = 128} a.order.now l.zone-index 0 c.loop-zone-test.true l.invariant
-    (put_as c.put_bits_line-place.ensures text)
+    (put_as c.put_field_line-place.ensures text)
