@@ -52,7 +52,8 @@ impl KeptLists<'_> {
         requires { length places.old ≡ self.now.job.n }
         ensures { places.new ≡ table (place_in self.now.zones.now) self.now.job.n }
     {
-        // from a usize, twice: TryFrom and an unwrap is no plainer, and a place is at most 64
+        // `get` finds nothing at their number: an Option for each zone would be matched only to make that same test.
+        // From a usize, twice: TryFrom and an unwrap is no plainer, and a place is at most 64
         places.fill(self.zones.len() as u8);
         for (k, zone) in self.zones.iter().enumerate() {
             places[usize::from(*zone)] = k as u8;
@@ -66,7 +67,7 @@ pub(super) fn put_back(places: &[u8], numbers: &[i64], out: &mut [i64])
     ensures { out.new
         ≡ table (at_place places.now (length numbers.now) (at numbers.now)) (length places.now) }
 {
-    // by place, as above
+    // by place: of a zip over iter_mut no proof knows what it wrote
     for (i, number) in out.iter_mut().enumerate() {
         let place = usize::from(places[i]);
         *number = numbers.get(place).copied().unwrap_or(0);

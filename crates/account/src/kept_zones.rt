@@ -3,7 +3,6 @@
 ghost use Rattle.std.specs.Prelude.{◌≡◌, ◌*◌, length};
 ghost use Rattle.whole.specs.Table.{table};
 ghost use Rattle.kept.specs.Kept.{kept_count, kept_values, kept_pairs, kept_shuffles};
-ghost use Rattle.shuffles.specs.Steps.{Shuffles};
 ghost use Rattle.account.specs.Answers.{listed, job_figures, job_locals};
 ghost use Rattle.account.specs.Classes.{class_sums, class_locals_of};
 ghost use Rattle.account.specs.Rank.{zones_rank, three};
@@ -52,8 +51,8 @@ fn gather<'a>(
     }
 }
 
-// The sums of a job, with its local numerators in `locals`. That a lent list has room is a clause here, below and of what is called here:
-// its length is the caller's, as C lends it.
+// The sums of a job, with its local numerators in `locals`. That a list has room for each zone is a clause here, below and of what is
+// called here: n is the job's, and no type can say it of a list that C lends.
 pub(super) fn job_sums(kept: &KeptLists, locals: &mut [i64]) -> Sums
     requires { length locals.old ≡ kept.now.job.n }
     ensures result_value { listed result
@@ -127,32 +126,28 @@ pub(super) fn work_classes<'a>(
 }
 
 // The rank of a job.
-pub(super) fn work_rank(kept: &KeptLists, shuffles: &[u8], rows: usize) -> Counts
-    requires { Shuffles shuffles.now kept.now.job.n rows }
+pub(super) fn work_rank(kept: &KeptLists, shuffles: &ShuffleRows) -> Counts
+    requires { shuffles.now.n ≡ kept.now.job.n }
     ensures { three result
-        ≡ zones_rank rows (kept_count kept.now.job.n kept.now.job.weights.now)
+        ≡ zones_rank shuffles.now.rows (kept_count kept.now.job.n kept.now.job.weights.now)
         (kept_values kept.now.job.n kept.now.job.weights.now kept.now.job.values.now)
         (kept_pairs kept.now.job.n kept.now.job.weights.now kept.now.job.weights.now)
-        (kept_shuffles kept.now.job.n kept.now.job.weights.now rows shuffles.now) }
+        (kept_shuffles kept.now.job.n kept.now.job.weights.now shuffles.now.rows shuffles.now.shuffles.now) }
 {
     let KeptLists { job, zones } = *kept;
-    let lent = ShuffleRows {
-        n: job.n,
-        shuffles,
-        rows,
-    };
     if zones.len() == job.n {
-        return ranking::zone_rank(&job, &lent);
+        return ranking::zone_rank(&job, shuffles);
     }
     let mut value_space: [i32; 64] = [0; 64];
     let mut weight_space: [u8; 4096] = rooms::room();
     let mut place_space: [u8; 64] = [0; 64];
     let gathered = gather(kept, &mut value_space, &mut weight_space, &mut place_space);
     let many = gathered.job.n;
+    let rows = shuffles.rows;
     let numbers = rows * many;
     let mut shuffle_space: [u8; 31936] = rooms::room();
     let kept_shuffles = &mut shuffle_space[..numbers];
-    keeping::keep_rows(&lent, gathered.places, many, kept_shuffles);
+    keeping::keep_rows(shuffles, gathered.places, many, kept_shuffles);
     let kept_rows = ShuffleRows {
         n: many,
         shuffles: kept_shuffles,
