@@ -12,6 +12,24 @@ use crate::keeping::KeptLists;
 use crate::lists::{ClassLists, JobLists, ShuffleRows};
 use crate::{Counts, Sums, classes, keeping, ranking, working};
 
+// Room for what is gathered of any job.
+#[derive(Drop)]
+struct Room {
+    values: [i32; 64],
+    weights: [u8; 4096],
+    places: [u8; 64],
+}
+
+impl Room {
+    fn new() -> Room {
+        Room {
+            values: [0; 64],
+            weights: rooms::room(),
+            places: [0; 64],
+        }
+    }
+}
+
 // The job of the zones kept, and the place of each zone of the whole job among them.
 #[derive(Clone, Copy)]
 struct Gathered<'a> {
@@ -20,12 +38,7 @@ struct Gathered<'a> {
 }
 
 // Gathers the job of the zones kept into room that is lent.
-fn gather<'a>(
-    kept: &KeptLists,
-    value_space: &'a mut [i32; 64],
-    weight_space: &'a mut [u8; 4096],
-    place_space: &'a mut [u8; 64],
-) -> Gathered<'a>
+fn gather<'a>(kept: &KeptLists, room: &'a mut Room) -> Gathered<'a>
     ensures n { result.job.n ≡ length kept.now.zones.now }
     ensures values { result.job.values.now ≡ gathered kept.now.job.values.now kept.now.zones.now }
     ensures weights { result.job.weights.now
@@ -33,13 +46,18 @@ fn gather<'a>(
     ensures places { result.places.now ≡ table (place_in kept.now.zones.now) kept.now.job.n }
 {
     let KeptLists { job, zones } = *kept;
+    let Room {
+        values,
+        weights,
+        places,
+    } = room;
     let many = zones.len();
     let pairs = many * many;
-    let kept_values = &mut value_space[..many];
+    let kept_values = &mut values[..many];
     kept.gather(job.values, kept_values);
-    let kept_weights = &mut weight_space[..pairs];
+    let kept_weights = &mut weights[..pairs];
     kept.gather_pairs(job.weights, kept_weights);
-    let places = &mut place_space[..job.n];
+    let places = &mut places[..job.n];
     kept.find_places(places);
     Gathered {
         job: JobLists {
@@ -64,10 +82,8 @@ pub(super) fn job_sums(kept: &KeptLists, locals: &mut [i64]) -> Sums
     if zones.len() == job.n {
         return working::zone_sums(&job, locals);
     }
-    let mut value_space: [i32; 64] = [0; 64];
-    let mut weight_space: [u8; 4096] = rooms::room();
-    let mut place_space: [u8; 64] = [0; 64];
-    let gathered = gather(kept, &mut value_space, &mut weight_space, &mut place_space);
+    let mut room = Room::new();
+    let gathered = gather(kept, &mut room);
     let mut local_space: [i64; 64] = [0; 64];
     let kept_locals = &mut local_space[..gathered.job.n];
     let sums = working::zone_sums(&gathered.job, kept_locals);
@@ -101,10 +117,8 @@ pub(super) fn work_classes<'a>(
         let lists = ClassLists { job, classes };
         return classes::zone_classes(&lists, rows, class_locals, locals);
     }
-    let mut value_space: [i32; 64] = [0; 64];
-    let mut weight_space: [u8; 4096] = rooms::room();
-    let mut place_space: [u8; 64] = [0; 64];
-    let gathered = gather(kept, &mut value_space, &mut weight_space, &mut place_space);
+    let mut room = Room::new();
+    let gathered = gather(kept, &mut room);
     let many = gathered.job.n;
     let pairs = many * many;
     let mut class_space: [u8; 4096] = rooms::room();
@@ -138,10 +152,8 @@ pub(super) fn work_rank(kept: &KeptLists, shuffles: &ShuffleRows) -> Counts
     if zones.len() == job.n {
         return ranking::zone_rank(&job, shuffles);
     }
-    let mut value_space: [i32; 64] = [0; 64];
-    let mut weight_space: [u8; 4096] = rooms::room();
-    let mut place_space: [u8; 64] = [0; 64];
-    let gathered = gather(kept, &mut value_space, &mut weight_space, &mut place_space);
+    let mut room = Room::new();
+    let gathered = gather(kept, &mut room);
     let many = gathered.job.n;
     let rows = shuffles.rows;
     let numbers = rows * many;
