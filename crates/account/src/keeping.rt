@@ -16,6 +16,19 @@ pub(super) struct KeptLists<'a> {
     ghost rising: { Zones zones.now job.n },
 }
 
+// What a list holds at so many numbers, one after another.
+pub(super) fn pick<T: Copy>(list: &[T], numbers: &[u8], out: &mut [T])
+    requires below { (k : ℕ) → k < length numbers.now → get_or numbers.now k 0 < length list.now }
+    requires out_len { length out.old ≡ length numbers.now }
+    ensures { (k : ℕ) → k < length numbers.now → slice_get out.new k ≡ slice_get list.now (get_or numbers.now k 0) }
+{
+    // by place: of a zip over iter_mut no proof knows what it wrote
+    for (k, number) in numbers.iter().enumerate() {
+        let number = usize::from(*number);
+        out[k] = list[number];
+    }
+}
+
 impl KeptLists<'_> {
     // What a list that has an entry for each zone holds of the zones kept.
     pub(super) fn gather<T: Copy>(&self, list: &[T], out: &mut [T])
@@ -24,12 +37,7 @@ impl KeptLists<'_> {
         ensures { (k : ℕ) → k < length self.now.zones.now → slice_get out.new k
             ≡ slice_get list.now (get_or self.now.zones.now k 0) }
     {
-        let zones = self.zones;
-        // by place: of a zip over iter_mut no proof knows what it wrote
-        for (k, entry) in out.iter_mut().enumerate() {
-            let zone = usize::from(zones[k]);
-            *entry = list[zone];
-        }
+        pick(list, self.zones, out);
     }
 
     // What a list that has a row for each zone holds of the pairs of the zones kept.
