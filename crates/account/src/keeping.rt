@@ -112,8 +112,8 @@ pub(super) fn keep_row(row: &ShuffleRow, places: &[u8], out: &mut [u8])
         ≡ table (placed_number places.now (length out.old) (length row.now.zones.now) (λ i. get_or row.now.zones.now i 0))
         (length out.old) }
 {
-    // counts the numbers that have a place, and not the turns. A chain of map, filter and enumerate would number them: tried, and its proof
-    // lacks a law that says in a `for` how many a filter has let pass so far
+    // counts the numbers that have a place, and not the turns: a chain of map, filter and enumerate has their number too, and is no
+    // plainer, as long as this loop and with two closures
     let mut k: usize = 0;
     for zone in row.zones {
         let place = places[usize::from(*zone)];
