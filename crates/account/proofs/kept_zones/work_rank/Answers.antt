@@ -22,15 +22,18 @@ counted :
     count (λ i. ltb (get_or g.places.now i 0) g.job.n) c.args.shuffles.now.n ≡ g.job.n
 counted c =
     let k = c.args.kept.now in
+    let s = c.args.shuffles.now in
+    let all = of_zones c.requires s.good in
     rw (c.gather-gathered.ensures.n, c.requires)
-    (places_count k.job.n k.job.weights.now k.zones.now k.kept c.args.shuffles.now.rows c.args.shuffles.now.shuffles.now (of_zones c.requires c.args.shuffles.now.good) _ c.gather-gathered.ensures.places)
+    (places_count k.job.n k.job.weights.now k.zones.now k.kept s.rows s.shuffles.now all _ c.gather-gathered.ensures.places)
 
 pub returns-then-zones-job : goal.returns-then-zones-job
 returns-then-zones-job c =
     let k = c.args.kept.now in
     let job = k.job in
+    let s = c.args.shuffles.now in
     let all = sym (zones_count job.n job.weights.now k.zones.now k.kept) ∙ c.if-zones-job.true in
-    rank_of_all job.n job.values.now job.weights.now all job.good c.args.shuffles.now.rows c.args.shuffles.now.shuffles.now (of_zones c.requires c.args.shuffles.now.good) _ c.zone_rank.ensures
+    rank_of_all job.n job.values.now job.weights.now all job.good s.rows s.shuffles.now (of_zones c.requires s.good) _ c.zone_rank.ensures
 
 pub keep_rows-requires-clause-places_len : goal.keep_rows-requires-clause-places_len
 keep_rows-requires-clause-places_len c =
@@ -42,15 +45,17 @@ keep_rows-requires-clause-n_value c = counted ((goal.at.keep_rows-requires-claus
 pub invariant_of-kept_rows : goal.invariant_of-kept_rows
 invariant_of-kept_rows c =
     let k = c.args.kept.now in
+    let s = c.args.shuffles.now in
     let g = c.gather-gathered.ensures in record {
       good = rw g.n
-          (gathered_shuffles k.job.n k.job.weights.now k.zones.now k.kept c.args.shuffles.now.rows c.args.shuffles.now.shuffles.now (of_zones c.requires c.args.shuffles.now.good) _ g.places _
+          (gathered_shuffles k.job.n k.job.weights.now k.zones.now k.kept s.rows s.shuffles.now (of_zones c.requires s.good) _ g.places _
           (rw (sym g.n, sym c.requires) c.keep_rows.ensures));
     }
 
 pub returns : goal.returns
 returns c =
     let k = c.args.kept.now in
+    let s = c.args.shuffles.now in
     let g = c.gather-gathered.ensures in
-    rank_kept k.job.n k.job.weights.now k.zones.now k.kept c.args.shuffles.now.rows c.args.shuffles.now.shuffles.now (of_zones c.requires c.args.shuffles.now.good) _ g.places c.keep_rows.new.out
+    rank_kept k.job.n k.job.weights.now k.zones.now k.kept s.rows s.shuffles.now (of_zones c.requires s.good) _ g.places c.keep_rows.new.out
     (rw (sym g.n, sym c.requires) c.keep_rows.ensures) k.job.values.now _ _ g.values g.weights _ (rw (sym g.n) c.zone_rank-2.ensures)
