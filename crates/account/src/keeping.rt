@@ -16,6 +16,19 @@ pub(super) struct KeptLists<'a> {
     ghost rising: { Zones zones.now job.n },
 }
 
+// What a list holds at so many numbers, one after another.
+pub(super) fn pick<T: Copy>(list: &[T], numbers: &[u8], out: &mut [T])
+    requires below { (k : ℕ) → k < length numbers.now → get_or numbers.now k 0 < length list.now }
+    requires out_len { length out.old ≡ length numbers.now }
+    ensures { (k : ℕ) → k < length numbers.now → slice_get out.new k ≡ slice_get list.now (get_or numbers.now k 0) }
+{
+    // by place: of a zip over iter_mut no proof knows what it wrote
+    for (k, number) in numbers.iter().enumerate() {
+        let number = usize::from(*number);
+        out[k] = list[number];
+    }
+}
+
 impl KeptLists<'_> {
     // What a list that has an entry for each zone holds of the zones kept.
     pub(super) fn gather<T: Copy>(&self, list: &[T], out: &mut [T])
@@ -24,12 +37,7 @@ impl KeptLists<'_> {
         ensures { (k : ℕ) → k < length self.now.zones.now → slice_get out.new k
             ≡ slice_get list.now (get_or self.now.zones.now k 0) }
     {
-        let zones = self.zones;
-        // by place: of a zip over iter_mut no proof knows what it wrote
-        for (k, entry) in out.iter_mut().enumerate() {
-            let zone = usize::from(zones[k]);
-            *entry = list[zone];
-        }
+        pick(list, self.zones, out);
     }
 
     // What a list that has a row for each zone holds of the pairs of the zones kept.
@@ -52,7 +60,8 @@ impl KeptLists<'_> {
         requires { length places.old ≡ self.now.job.n }
         ensures { places.new ≡ table (place_in self.now.zones.now) self.now.job.n }
     {
-        // from a usize, twice: TryFrom and an unwrap is no plainer, and a place is at most 64
+        // `get` finds nothing at their number: an Option for each zone would be matched only to make that same test.
+        // From a usize, twice: TryFrom and an unwrap is no plainer, and a place is at most 64
         places.fill(self.zones.len() as u8);
         for (k, zone) in self.zones.iter().enumerate() {
             places[usize::from(*zone)] = k as u8;
@@ -66,7 +75,7 @@ pub(super) fn put_back(places: &[u8], numbers: &[i64], out: &mut [i64])
     ensures { out.new
         ≡ table (at_place places.now (length numbers.now) (at numbers.now)) (length places.now) }
 {
-    // by place, as above
+    // by place: of a zip over iter_mut no proof knows what it wrote
     for (i, number) in out.iter_mut().enumerate() {
         let place = usize::from(places[i]);
         *number = numbers.get(place).copied().unwrap_or(0);
@@ -103,7 +112,8 @@ pub(super) fn keep_row(row: &ShuffleRow, places: &[u8], out: &mut [u8])
         ≡ table (placed_number places.now (length out.old) (length row.now.zones.now) (λ i. get_or row.now.zones.now i 0))
         (length out.old) }
 {
-    // counts the numbers that have a place, and not the turns
+    // counts the numbers that have a place, and not the turns: a chain of map, filter and enumerate has their number too, and is no
+    // plainer, as long as this loop and with two closures
     let mut k: usize = 0;
     for zone in row.zones {
         let place = places[usize::from(*zone)];

@@ -3,7 +3,6 @@
 ghost use Rattle.std.specs.Prelude.{◌≡◌, ◌*◌, length};
 ghost use Rattle.whole.specs.Table.{table};
 ghost use Rattle.kept.specs.Kept.{kept_count, kept_values, kept_pairs, kept_shuffles};
-ghost use Rattle.shuffles.specs.Steps.{Shuffles};
 ghost use Rattle.account.specs.Answers.{listed, job_figures, job_locals};
 ghost use Rattle.account.specs.Classes.{class_sums, class_locals_of};
 ghost use Rattle.account.specs.Rank.{zones_rank, three};
@@ -13,6 +12,24 @@ use crate::keeping::KeptLists;
 use crate::lists::{ClassLists, JobLists, ShuffleRows};
 use crate::{Counts, Sums, classes, keeping, ranking, working};
 
+// Room for what is gathered of any job.
+#[derive(Drop)]
+struct Room {
+    values: [i32; 64],
+    weights: [u8; 4096],
+    places: [u8; 64],
+}
+
+impl Room {
+    fn new() -> Room {
+        Room {
+            values: [0; 64],
+            weights: rooms::room(),
+            places: [0; 64],
+        }
+    }
+}
+
 // The job of the zones kept, and the place of each zone of the whole job among them.
 #[derive(Clone, Copy)]
 struct Gathered<'a> {
@@ -21,12 +38,7 @@ struct Gathered<'a> {
 }
 
 // Gathers the job of the zones kept into room that is lent.
-fn gather<'a>(
-    kept: &KeptLists,
-    value_space: &'a mut [i32; 64],
-    weight_space: &'a mut [u8; 4096],
-    place_space: &'a mut [u8; 64],
-) -> Gathered<'a>
+fn gather<'a>(kept: &KeptLists, room: &'a mut Room) -> Gathered<'a>
     ensures n { result.job.n ≡ length kept.now.zones.now }
     ensures values { result.job.values.now ≡ gathered kept.now.job.values.now kept.now.zones.now }
     ensures weights { result.job.weights.now
@@ -34,13 +46,18 @@ fn gather<'a>(
     ensures places { result.places.now ≡ table (place_in kept.now.zones.now) kept.now.job.n }
 {
     let KeptLists { job, zones } = *kept;
+    let Room {
+        values,
+        weights,
+        places,
+    } = room;
     let many = zones.len();
     let pairs = many * many;
-    let kept_values = &mut value_space[..many];
+    let kept_values = &mut values[..many];
     kept.gather(job.values, kept_values);
-    let kept_weights = &mut weight_space[..pairs];
+    let kept_weights = &mut weights[..pairs];
     kept.gather_pairs(job.weights, kept_weights);
-    let places = &mut place_space[..job.n];
+    let places = &mut places[..job.n];
     kept.find_places(places);
     Gathered {
         job: JobLists {
@@ -52,8 +69,8 @@ fn gather<'a>(
     }
 }
 
-// The sums of a job, with its local numerators in `locals`. That a lent list has room is a clause here, below and of what is called here:
-// its length is the caller's, as C lends it.
+// The sums of a job, with its local numerators in `locals`. That a list has room for each zone is a clause here, below and of what is
+// called here: n is the job's, and no type can say it of a list that C lends.
 pub(super) fn job_sums(kept: &KeptLists, locals: &mut [i64]) -> Sums
     requires { length locals.old ≡ kept.now.job.n }
     ensures result_value { listed result
@@ -65,10 +82,8 @@ pub(super) fn job_sums(kept: &KeptLists, locals: &mut [i64]) -> Sums
     if zones.len() == job.n {
         return working::zone_sums(&job, locals);
     }
-    let mut value_space: [i32; 64] = [0; 64];
-    let mut weight_space: [u8; 4096] = rooms::room();
-    let mut place_space: [u8; 64] = [0; 64];
-    let gathered = gather(kept, &mut value_space, &mut weight_space, &mut place_space);
+    let mut room = Room::new();
+    let gathered = gather(kept, &mut room);
     let mut local_space: [i64; 64] = [0; 64];
     let kept_locals = &mut local_space[..gathered.job.n];
     let sums = working::zone_sums(&gathered.job, kept_locals);
@@ -102,10 +117,8 @@ pub(super) fn work_classes<'a>(
         let lists = ClassLists { job, classes };
         return classes::zone_classes(&lists, rows, class_locals, locals);
     }
-    let mut value_space: [i32; 64] = [0; 64];
-    let mut weight_space: [u8; 4096] = rooms::room();
-    let mut place_space: [u8; 64] = [0; 64];
-    let gathered = gather(kept, &mut value_space, &mut weight_space, &mut place_space);
+    let mut room = Room::new();
+    let gathered = gather(kept, &mut room);
     let many = gathered.job.n;
     let pairs = many * many;
     let mut class_space: [u8; 4096] = rooms::room();
@@ -127,32 +140,26 @@ pub(super) fn work_classes<'a>(
 }
 
 // The rank of a job.
-pub(super) fn work_rank(kept: &KeptLists, shuffles: &[u8], rows: usize) -> Counts
-    requires { Shuffles shuffles.now kept.now.job.n rows }
+pub(super) fn work_rank(kept: &KeptLists, shuffles: &ShuffleRows) -> Counts
+    requires { shuffles.now.n ≡ kept.now.job.n }
     ensures { three result
-        ≡ zones_rank rows (kept_count kept.now.job.n kept.now.job.weights.now)
+        ≡ zones_rank shuffles.now.rows (kept_count kept.now.job.n kept.now.job.weights.now)
         (kept_values kept.now.job.n kept.now.job.weights.now kept.now.job.values.now)
         (kept_pairs kept.now.job.n kept.now.job.weights.now kept.now.job.weights.now)
-        (kept_shuffles kept.now.job.n kept.now.job.weights.now rows shuffles.now) }
+        (kept_shuffles kept.now.job.n kept.now.job.weights.now shuffles.now.rows shuffles.now.shuffles.now) }
 {
     let KeptLists { job, zones } = *kept;
-    let lent = ShuffleRows {
-        n: job.n,
-        shuffles,
-        rows,
-    };
     if zones.len() == job.n {
-        return ranking::zone_rank(&job, &lent);
+        return ranking::zone_rank(&job, shuffles);
     }
-    let mut value_space: [i32; 64] = [0; 64];
-    let mut weight_space: [u8; 4096] = rooms::room();
-    let mut place_space: [u8; 64] = [0; 64];
-    let gathered = gather(kept, &mut value_space, &mut weight_space, &mut place_space);
+    let mut room = Room::new();
+    let gathered = gather(kept, &mut room);
     let many = gathered.job.n;
+    let rows = shuffles.rows;
     let numbers = rows * many;
     let mut shuffle_space: [u8; 31936] = rooms::room();
     let kept_shuffles = &mut shuffle_space[..numbers];
-    keeping::keep_rows(&lent, gathered.places, many, kept_shuffles);
+    keeping::keep_rows(shuffles, gathered.places, many, kept_shuffles);
     let kept_rows = ShuffleRows {
         n: many,
         shuffles: kept_shuffles,

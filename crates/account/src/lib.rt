@@ -25,6 +25,7 @@ ghost use Rattle.account.specs.Rank.{rank_refusal, rank_counts, counts_of};
 
 // What the reader and the writer of the job image judge by too.
 pub use judging::judge;
+use lists::ShuffleRows;
 use refusals::Refusal;
 
 // The whole numbers of a job.
@@ -127,5 +128,6 @@ pub fn rank(n: usize, values: &[i32], weights: &[u8], shuffles: &[u8]) -> Result
     let mut zones: [u8; 64] = [0; 64];
     let kept = judging::judge_rank(n, values, weights, shuffles, &mut zones)?;
     let rows = shuffles.len() / n;
-    Ok(kept_zones::work_rank(&kept, shuffles, rows))
+    let lent = ShuffleRows { n, shuffles, rows };
+    Ok(kept_zones::work_rank(&kept, &lent))
 }

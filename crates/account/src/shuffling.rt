@@ -2,6 +2,7 @@
 ghost use Rattle.std.specs.Prelude.{◌≡◌, length, get_or};
 ghost use Rattle.whole.specs.Table.{table, at};
 
+use crate::keeping;
 use crate::lists::ShuffleRow;
 
 // The deviations in a shuffle: zone i takes that of the zone named at place i.
@@ -10,9 +11,5 @@ pub(super) fn shuffle_deviations(d: &[i64], row: &ShuffleRow, moved: &mut [i64])
     requires moved_len { length moved.old ≡ length row.now.zones.now }
     ensures { moved.new ≡ table (λ i. at d.now (get_or row.now.zones.now i 0)) (length row.now.zones.now) }
 {
-    // by place: of a zip over iter_mut no proof knows what it wrote
-    for (i, zone) in row.zones.iter().enumerate() {
-        let zone = usize::from(*zone);
-        moved[i] = d[zone];
-    }
+    keeping::pick(d, row.zones, moved);
 }

@@ -30,10 +30,13 @@ returns-in_err-kept c =
 pub nonzero_div-rows : goal.nonzero_div-rows
 nonzero_div-rows c = omega (arith, (good c).two)
 
+pub invariant_of-lent : goal.invariant_of-lent
+invariant_of-lent c =
+    let o = (goal.at.invariant_of-lent c).In_ok-kept in
+    record { good = subst (Shuffles c.args.shuffles.now c.args.n) (counted o) (good o).rows }
+
 pub work_rank-requires : goal.work_rank-requires
-work_rank-requires c =
-    let o = (goal.at.work_rank-requires c).In_ok-kept in
-    rw c.in_ok-kept.ensures.job.zones (subst (Shuffles c.args.shuffles.now c.args.n) (counted o) (good o).rows)
+work_rank-requires c = sym c.in_ok-kept.ensures.job.zones
 
 -- the counts of so many rows are those of the job, where they are its shuffles
 as_job :

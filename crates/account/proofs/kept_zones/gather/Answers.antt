@@ -13,7 +13,7 @@ use Rattle.account.proofs.kept_zones.gather.Goals.{After-gather}
 values_are : (c : After-gather) → c.gather.new.out ≡ gathered c.args.kept.now.job.values.now c.args.kept.now.zones.now
 values_are c =
     let k = c.args.kept.now in
-    let long = c.gather.auto.out ∙ length-take-le _ c.args.value_space.now (omega (arith, k.rising.few, k.job.good.valued.zones, c.told-value_space)) in
+    let long = c.gather.auto.out ∙ length-take-le _ c.args.room.now.values (omega (arith, k.rising.few, k.job.good.valued.zones, c.told-room)) in
     gathered_by (pos 0) k.job.values.now c.gather.new.out k.zones.now long c.gather.ensures
 
 pub invariant_of-result : goal.invariant_of-result

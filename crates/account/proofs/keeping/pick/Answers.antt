@@ -1,4 +1,4 @@
--- `gather` meets its contract. The loop's invariant: what is held of the zones passed is written. Assumes nothing.
+-- `pick` meets its contract. The loop's invariant: what is held at the numbers passed is written. Assumes nothing.
 use mathlib.Core.Path.{◌≡◌, refl, sym, ap, ◌∙◌}
 use mathlib.Core.List.{List}
 use Rattle.std.proofs.Common.{Some}
@@ -9,7 +9,7 @@ use lib.ListN.{length, get_or, set, length-set}
 use lib.Seq.{get_or-set_same, get_or-set_other}
 use Rattle.std.specs.List.{slice_get}
 use Rattle.std.proofs.lemmas.Option.{slice_get-get_or, slice_get_read}
-use Rattle.account.proofs.keeping.KeptLists.gather.Goals as goal
+use Rattle.account.proofs.keeping.pick.Goals as goal
 
 -- one place more is written, with what stands at another list's place
 one_more :
@@ -32,9 +32,9 @@ one_more list out zone k x room read so q h = pick (ℕ_discrete q k)
 
 pub loop-k-preserved : goal.loop-k-preserved
 loop-k-preserved g c =
-    let kept = c.args.self.now in
+    let numbers = c.args.numbers.now in
     let k = c.loop-k.k in
     let list = c.args.list.now in
-    let below = kept.rising.below k (omega arith) in
-    let read = slice_get_read list (length list) c.from-zone.result c.index-list-zone.result refl (omega arith) c.index-list-zone.is in
-    one_more list c.loop-k.out (λ q. get_or kept.zones.now q 0) k _ (omega arith) (rw (sym c.from-zone.ensures) read) c.loop-k.invariant
+    let below = c.requires.below k (omega arith) in
+    let read = slice_get_read list (length list) c.from-number.result c.index-list-number.result refl (omega arith) c.index-list-number.is in
+    one_more list c.loop-k.out (λ q. get_or numbers q 0) k _ (omega arith) (rw (sym c.from-number.ensures) read) c.loop-k.invariant
