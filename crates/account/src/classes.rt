@@ -8,8 +8,8 @@ ghost use Rattle.account.specs.Steps.{Sized, zones_locals, zones_class_sums, zon
 use crate::lists::{ClassDeviations, ClassLists, JobLists, Summed, ZoneValues};
 use crate::{Sums, deviations, differences};
 
-// Adds to W, P and G of class k. A local numerator is the largest number that is added, and 64 of them fit. The sums are found by place, as
-// the caller lends them: in rows of three every clause here would be on a list of lists.
+// Adds to W, P and G of class k. A local numerator is the largest number that is added, and 64 of them fit. One function adds to the lent
+// rows and to a zone's parts, and finds the sums by place: in rows of three every clause here would be on a list of lists.
 pub(super) fn add_row(rows: &mut [i64], k: usize, weight: i64, cross: i64, squares: i64)
     requires sized { Sized 6039797760000000000 rows.old 27 }
     requires k_bound { k < 9 }
@@ -120,7 +120,7 @@ pub(super) fn nine_together(rows: &[i64], place: usize) -> i64
     acc
 }
 
-// The class account of n zones, and the sums of them all, of which the classes give three.
+// The class account of n zones, and the sums of them all: the rows give their W and G, the job's own numerators their P.
 pub(super) fn zone_classes(
     lists: &ClassLists,
     rows: &mut [i64],

@@ -34,8 +34,8 @@ pub(super) fn deviations(summed: &Summed, d: &mut [i64])
     }
 }
 
-// The weighted neighbours of zone i: the sum over j of w(i,j) d(j). A zone is below n by a clause, here and where a walk over the zones
-// calls: a type for that would belong to one job.
+// The weighted neighbours of zone i: the sum over j of w(i,j) d(j). That i is below n is a clause here, and where a walk over the zones
+// calls: a type for it is no plainer, as each function would still have to say that its n is this one.
 pub(super) fn neighbour_sum(weighed: &Weighed, i: usize) -> i64
     requires { i < weighed.now.n }
     ensures { result ≡ row_of (pair_at weighed.now.weights.now weighed.now.n) (λ i j. at weighed.now.d.now j) i weighed.now.n }
@@ -43,7 +43,7 @@ pub(super) fn neighbour_sum(weighed: &Weighed, i: usize) -> i64
     let d = weighed.d;
     let row = lists::row(weighed.weights, weighed.n, i);
     let mut acc: i64 = 0;
-    // by j, as measured: a zip of the two takes a tenth longer where there are few zones
+    // by j: a zip is no plainer, as it ends at the shorter and both must be known to have n; measured, few zones took a tenth longer
     for (j, weight) in row.iter().enumerate() {
         acc += i64::from(*weight) * d[j];
     }

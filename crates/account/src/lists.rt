@@ -1,5 +1,5 @@
-// What was judged, with the facts that the judges found: the work takes these, and no loose lists. Each has n beside its lists, by
-// which every clause says what is worked: by the length of one of them each would be longer.
+// Lists that go together, with the facts that were found of them, by the judges or where they were worked. Where n stands beside its
+// lists, every clause says by it what is worked: by the length of one of them each would be longer.
 ghost use Rattle.std.specs.Prelude.{◌≡◌, false, ◌*◌, ◌+◌, ◌≤◌, ◌<◌, length, get_or, take, drop};
 ghost use Rattle.whole.specs.Order.{lacks};
 ghost use Rattle.whole.specs.Table.{table, at};

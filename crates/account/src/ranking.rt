@@ -50,7 +50,7 @@ pub(super) fn tally(weighed: &Weighed, shuffles: &ShuffleRows) -> Counts
     let mut less: usize = 0;
     let mut equal: usize = 0;
     let mut greater: usize = 0;
-    // by r: chunks_exact wants an n above 0, which no clause here has
+    // by r: chunks_exact is no plainer, as it wants an n above 0, which each caller would have to show for a loop that is no shorter
     for r in 0..shuffles.rows {
         let row = shuffles.shuffle(r);
         let cross = shuffle_cross(weighed, &row);
