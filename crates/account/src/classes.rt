@@ -5,7 +5,7 @@ ghost use Rattle.whole.specs.Table.{table_rows, at};
 ghost use Rattle.account.specs.Answers.{listed, zones_figures};
 ghost use Rattle.account.specs.Steps.{Sized, zones_locals, zones_class_sums, zones_class_locals, row_added, zone_part, Zoned, Owned};
 
-use crate::lists::{ClassDeviations, ClassLists, JobLists, Summed, ZoneValues};
+use crate::lists::{ClassDeviations, ClassLists, JobLists};
 use crate::{Sums, deviations, differences};
 
 // Adds to W, P and G of class k. A local numerator is the largest number that is added, and 64 of them fit. One function adds to the lent
@@ -137,10 +137,8 @@ pub(super) fn zone_classes(
         ≡ zones_class_locals lists.now.job.n lists.now.job.values.now lists.now.job.weights.now lists.now.classes.now }
     ensures locals_after { locals.new ≡ zones_locals lists.now.job.n lists.now.job.values.now lists.now.job.weights.now }
 {
-    let JobLists { n, values, .. } = lists.job;
-    let list = ZoneValues { n, values };
-    let total = deviations::total(&list);
-    let summed = Summed { list, total };
+    let n = lists.job.n;
+    let summed = lists.job.summed();
     let spread = differences::spread(&summed);
     let mut d: [i64; 64] = [0; 64];
     deviations::deviations(&summed, &mut d[..n]);
@@ -150,10 +148,10 @@ pub(super) fn zone_classes(
     };
     add_zones(&work, rows, class_locals, locals);
     let weight = nine_together(rows, 0);
-    let cross = deviations::sum_of(n, locals);
+    let cross = deviations::sum_of(locals);
     let squares = nine_together(rows, 2);
     Sums {
-        total,
+        total: summed.total,
         spread,
         weight,
         cross,

@@ -64,11 +64,11 @@ pub(super) fn local_numerators(weighed: &Weighed, locals: &mut [i64])
     }
 }
 
-// The sum of n local numerators.
-pub(super) fn sum_of(n: usize, locals: &[i64]) -> i64
-    requires n_bound { n ≤ 64 }
-    requires sized { Sized 94371840000000000 locals.now n }
-    ensures { result ≡ sum (at locals.now) n }
+// The sum of local numerators. S has a loop of its own: its values have 32 bits each, and another bound.
+pub(super) fn sum_of(locals: &[i64]) -> i64
+    requires few { length locals.now ≤ 64 }
+    requires sized { Sized 94371840000000000 locals.now (length locals.now) }
+    ensures { result ≡ sum (at locals.now) (length locals.now) }
 {
     let mut acc: i64 = 0;
     for local in locals {

@@ -7,6 +7,8 @@ ghost use Rattle.shuffles.specs.Steps.{Shuffles};
 ghost use Rattle.account.specs.Measures.{total_of, deviation_of};
 ghost use Rattle.account.specs.Steps.{Sized, Valued, Weighted, Job, ClassJob};
 
+use crate::deviations;
+
 // The values of n zones.
 #[derive(Clone, Copy)]
 pub(super) struct ZoneValues<'a> {
@@ -30,6 +32,21 @@ pub(super) struct JobLists<'a, 'b> {
     pub(super) values: &'a [i32],
     pub(super) weights: &'b [u8],
     ghost good: { Job values.now weights.now n },
+}
+
+impl JobLists<'_, '_> {
+    // Its values with their S.
+    pub(super) fn summed(&self) -> Summed<'_>
+        ensures n_value { result.list.n ≡ self.now.n }
+        ensures values_value { result.list.values.now ≡ self.now.values.now }
+    {
+        let list = ZoneValues {
+            n: self.n,
+            values: self.values,
+        };
+        let total = deviations::total(&list);
+        Summed { list, total }
+    }
 }
 
 // A job with the classes of its pairs.

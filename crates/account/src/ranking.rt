@@ -5,7 +5,7 @@ ghost use Rattle.account.specs.Measures.{cross_of};
 ghost use Rattle.account.specs.Rank.{shuffled, compared, zones_rank, three};
 ghost use Rattle.account.specs.Steps.{cross_held, cross_moved};
 
-use crate::lists::{JobLists, ShuffleRow, ShuffleRows, Summed, Weighed, ZoneValues};
+use crate::lists::{JobLists, ShuffleRow, ShuffleRows, Weighed};
 use crate::{Counts, deviations, shuffling};
 use std::cmp::Ordering;
 
@@ -73,11 +73,10 @@ pub(super) fn zone_rank(job: &JobLists, shuffles: &ShuffleRows) -> Counts
     ensures { three result
         ≡ zones_rank shuffles.now.rows job.now.n job.now.values.now job.now.weights.now shuffles.now.shuffles.now }
 {
-    let JobLists { n, values, weights } = *job;
-    let list = ZoneValues { n, values };
-    let total = deviations::total(&list);
+    let JobLists { n, weights, .. } = *job;
+    let summed = job.summed();
     let mut d: [i64; 64] = [0; 64];
-    deviations::deviations(&Summed { list, total }, &mut d[..n]);
+    deviations::deviations(&summed, &mut d[..n]);
     let weighed = Weighed {
         n,
         weights,

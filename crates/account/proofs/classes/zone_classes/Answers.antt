@@ -1,5 +1,5 @@
 -- `zone_classes` meets its contract: the rows and the local numerators first, then the sums of the whole job from them. Assumes nothing.
-use mathlib.Core.Path.{◌≡◌, ◌∙◌}
+use mathlib.Core.Path.{◌≡◌, ap, ◌∙◌}
 use mathlib.Core.List.{List}
 use Prim.Native.Nat.{ℕ, ◌+◌, ◌*◌, ◌≤◌, ◌<◌}
 use native.Mathlib.Omega.{arith}
@@ -9,15 +9,15 @@ use Rattle.whole.specs.Sum.{sum}
 use Rattle.whole.specs.Table.{at, pair_at}
 use Rattle.whole.proofs.Machine.{rd}
 use Rattle.whole.proofs.Sum.{sum_cong}
-use Rattle.account.specs.Measures.{weight_of, squares_of}
+use Rattle.account.specs.Measures.{total_of, spread_of, weight_of, squares_of}
 use Rattle.account.specs.Classes.{zones_class_row, sum_at}
 use Rattle.account.specs.Steps.{zones_class_sums, ClassJob}
 use Rattle.account.proofs.ByClass.{sums_at}
-use Rattle.account.proofs.Locals.{locals_sized, locals_cross, total_held, spread_told, weight_told, cross_told, squares_told, same_figures}
+use Rattle.account.proofs.Locals.{summed_alike, locals_sized, locals_cross, total_held, spread_told, weight_told, cross_told, squares_told, same_figures}
 use Rattle.account.proofs.NineClasses.{weights_together, squares_together}
 use Rattle.account.proofs.ZoneByZone.{class_weight_size, class_squares_size}
 use Rattle.account.proofs.classes.zone_classes.Goals as goal
-use Rattle.account.proofs.classes.zone_classes.Goals.{After-add_zones, After-spread-spread, After-total-total, Start}
+use Rattle.account.proofs.classes.zone_classes.Goals.{After-add_zones, After-spread-spread, Start}
 
 -- the rows that the zones gave, and their W and G together
 module _ (n : ℕ) (values : List ℤ) (weights classes : List ℕ) (g : ClassJob values weights classes n)
@@ -46,9 +46,6 @@ module _ (c : After-add_zones) where
   abbrev start : Start
   start = ((goal.at.After-spread-spread summing).Start)
 
-pub invariant_of-summed : goal.invariant_of-summed
-invariant_of-summed c = record { summed = total_held _ _ c.args.lists.now.good.job.valued c.total-total.ensures }
-
 pub nine_together-weight-requires : goal.nine_together-weight-requires
 nine_together-weight-requires c =
     let after_add_zones = (goal.at.nine_together-weight-requires c).After-add_zones in
@@ -62,9 +59,10 @@ nine_together-weight-requires c =
 
 pub sum_of-cross-requires : goal.sum_of-cross-requires
 sum_of-cross-requires c =
-    let g = (start ((goal.at.sum_of-cross-requires c).After-add_zones)).args.lists.now.good.job in record {
-      n_bound = g.valued.zones;
-      sized = locals_sized _ _ _ g _ c.add_zones.ensures.locals_after;
+    let g = (start ((goal.at.sum_of-cross-requires c).After-add_zones)).args.lists.now.good.job in
+    let s = locals_sized _ _ _ g _ c.add_zones.ensures.locals_after in record {
+      few = omega (arith, s.count, g.valued.zones);
+      sized = rw s.count s;
     }
 
 pub nine_together-squares-requires : goal.nine_together-squares-requires
@@ -87,13 +85,17 @@ returns c =
     let g = s.args.lists.now.good in
     let r = g.job in
     let held = c.add_zones.ensures in
+    let summed = m.summed-summed.ensures in
+    let total = m.summed-summed.result.summed ∙ summed_alike (λ x m. total_of (at x) m) summed.n_value summed.values_value in
+    let spread = m.spread-spread.ensures ∙ summed_alike (λ x m. spread_of (at x) m) summed.n_value summed.values_value in
+    let all = ap (sum (at c.add_zones.new.locals)) (locals_sized _ _ _ r _ held.locals_after).count in
     let weight = c.nine_together-weight.ensures ∙ weight_together a.lists.now.job.n a.lists.now.job.values.now a.lists.now.job.weights.now a.lists.now.classes.now g _ held.rows_after in
     let squares = c.nine_together-squares.ensures ∙ square_together a.lists.now.job.n a.lists.now.job.values.now a.lists.now.job.weights.now a.lists.now.classes.now g _ held.rows_after in record {
       result_value = same_figures a.lists.now.job.n a.lists.now.job.values.now a.lists.now.job.weights.now _ _ _ _ _
-          (total_held _ _ r.valued m.total-total.ensures)
-          (rd w64 (spread_told _ _ r.valued m.spread-spread.ensures) tt).same
+          (total_held _ _ r.valued total)
+          (rd w64 (spread_told _ _ r.valued spread) tt).same
           (rd w64 (weight_told _ _ r.weighted weight) tt).same
-          (rd w64 (cross_told _ _ _ r (c.sum_of-cross.ensures ∙ locals_cross _ _ _ r _ held.locals_after)) tt).same
+          (rd w64 (cross_told _ _ _ r (c.sum_of-cross.ensures ∙ all ∙ locals_cross _ _ _ r _ held.locals_after)) tt).same
           (rd w64 (squares_told _ _ _ r squares) tt).same;
       rows_after = held.rows_after;
       class_locals_after = held.class_locals_after;
