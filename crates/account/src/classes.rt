@@ -1,12 +1,13 @@
 // The class account's work on zones all of which count: one pass over their pairs, each added to the sums of its own class.
 ghost use Rattle.std.specs.Prelude.{◌≡◌, ℕ, ◌*◌, ◌+◌, ◌≤◌, ◌<◌, pos, nat_abs, length};
 ghost use Rattle.whole.specs.Sum.{sum};
-ghost use Rattle.whole.specs.Table.{table_rows, at};
+ghost use Rattle.whole.specs.Table.{table_rows};
 ghost use Rattle.account.specs.Answers.{listed, zones_figures};
+ghost use Rattle.account.specs.Classes.{row_at};
 ghost use Rattle.account.specs.Steps.{Sized, zones_locals, zones_class_sums, zones_class_locals, row_added, zone_part, Zoned, Owned};
 
 use crate::lists::{ClassDeviations, ClassLists, JobLists};
-use crate::{Sums, deviations, differences};
+use crate::{ClassRow, Sums, deviations, differences};
 
 // Adds to W, P and G of class k. A local numerator is the largest number that is added, and 64 of them fit. One function adds to the lent
 // rows and to a zone's parts, and finds the sums by place: in rows of three every clause here would be on a list of lists.
@@ -53,7 +54,7 @@ pub(super) fn add_pairs(work: &ClassDeviations, i: usize, parts: &mut [i64])
 pub(super) fn add_zone(
     work: &ClassDeviations,
     i: usize,
-    rows: &mut [i64],
+    rows: &mut [i64; 27],
     class_locals: &mut [i64],
     locals: &mut [i64],
 )
@@ -85,11 +86,10 @@ pub(super) fn add_zone(
 // The rows and the local numerators, zone by zone.
 pub(super) fn add_zones(
     work: &ClassDeviations,
-    rows: &mut [i64],
+    rows: &mut [i64; 27],
     class_locals: &mut [i64],
     locals: &mut [i64],
 )
-    requires rows_len { length rows.old ≡ 27 }
     requires class_locals_len { length class_locals.old ≡ 9 * work.now.lists.job.n }
     requires locals_len { length locals.old ≡ work.now.lists.job.n }
     ensures rows_after { rows.new
@@ -105,29 +105,30 @@ pub(super) fn add_zones(
     }
 }
 
-// W of the nine classes together, at place 0, or their G, at place 2.
-pub(super) fn nine_together(rows: &[i64], place: usize) -> i64
-    requires place_bound { place < 3 }
-    requires rows_len { length rows.now ≡ 27 }
-    requires by_index { (k : ℕ) → k < 9 → nat_abs (at rows.now (k * 3 + place)) ≤ 94371840000000000 }
-    ensures { result ≡ sum (λ k. at rows.now (k * 3 + place)) 9 }
+// W and G of the nine classes together.
+pub(super) fn nine_together(rows: &[i64; 27]) -> (i64, i64)
+    requires weights { (k : ℕ) → k < 9 → nat_abs ((row_at rows.now k).weight) ≤ 94371840000000000 }
+    requires squares { (k : ℕ) → k < 9 → nat_abs ((row_at rows.now k).squares) ≤ 94371840000000000 }
+    ensures weight { result.0 ≡ sum (λ k. (row_at rows.now k).weight) 9 }
+    ensures square { result.1 ≡ sum (λ k. (row_at rows.now k).squares) 9 }
 {
     // by a loop: for a signed sum at the end of a chain the check finds no bound
-    let mut acc: i64 = 0;
-    for k in 0..9 {
-        acc += rows[k * 3 + place];
+    let mut weight: i64 = 0;
+    let mut squares: i64 = 0;
+    for row in &ClassRow::all(rows) {
+        weight += row.weight;
+        squares += row.squares;
     }
-    acc
+    (weight, squares)
 }
 
 // The class account of n zones, and the sums of them all: the rows give their W and G, the job's own numerators their P.
 pub(super) fn zone_classes(
     lists: &ClassLists,
-    rows: &mut [i64],
+    rows: &mut [i64; 27],
     class_locals: &mut [i64],
     locals: &mut [i64],
 ) -> Sums
-    requires rows_len { length rows.old ≡ 27 }
     requires class_locals_len { length class_locals.old ≡ 9 * lists.now.job.n }
     requires locals_len { length locals.old ≡ lists.now.job.n }
     ensures result_value { listed result ≡ zones_figures lists.now.job.n lists.now.job.values.now lists.now.job.weights.now }
@@ -147,9 +148,8 @@ pub(super) fn zone_classes(
         d: &d[..n],
     };
     add_zones(&work, rows, class_locals, locals);
-    let weight = nine_together(rows, 0);
+    let (weight, squares) = nine_together(rows);
     let cross = deviations::sum_of(locals);
-    let squares = nine_together(rows, 2);
     Sums {
         total: summed.total,
         spread,

@@ -10,7 +10,7 @@ use Rattle.whole.specs.Table.{at, pair_at}
 use Rattle.whole.proofs.Machine.{rd}
 use Rattle.whole.proofs.Sum.{sum_cong}
 use Rattle.account.specs.Measures.{total_of, spread_of, weight_of, squares_of}
-use Rattle.account.specs.Classes.{zones_class_row, sum_at}
+use Rattle.account.specs.Classes.{zones_class_row, sum_at, row_at}
 use Rattle.account.specs.Steps.{zones_class_sums, ClassJob}
 use Rattle.account.proofs.ByClass.{sums_at}
 use Rattle.account.proofs.Locals.{summed_alike, locals_sized, locals_cross, total_held, spread_told, weight_told, cross_told, squares_told, same_figures}
@@ -22,21 +22,27 @@ use Rattle.account.proofs.classes.zone_classes.Goals.{After-add_zones, After-spr
 -- the rows that the zones gave, and their W and G together
 module _ (n : ℕ) (values : List ℤ) (weights classes : List ℕ) (g : ClassJob values weights classes n)
     (rows : List ℤ) (e : rows ≡ zones_class_sums n values weights classes) where
-  row_is : (k s : ℕ) → k < 9 → s < 3 → at rows (k * 3 + s) ≡ sum_at (zones_class_row n values weights classes k) s
+  sum_is : (k s : ℕ) → k < 9 → s < 3 → at rows (k * 3 + s) ≡ sum_at (zones_class_row n values weights classes k) s
   unfolding zones_class_sums
-  row_is = sums_at _ rows e
+  sum_is = sums_at _ rows e
 
-  weight_small : (k : ℕ) → k < 9 → nat_abs (at rows (k * 3 + 0)) ≤ 94371840000000000
-  weight_small k h = rw (row_is k 0 h (omega arith)) (class_weight_size n values weights classes g k)
+  weight_is : (k : ℕ) → k < 9 → (row_at rows k).weight ≡ (zones_class_row n values weights classes k).weight
+  weight_is k h = let place : k * 3 ≡ k * 3 + 0 = omega arith in ap (at rows) place ∙ sum_is k 0 h (omega arith)
 
-  squares_small : (k : ℕ) → k < 9 → nat_abs (at rows (k * 3 + 2)) ≤ 94371840000000000
-  squares_small k h = rw (row_is k 2 h (omega arith)) (class_squares_size n values weights classes g k)
+  squares_are : (k : ℕ) → k < 9 → (row_at rows k).squares ≡ (zones_class_row n values weights classes k).squares
+  squares_are k h = sum_is k 2 h (omega arith)
 
-  weight_together : sum (λ k. at rows (k * 3 + 0)) 9 ≡ weight_of (pair_at weights n) n
-  weight_together = sum_cong _ _ 9 (λ k h. row_is k 0 h (omega arith)) ∙ weights_together n values weights classes g.low
+  weight_small : (k : ℕ) → k < 9 → nat_abs ((row_at rows k).weight) ≤ 94371840000000000
+  weight_small k h = rw (weight_is k h) (class_weight_size n values weights classes g k)
 
-  square_together : sum (λ k. at rows (k * 3 + 2)) 9 ≡ squares_of (pair_at weights n) (at values) n
-  square_together = sum_cong _ _ 9 (λ k h. row_is k 2 h (omega arith)) ∙ squares_together n values weights classes g.low
+  squares_small : (k : ℕ) → k < 9 → nat_abs ((row_at rows k).squares) ≤ 94371840000000000
+  squares_small k h = rw (squares_are k h) (class_squares_size n values weights classes g k)
+
+  weight_together : sum (λ k. (row_at rows k).weight) 9 ≡ weight_of (pair_at weights n) n
+  weight_together = sum_cong _ _ 9 weight_is ∙ weights_together n values weights classes g.low
+
+  square_together : sum (λ k. (row_at rows k).squares) 9 ≡ squares_of (pair_at weights n) (at values) n
+  square_together = sum_cong _ _ 9 squares_are ∙ squares_together n values weights classes g.low
 
 -- the call that is answered with the rows and the local numerators
 module _ (c : After-add_zones) where
@@ -52,9 +58,8 @@ nine_together-weight-requires c =
     let a = (start after_add_zones).args in
     let rows = c.add_zones.ensures.rows_after in
     let g = (start after_add_zones).args.lists.now.good in record {
-      place_bound = omega arith;
-      rows_len = c.add_zones.auto.rows ∙ (start after_add_zones).requires.rows_len;
-      by_index = weight_small a.lists.now.job.n a.lists.now.job.values.now a.lists.now.job.weights.now a.lists.now.classes.now g _ rows;
+      weights = weight_small a.lists.now.job.n a.lists.now.job.values.now a.lists.now.job.weights.now a.lists.now.classes.now g _ rows;
+      squares = squares_small a.lists.now.job.n a.lists.now.job.values.now a.lists.now.job.weights.now a.lists.now.classes.now g _ rows;
     }
 
 pub sum_of-cross-requires : goal.sum_of-cross-requires
@@ -63,17 +68,6 @@ sum_of-cross-requires c =
     let s = locals_sized _ _ _ g _ c.add_zones.ensures.locals_after in record {
       few = omega (arith, s.count, g.valued.zones);
       sized = rw s.count s;
-    }
-
-pub nine_together-squares-requires : goal.nine_together-squares-requires
-nine_together-squares-requires c =
-    let after_add_zones = (goal.at.nine_together-squares-requires c).After-add_zones in
-    let a = (start after_add_zones).args in
-    let rows = c.add_zones.ensures.rows_after in
-    let g = (start after_add_zones).args.lists.now.good in record {
-      place_bound = omega arith;
-      rows_len = c.add_zones.auto.rows ∙ (start after_add_zones).requires.rows_len;
-      by_index = squares_small a.lists.now.job.n a.lists.now.job.values.now a.lists.now.job.weights.now a.lists.now.classes.now g _ rows;
     }
 
 pub returns : goal.returns
@@ -89,8 +83,8 @@ returns c =
     let total = m.summed-summed.result.summed ∙ summed_alike (λ x m. total_of (at x) m) summed.n_value summed.values_value in
     let spread = m.spread-spread.ensures ∙ summed_alike (λ x m. spread_of (at x) m) summed.n_value summed.values_value in
     let all = ap (sum (at c.add_zones.new.locals)) (locals_sized _ _ _ r _ held.locals_after).count in
-    let weight = c.nine_together-weight.ensures ∙ weight_together a.lists.now.job.n a.lists.now.job.values.now a.lists.now.job.weights.now a.lists.now.classes.now g _ held.rows_after in
-    let squares = c.nine_together-squares.ensures ∙ square_together a.lists.now.job.n a.lists.now.job.values.now a.lists.now.job.weights.now a.lists.now.classes.now g _ held.rows_after in record {
+    let weight = c.nine_together-weight.ensures.weight ∙ weight_together a.lists.now.job.n a.lists.now.job.values.now a.lists.now.job.weights.now a.lists.now.classes.now g _ held.rows_after in
+    let squares = c.nine_together-weight.ensures.square ∙ square_together a.lists.now.job.n a.lists.now.job.values.now a.lists.now.job.weights.now a.lists.now.classes.now g _ held.rows_after in record {
       result_value = same_figures a.lists.now.job.n a.lists.now.job.values.now a.lists.now.job.weights.now _ _ _ _ _
           (total_held _ _ r.valued total)
           (rd w64 (spread_told _ _ r.valued spread) tt).same
