@@ -4,19 +4,20 @@ ghost use Rattle.whole.specs.Sum.{sum};
 ghost use Rattle.whole.specs.Table.{table_rows};
 ghost use Rattle.account.specs.Answers.{listed, zones_figures};
 ghost use Rattle.account.specs.Classes.{row_at};
-ghost use Rattle.account.specs.Steps.{Sized, zones_locals, zones_class_sums, zones_class_locals, row_added, zone_part, Zoned, Owned};
+ghost use Rattle.account.specs.Steps.{most_local, Sized, zones_locals, zones_class_sums, zones_class_locals, row_added, zone_part, Zoned, Owned};
 
 use crate::lists::{ClassDeviations, ClassLists, JobLists};
 use crate::{ClassRow, Sums, deviations, differences};
 
 // Adds to W, P and G of class k. A local numerator is the largest number that is added, and 64 of them fit. One function adds to the lent
 // rows and to a zone's parts, and finds the sums by place: in rows of three every clause here would be on a list of lists.
+// A ClassRow for the three is no plainer: both callers would put it together only for it to be taken apart here.
 pub(super) fn add_row(rows: &mut [i64], k: usize, weight: i64, cross: i64, squares: i64)
     requires sized { Sized 6039797760000000000 rows.old 27 }
     requires k_bound { k < 9 }
-    requires weight_bound { nat_abs weight ≤ 94371840000000000 }
-    requires cross_bound { nat_abs cross ≤ 94371840000000000 }
-    requires squares_bound { nat_abs squares ≤ 94371840000000000 }
+    requires weight_bound { nat_abs weight ≤ most_local }
+    requires cross_bound { nat_abs cross ≤ most_local }
+    requires squares_bound { nat_abs squares ≤ most_local }
     ensures { rows.new ≡ row_added rows.old k weight cross squares }
 {
     // by places: of what as_chunks_mut has lent a proof knows nothing afterwards
@@ -107,8 +108,8 @@ pub(super) fn add_zones(
 
 // W and G of the nine classes together.
 pub(super) fn nine_together(rows: &[i64; 27]) -> (i64, i64)
-    requires weights { (k : ℕ) → k < 9 → nat_abs ((row_at rows.now k).weight) ≤ 94371840000000000 }
-    requires squares { (k : ℕ) → k < 9 → nat_abs ((row_at rows.now k).squares) ≤ 94371840000000000 }
+    requires weights { (k : ℕ) → k < 9 → nat_abs ((row_at rows.now k).weight) ≤ most_local }
+    requires squares { (k : ℕ) → k < 9 → nat_abs ((row_at rows.now k).squares) ≤ most_local }
     ensures weight { result.0 ≡ sum (λ k. (row_at rows.now k).weight) 9 }
     ensures square { result.1 ≡ sum (λ k. (row_at rows.now k).squares) 9 }
 {

@@ -3,7 +3,7 @@ ghost use Rattle.std.specs.Prelude.{◌≡◌, ◌≤◌, ◌<◌, length};
 ghost use Rattle.whole.specs.Sum.{sum};
 ghost use Rattle.whole.specs.Table.{table, at, pair_at};
 ghost use Rattle.account.specs.Measures.{total_of, deviation_of, row_of, local_of};
-ghost use Rattle.account.specs.Steps.{Sized};
+ghost use Rattle.account.specs.Steps.{most_local, Sized};
 
 use crate::lists::{self, Summed, Weighed, ZoneValues};
 
@@ -67,7 +67,7 @@ pub(super) fn local_numerators(weighed: &Weighed, locals: &mut [i64])
 // The sum of local numerators. S has a loop of its own: its values have 32 bits each, and another bound.
 pub(super) fn sum_of(locals: &[i64]) -> i64
     requires few { length locals.now ≤ 64 }
-    requires sized { Sized 94371840000000000 locals.now (length locals.now) }
+    requires sized { Sized most_local locals.now (length locals.now) }
     ensures { result ≡ sum (at locals.now) (length locals.now) }
 {
     let mut acc: i64 = 0;

@@ -1,7 +1,7 @@
 -- `nine_together` meets its contract. The loop's invariant: what is added up is the sum of the classes passed. Assumes nothing.
 use mathlib.Core.Path.{◌≡◌, ap}
 use mathlib.Core.List.{List}
-use Prim.Native.Nat.{ℕ, ◌+◌, ◌*◌, ◌≤◌, ◌<◌}
+use Prim.Native.Nat.{ℕ, ◌+◌, ◌≤◌, ◌<◌}
 use native.Mathlib.Omega.{arith}
 use lib.IntN.{ℤ, pos, nat_abs, ◌+ℤ◌}
 use lib.ListN.{get_or}
@@ -9,7 +9,7 @@ use mir.Syntax.{w64}
 use mir.Val.{to_z}
 use Rattle.whole.specs.Sum.{sum}
 use Rattle.whole.specs.Table.{table}
-use Rattle.whole.proofs.Accumulate.{Bounded, running_none, running_more, running_done}
+use Rattle.whole.proofs.Accumulate.{Bounded, running_none, running_more}
 use Rattle.whole.proofs.Machine.{Is, told, rd, fit, r64}
 use Rattle.whole.proofs.SumSize.{sum_size}
 use Rattle.whole.proofs.Table.{table_held}
