@@ -84,6 +84,11 @@ module _ (values : List ℤ) (weights : List ℕ) (n : ℕ) (r : Job values weig
     unfolding zones_locals zones_local
     locals_cross = numerators_cross (pair_at weights n) n (deviation_of (at values) n) out q
 
+-- ---- what is taken of the values that go with S is what is taken of the job's own
+pub summed_alike :
+    {A : Type 0} (f : List ℤ → ℕ → A) {x values : List ℤ} {m n : ℕ} → m ≡ n → x ≡ values → f x m ≡ f values n
+summed_alike f e q = rw (e, q) refl
+
 -- ---- y, told to be one of the sums, is that number and within an i64
 module _ (values : List ℤ) (n : ℕ) (v : Valued values n) where
   pub total_told : {y : ℤ} → y ≡ total_of (at values) n → Is y (total_of (at values) n) 6400000

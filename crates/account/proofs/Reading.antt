@@ -76,6 +76,10 @@ module _ (weights : List ℕ) (n : ℕ) (w : Weighted weights n) where
   unfolding pair_at
   weight_le i j h k = w.light (i * n + j) (within n i j h k)
 
+  -- there are up to 64 × 64 of them
+  pub few_weights : length weights ≤ 4096
+  few_weights = omega (arith, w.count, N.mul-le-mul w.zones w.zones)
+
   -- summed along the list they are W
   pub flat_weight : sum (λ k. pos (get_or weights k 0)) (n * n) ≡ weight_of (pair_at weights n) n
   unfolding weight_of pairs_of row_of pair_at

@@ -11,6 +11,10 @@ use Rattle.account.specs.Classes.{class_weight, zones_class_row, zones_class_loc
 use Rattle.account.specs.Rank.{shuffled}
 use Rattle.account.specs.declared.ClassRow.{ClassRow}
 
+-- the most that a local numerator of a job can be in size
+abbrev pub most_local : ℕ
+most_local = 94371840000000000
+
 -- n numbers, each at most b in size
 pub record Sized (b : ℕ) (numbers : List ℤ) (n : ℕ) : Type 0 where
   pub count : length numbers ≡ n

@@ -11,11 +11,12 @@ fn row_of(sums: &[i64; 27], k: usize) -> ClassRow
     requires { k < 9 }
     ensures { result ≡ row_at sums.now k }
 {
-    let place = k * 3;
+    let (rows, _) = sums.as_chunks::<3>();
+    let [weight, cross, squares] = rows[k];
     ClassRow {
-        weight: sums[place],
-        cross: sums[place + 1],
-        squares: sums[place + 2],
+        weight,
+        cross,
+        squares,
     }
 }
 

@@ -1,21 +1,23 @@
 // The class account's work on zones all of which count: one pass over their pairs, each added to the sums of its own class.
 ghost use Rattle.std.specs.Prelude.{◌≡◌, ℕ, ◌*◌, ◌+◌, ◌≤◌, ◌<◌, pos, nat_abs, length};
 ghost use Rattle.whole.specs.Sum.{sum};
-ghost use Rattle.whole.specs.Table.{table_rows, at};
+ghost use Rattle.whole.specs.Table.{table_rows};
 ghost use Rattle.account.specs.Answers.{listed, zones_figures};
-ghost use Rattle.account.specs.Steps.{Sized, zones_locals, zones_class_sums, zones_class_locals, row_added, zone_part, Zoned, Owned};
+ghost use Rattle.account.specs.Classes.{row_at};
+ghost use Rattle.account.specs.Steps.{most_local, Sized, zones_locals, zones_class_sums, zones_class_locals, row_added, zone_part, Zoned, Owned};
 
-use crate::lists::{ClassDeviations, ClassLists, JobLists, Summed, ZoneValues};
-use crate::{Sums, deviations, differences};
+use crate::lists::{ClassDeviations, ClassLists, JobLists};
+use crate::{ClassRow, Sums, deviations, differences};
 
-// Adds to W, P and G of class k. A local numerator is the largest number that is added, and 64 of them fit. The sums are found by place, as
-// the caller lends them: in rows of three every clause here would be on a list of lists.
+// Adds to W, P and G of class k. A local numerator is the largest number that is added, and 64 of them fit. One function adds to the lent
+// rows and to a zone's parts, and finds the sums by place: in rows of three every clause here would be on a list of lists.
+// A ClassRow for the three is no plainer: both callers would put it together only for it to be taken apart here.
 pub(super) fn add_row(rows: &mut [i64], k: usize, weight: i64, cross: i64, squares: i64)
     requires sized { Sized 6039797760000000000 rows.old 27 }
     requires k_bound { k < 9 }
-    requires weight_bound { nat_abs weight ≤ 94371840000000000 }
-    requires cross_bound { nat_abs cross ≤ 94371840000000000 }
-    requires squares_bound { nat_abs squares ≤ 94371840000000000 }
+    requires weight_bound { nat_abs weight ≤ most_local }
+    requires cross_bound { nat_abs cross ≤ most_local }
+    requires squares_bound { nat_abs squares ≤ most_local }
     ensures { rows.new ≡ row_added rows.old k weight cross squares }
 {
     // by places: of what as_chunks_mut has lent a proof knows nothing afterwards
@@ -53,7 +55,7 @@ pub(super) fn add_pairs(work: &ClassDeviations, i: usize, parts: &mut [i64])
 pub(super) fn add_zone(
     work: &ClassDeviations,
     i: usize,
-    rows: &mut [i64],
+    rows: &mut [i64; 27],
     class_locals: &mut [i64],
     locals: &mut [i64],
 )
@@ -85,11 +87,10 @@ pub(super) fn add_zone(
 // The rows and the local numerators, zone by zone.
 pub(super) fn add_zones(
     work: &ClassDeviations,
-    rows: &mut [i64],
+    rows: &mut [i64; 27],
     class_locals: &mut [i64],
     locals: &mut [i64],
 )
-    requires rows_len { length rows.old ≡ 27 }
     requires class_locals_len { length class_locals.old ≡ 9 * work.now.lists.job.n }
     requires locals_len { length locals.old ≡ work.now.lists.job.n }
     ensures rows_after { rows.new
@@ -105,29 +106,30 @@ pub(super) fn add_zones(
     }
 }
 
-// W of the nine classes together, at place 0, or their G, at place 2.
-pub(super) fn nine_together(rows: &[i64], place: usize) -> i64
-    requires place_bound { place < 3 }
-    requires rows_len { length rows.now ≡ 27 }
-    requires by_index { (k : ℕ) → k < 9 → nat_abs (at rows.now (k * 3 + place)) ≤ 94371840000000000 }
-    ensures { result ≡ sum (λ k. at rows.now (k * 3 + place)) 9 }
+// W and G of the nine classes together.
+pub(super) fn nine_together(rows: &[i64; 27]) -> (i64, i64)
+    requires weights { (k : ℕ) → k < 9 → nat_abs ((row_at rows.now k).weight) ≤ most_local }
+    requires squares { (k : ℕ) → k < 9 → nat_abs ((row_at rows.now k).squares) ≤ most_local }
+    ensures weight { result.0 ≡ sum (λ k. (row_at rows.now k).weight) 9 }
+    ensures square { result.1 ≡ sum (λ k. (row_at rows.now k).squares) 9 }
 {
     // by a loop: for a signed sum at the end of a chain the check finds no bound
-    let mut acc: i64 = 0;
-    for k in 0..9 {
-        acc += rows[k * 3 + place];
+    let mut weight: i64 = 0;
+    let mut squares: i64 = 0;
+    for row in &ClassRow::all(rows) {
+        weight += row.weight;
+        squares += row.squares;
     }
-    acc
+    (weight, squares)
 }
 
-// The class account of n zones, and the sums of them all, of which the classes give three.
+// The class account of n zones, and the sums of them all: the rows give their W and G, the job's own numerators their P.
 pub(super) fn zone_classes(
     lists: &ClassLists,
-    rows: &mut [i64],
+    rows: &mut [i64; 27],
     class_locals: &mut [i64],
     locals: &mut [i64],
 ) -> Sums
-    requires rows_len { length rows.old ≡ 27 }
     requires class_locals_len { length class_locals.old ≡ 9 * lists.now.job.n }
     requires locals_len { length locals.old ≡ lists.now.job.n }
     ensures result_value { listed result ≡ zones_figures lists.now.job.n lists.now.job.values.now lists.now.job.weights.now }
@@ -137,10 +139,8 @@ pub(super) fn zone_classes(
         ≡ zones_class_locals lists.now.job.n lists.now.job.values.now lists.now.job.weights.now lists.now.classes.now }
     ensures locals_after { locals.new ≡ zones_locals lists.now.job.n lists.now.job.values.now lists.now.job.weights.now }
 {
-    let JobLists { n, values, .. } = lists.job;
-    let list = ZoneValues { n, values };
-    let total = deviations::total(&list);
-    let summed = Summed { list, total };
+    let n = lists.job.n;
+    let summed = lists.job.summed();
     let spread = differences::spread(&summed);
     let mut d: [i64; 64] = [0; 64];
     deviations::deviations(&summed, &mut d[..n]);
@@ -149,11 +149,10 @@ pub(super) fn zone_classes(
         d: &d[..n],
     };
     add_zones(&work, rows, class_locals, locals);
-    let weight = nine_together(rows, 0);
-    let cross = deviations::sum_of(n, locals);
-    let squares = nine_together(rows, 2);
+    let (weight, squares) = nine_together(rows);
+    let cross = deviations::sum_of(locals);
     Sums {
-        total,
+        total: summed.total,
         spread,
         weight,
         cross,

@@ -3,7 +3,7 @@ ghost use Rattle.std.specs.Prelude.{◌≡◌, ◌≤◌, ◌<◌, length};
 ghost use Rattle.whole.specs.Sum.{sum};
 ghost use Rattle.whole.specs.Table.{table, at, pair_at};
 ghost use Rattle.account.specs.Measures.{total_of, deviation_of, row_of, local_of};
-ghost use Rattle.account.specs.Steps.{Sized};
+ghost use Rattle.account.specs.Steps.{most_local, Sized};
 
 use crate::lists::{self, Summed, Weighed, ZoneValues};
 
@@ -34,8 +34,8 @@ pub(super) fn deviations(summed: &Summed, d: &mut [i64])
     }
 }
 
-// The weighted neighbours of zone i: the sum over j of w(i,j) d(j). A zone is below n by a clause, here and where a walk over the zones
-// calls: a type for that would belong to one job.
+// The weighted neighbours of zone i: the sum over j of w(i,j) d(j). That i is below n is a clause here, and where a walk over the zones
+// calls: a type for it is no plainer, as each function would still have to say that its n is this one.
 pub(super) fn neighbour_sum(weighed: &Weighed, i: usize) -> i64
     requires { i < weighed.now.n }
     ensures { result ≡ row_of (pair_at weighed.now.weights.now weighed.now.n) (λ i j. at weighed.now.d.now j) i weighed.now.n }
@@ -43,7 +43,7 @@ pub(super) fn neighbour_sum(weighed: &Weighed, i: usize) -> i64
     let d = weighed.d;
     let row = lists::row(weighed.weights, weighed.n, i);
     let mut acc: i64 = 0;
-    // by j, as measured: a zip of the two takes a tenth longer where there are few zones
+    // by j: a zip is no plainer, as it ends at the shorter and both must be known to have n; measured, few zones took a tenth longer
     for (j, weight) in row.iter().enumerate() {
         acc += i64::from(*weight) * d[j];
     }
@@ -64,11 +64,11 @@ pub(super) fn local_numerators(weighed: &Weighed, locals: &mut [i64])
     }
 }
 
-// The sum of n local numerators.
-pub(super) fn sum_of(n: usize, locals: &[i64]) -> i64
-    requires n_bound { n ≤ 64 }
-    requires sized { Sized 94371840000000000 locals.now n }
-    ensures { result ≡ sum (at locals.now) n }
+// The sum of local numerators. S has a loop of its own: its values have 32 bits each, and another bound.
+pub(super) fn sum_of(locals: &[i64]) -> i64
+    requires few { length locals.now ≤ 64 }
+    requires sized { Sized most_local locals.now (length locals.now) }
+    ensures { result ≡ sum (at locals.now) (length locals.now) }
 {
     let mut acc: i64 = 0;
     for local in locals {

@@ -1,4 +1,4 @@
-// Squared differences of values: M over the pairs i < j, G over the ordered pairs with their weights.
+// Squared differences of values: M, from S and the sum of the squares, and G, over the ordered pairs with their weights.
 ghost use Rattle.std.specs.Prelude.{◌≡◌, ◌≤◌, ◌<◌, nat_abs, ◌-ℤ◌};
 ghost use Rattle.whole.specs.Integer.{square};
 ghost use Rattle.whole.specs.Sum.{sum};
@@ -51,7 +51,7 @@ pub(super) fn row_squares(job: &JobLists, i: usize) -> i64
     let own = values[i];
     let row = lists::row(job.weights, job.n, i);
     let mut acc: i64 = 0;
-    // by j, as measured: a zip of the two is compiled to products of vectors, and takes half as long again
+    // by j: a zip is no plainer, as it ends at the shorter and both must be known to have n; measured, it took half as long again
     for (j, weight) in row.iter().enumerate() {
         acc += i64::from(*weight) * squared_difference(own, values[j]);
     }

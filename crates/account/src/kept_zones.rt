@@ -95,12 +95,11 @@ pub(super) fn job_sums(kept: &KeptLists, locals: &mut [i64]) -> Sums
 pub(super) fn work_classes<'a>(
     kept: &KeptLists<'a>,
     classes: &'a [u8],
-    rows: &mut [i64],
+    rows: &mut [i64; 27],
     class_locals: &mut [i64],
     locals: &mut [i64],
 ) -> Sums
     requires classed { ClassJob kept.now.job.values.now kept.now.job.weights.now classes.now kept.now.job.n }
-    requires rows_len { length rows.old ≡ 27 }
     requires class_locals_len { length class_locals.old ≡ 9 * kept.now.job.n }
     requires locals_len { length locals.old ≡ kept.now.job.n }
     ensures result_value { listed result

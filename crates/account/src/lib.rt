@@ -116,7 +116,13 @@ pub fn class_account(
         locals.len(),
         &mut zones,
     )?;
-    Ok(kept_zones::work_classes(&kept, classes, rows, class_locals, locals))
+    Ok(kept_zones::work_classes(
+        &kept,
+        classes,
+        rows.as_mut_array().unwrap(),
+        class_locals,
+        locals,
+    ))
 }
 
 // Counts the shuffles whose P is less than, equal to and greater than the job's own, which is not counted itself. `shuffles` has a row

@@ -1,11 +1,13 @@
-// What was judged, with the facts that the judges found: the work takes these, and no loose lists. Each has n beside its lists, by
-// which every clause says what is worked: by the length of one of them each would be longer.
+// Lists that go together, with the facts that were found of them, by the judges or where they were worked. Where n stands beside its
+// lists, every clause says by it what is worked: by the length of one of them each would be longer.
 ghost use Rattle.std.specs.Prelude.{◌≡◌, false, ◌*◌, ◌+◌, ◌≤◌, ◌<◌, length, get_or, take, drop};
 ghost use Rattle.whole.specs.Order.{lacks};
 ghost use Rattle.whole.specs.Table.{table, at};
 ghost use Rattle.shuffles.specs.Steps.{Shuffles};
 ghost use Rattle.account.specs.Measures.{total_of, deviation_of};
 ghost use Rattle.account.specs.Steps.{Sized, Valued, Weighted, Job, ClassJob};
+
+use crate::deviations;
 
 // The values of n zones.
 #[derive(Clone, Copy)]
@@ -30,6 +32,21 @@ pub(super) struct JobLists<'a, 'b> {
     pub(super) values: &'a [i32],
     pub(super) weights: &'b [u8],
     ghost good: { Job values.now weights.now n },
+}
+
+impl JobLists<'_, '_> {
+    // Its values with their S.
+    pub(super) fn summed(&self) -> Summed<'_>
+        ensures n_value { result.list.n ≡ self.now.n }
+        ensures values_value { result.list.values.now ≡ self.now.values.now }
+    {
+        let list = ZoneValues {
+            n: self.n,
+            values: self.values,
+        };
+        let total = deviations::total(&list);
+        Summed { list, total }
+    }
 }
 
 // A job with the classes of its pairs.

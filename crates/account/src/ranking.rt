@@ -5,7 +5,7 @@ ghost use Rattle.account.specs.Measures.{cross_of};
 ghost use Rattle.account.specs.Rank.{shuffled, compared, zones_rank, three};
 ghost use Rattle.account.specs.Steps.{cross_held, cross_moved};
 
-use crate::lists::{JobLists, ShuffleRow, ShuffleRows, Summed, Weighed, ZoneValues};
+use crate::lists::{JobLists, ShuffleRow, ShuffleRows, Weighed};
 use crate::{Counts, deviations, shuffling};
 use std::cmp::Ordering;
 
@@ -50,7 +50,7 @@ pub(super) fn tally(weighed: &Weighed, shuffles: &ShuffleRows) -> Counts
     let mut less: usize = 0;
     let mut equal: usize = 0;
     let mut greater: usize = 0;
-    // by r: chunks_exact wants an n above 0, which no clause here has
+    // by r: chunks_exact is no plainer, as it wants an n above 0, which each caller would have to show for a loop that is no shorter
     for r in 0..shuffles.rows {
         let row = shuffles.shuffle(r);
         let cross = shuffle_cross(weighed, &row);
@@ -73,11 +73,10 @@ pub(super) fn zone_rank(job: &JobLists, shuffles: &ShuffleRows) -> Counts
     ensures { three result
         ≡ zones_rank shuffles.now.rows job.now.n job.now.values.now job.now.weights.now shuffles.now.shuffles.now }
 {
-    let JobLists { n, values, weights } = *job;
-    let list = ZoneValues { n, values };
-    let total = deviations::total(&list);
+    let JobLists { n, weights, .. } = *job;
+    let summed = job.summed();
     let mut d: [i64; 64] = [0; 64];
-    deviations::deviations(&Summed { list, total }, &mut d[..n]);
+    deviations::deviations(&summed, &mut d[..n]);
     let weighed = Weighed {
         n,
         weights,

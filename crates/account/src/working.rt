@@ -1,27 +1,17 @@
 // The work on zones all of which count: the sums over their pairs, and all sums.
 ghost use Rattle.std.specs.Prelude.{◌≡◌, ◌≤◌, length, sum};
-ghost use Rattle.whole.specs.Table.{pair_at};
-ghost use Rattle.account.specs.Measures.{weight_of};
 ghost use Rattle.account.specs.Answers.{listed, zones_figures};
-ghost use Rattle.account.specs.Steps.{Weighted, zones_locals};
+ghost use Rattle.account.specs.Steps.{zones_locals};
 
-use crate::lists::{JobLists, Summed, Weighed, ZoneValues};
+use crate::lists::{JobLists, Weighed};
 use crate::{Sums, deviations, differences};
 
-// The sum of up to 64 × 64 numbers, in 32 bits, so that the compiler can add several at a time.
-fn added(numbers: &[u8]) -> u32
-    requires { length numbers.now ≤ 4096 }
-    ensures { result ≡ sum numbers.now }
+// W, of up to 64 × 64 weights: without a sign, since for a signed sum at the end of a chain the check finds no bound.
+fn weight_sum(weights: &[u8]) -> u32
+    requires { length weights.now ≤ 4096 }
+    ensures { result ≡ sum weights.now }
 {
-    numbers.iter().map(|number| u32::from(*number)).sum()
-}
-
-// W.
-pub(super) fn weight_sum(n: usize, weights: &[u8]) -> i64
-    requires { Weighted weights.now n }
-    ensures { result ≡ weight_of (pair_at weights.now n) n }
-{
-    i64::from(added(weights))
+    weights.iter().map(|weight| u32::from(*weight)).sum()
 }
 
 // The sums of n zones, with their local numerators in `locals`.
@@ -30,10 +20,8 @@ pub(super) fn zone_sums(job: &JobLists, locals: &mut [i64]) -> Sums
     ensures result_value { listed result ≡ zones_figures job.now.n job.now.values.now job.now.weights.now }
     ensures locals_after { locals.new ≡ zones_locals job.now.n job.now.values.now job.now.weights.now }
 {
-    let JobLists { n, values, weights } = *job;
-    let list = ZoneValues { n, values };
-    let total = deviations::total(&list);
-    let summed = Summed { list, total };
+    let JobLists { n, weights, .. } = *job;
+    let summed = job.summed();
     let spread = differences::spread(&summed);
     let mut d: [i64; 64] = [0; 64];
     deviations::deviations(&summed, &mut d[..n]);
@@ -43,11 +31,11 @@ pub(super) fn zone_sums(job: &JobLists, locals: &mut [i64]) -> Sums
         d: &d[..n],
     };
     deviations::local_numerators(&weighed, locals);
-    let cross = deviations::sum_of(n, locals);
-    let weight = weight_sum(n, weights);
+    let cross = deviations::sum_of(locals);
+    let weight = i64::from(weight_sum(weights));
     let squares = differences::squares(job);
     Sums {
-        total,
+        total: summed.total,
         spread,
         weight,
         cross,

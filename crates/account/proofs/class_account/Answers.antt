@@ -1,5 +1,5 @@
 -- `class_account` meets its contract: judged first, and worked only where no rule is broken. Assumes nothing.
-use Rattle.std.proofs.Common.{◌≡◌, sym, ◌∙◌, length}
+use Rattle.std.proofs.Common.{rules, ◌≡◌, sym, ◌∙◌, length}
 use Rattle.std.proofs.lemmas.Result.{err_from_is_err_and}
 use Rattle.refusals.proofs.Refusals.{left_by, worked_by}
 use Rattle.account.specs.Answers.{figures_of, job_figures, job_locals}
@@ -36,13 +36,15 @@ returns-in_err-kept c =
       own = sym (left_by _ _ _ _ e);
     })
 
+pub unwrap-requires : goal.unwrap-requires
+unwrap-requires c = let long = (good ((goal.at.unwrap-requires c).In_ok-kept)).rows_fit in search rules
+
 pub work_classes-requires : goal.work_classes-requires
 work_classes-requires c =
     let g = good ((goal.at.work_classes-requires c).In_ok-kept) in
     let job = c.in_ok-kept.ensures.job in
     rw (job.zones, job.of_values, job.of_weights) (record {
       classed = class_job g.whole;
-      rows_len = g.rows_fit;
       class_locals_len = g.of_classes_fit;
       locals_len = g.own_fit;
     })

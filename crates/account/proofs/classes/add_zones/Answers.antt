@@ -20,7 +20,7 @@ zeros = refl
 pub loop-i-init : goal.loop-i-init
 loop-i-init c = (
   no_zones _ _ _ _ _ c.args.class_locals.now
-      (c.fill.ensures.after (λ y e. e) ∙ ap (λ m. replicate m (pos 0)) c.requires.rows_len ∙ zeros) c.requires.class_locals_len,
+      (c.fill.ensures.after (λ y e. e) ∙ ap (λ m. replicate m (pos 0)) c.told-rows ∙ zeros) c.requires.class_locals_len,
   record { count = c.requires.locals_len; numerators = λ i p. let x : ⊥ = omega arith in absurd x },
 )
 

@@ -18,7 +18,7 @@ turn :
     let l = at c.args.locals.now in
     Is (to_z w64 c.loop-local.acc-bits +ℤ r64 (l c.loop-local.local-index)) (sum l (c.loop-local.local-index + 1)) 6039797760000000000
 turn c =
-    running_more (locals_run _ _ c.requires.n_bound c.requires.sized) c.loop-local.local-index (to_z w64 c.loop-local.acc-bits) (omega arith)
+    running_more (locals_run _ _ c.requires.few c.requires.sized) c.loop-local.local-index (to_z w64 c.loop-local.acc-bits) (omega arith)
     c.loop-local.invariant
     (rd w64 (val (at c.args.locals.now c.loop-local.local-index) 94371840000000000 (c.requires.sized.size c.loop-local.local-index (omega arith))) tt)
 

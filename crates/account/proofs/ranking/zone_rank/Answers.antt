@@ -11,7 +11,7 @@ use Rattle.whole.proofs.Table.{table_length}
 use Rattle.account.specs.Measures.{deviation_of}
 use Rattle.account.specs.Rank.{values_cross, shuffle_cross, compared, zones_rank}
 use Rattle.account.specs.Steps.{cross_held, cross_moved}
-use Rattle.account.proofs.Locals.{deviations_sized, total_held}
+use Rattle.account.proofs.Locals.{summed_alike, deviations_sized}
 use Rattle.account.proofs.Shuffled.{own_cross, its_cross}
 use Rattle.account.proofs.Tallied.{compared_cong}
 use Rattle.account.proofs.ranking.zone_rank.Goals as goal
@@ -27,6 +27,9 @@ module _ (c : After-deviations) where
 
   as_long : length expected ≡ a.args.job.now.n
   as_long = table_length (deviation_of (at a.args.job.now.values.now) a.args.job.now.n) a.args.job.now.n
+
+  told : c.deviations.new.d ≡ expected
+  told = c.deviations.ensures ∙ summed_alike (λ x m. table (deviation_of (at x) m) m) c.summed-summed.ensures.n_value c.summed-summed.ensures.values_value
 
   -- what is compared is the P of the shuffles, and the job's own
   same :
@@ -45,14 +48,11 @@ module _ (c : After-deviations) where
       (ap (λ (m : ℕ). lacks (pair_at s.shuffles.now m r) m) (sym a.requires) ∙ s.good.full r h))
       (own_cross g.job.now.values.now g.job.now.weights.now g.job.now.n d e)
 
-pub invariant_of-deviations : goal.invariant_of-deviations
-invariant_of-deviations c = record { summed = total_held _ _ c.args.job.now.good.valued c.total-total.ensures }
-
 pub invariant_of-weighed : goal.invariant_of-weighed
 invariant_of-weighed c =
     let after_deviations = (goal.at.invariant_of-weighed c).After-deviations in
     let job = (a after_deviations).args.job.now.good in
-    let d = front {A = ℤ} _ _ (expected after_deviations) _ c.deviations.ensures (as_long after_deviations) in record {
+    let d = front {A = ℤ} _ _ (expected after_deviations) _ (told after_deviations) (as_long after_deviations) in record {
       weighted = job.weighted;
       sized = deviations_sized _ _ _ job.valued d;
     }
@@ -61,4 +61,4 @@ pub returns : goal.returns
 unfolding zones_rank
 returns c =
     let after_deviations = (goal.at.returns c).After-deviations in
-    c.tally.ensures ∙ same after_deviations _ (front {A = ℤ} _ _ (expected after_deviations) _ c.deviations.ensures (as_long after_deviations))
+    c.tally.ensures ∙ same after_deviations _ (front {A = ℤ} _ _ (expected after_deviations) _ (told after_deviations) (as_long after_deviations))
