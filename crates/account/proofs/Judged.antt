@@ -20,7 +20,7 @@ module _ (n : ℕ) (values : List ℤ) (weights : List ℕ) (lent : List (ℕ ×
     by_sizes e some = first_here (job_rules n values weights ++ besides) sizes_of r e some
 
     module _ (sizes_good : first_broken sizes_of ≡ 0) where
-      pub then_job : r ≡ first_broken (job_rules n values weights ++ besides) → r ≡ first_broken (call_rules n values weights lent besides)
+      then_job : r ≡ first_broken (job_rules n values weights ++ besides) → r ≡ first_broken (call_rules n values weights lent besides)
       unfolding call_rules
       then_job e = e ∙ first_next (job_rules n values weights ++ besides) 0 sizes_of (tt, (tt, tt)) sizes_good
 
