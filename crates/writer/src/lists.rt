@@ -30,7 +30,7 @@ pub(super) struct Table<'a> {
     ghost tabled: { Tabled weights.now n },
 }
 
-// The first entries of each list, as many as the counts say. A count of 0 to n, or of bands or shuffles, is judged before its part is taken.
+// The first entries of each list, as many as the counts say. A count that may be too high is judged before its part is taken.
 impl<'a> SizedLists<'a> {
     pub(super) fn values(&self) -> &'a [i32]
         ensures { result.now ≡ take self.now.given.values self.now.lists.values.now }
