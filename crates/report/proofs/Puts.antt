@@ -5,7 +5,7 @@ use Prim.Native.Nat.{ℕ, ◌+◌, ◌*◌, ◌≤◌, ◌<◌}
 use native.Mathlib.Nat.{mul-suc}
 use native.Mathlib.Omega.{arith}
 use lib.ListN.{length, get_or, take, length-append}
-use lib.Seq.{sets, length-sets}
+use lib.Seq.{sets}
 use Rattle.whole.specs.Table.{each, over}
 use Rattle.whole.proofs.Table.{table_length, table_at}
 use Rattle.whole.proofs.Stores.{Stored, stored_next, stored_over, front_next, front_all, each_none, each_both}
@@ -20,10 +20,6 @@ module _ {old : List ℕ} {at : ℕ} where
   put_none = record { same = refl; behind = omega arith; few = omega arith }
 
   module _ {new : List ℕ} {place most : ℕ} {text : List ℕ} (put : Put old new at place most text) where
-    -- a page keeps its length
-    pub put_length : length new ≡ length old
-    put_length = ap length put.same ∙ length-sets old at text
-
     -- a wider bound
     pub put_most : {wider : ℕ} → most ≤ wider → Put old new at place wider text
     put_most h = record { same = put.same; behind = put.behind; few = omega (arith, put.few, h) }

@@ -1,5 +1,7 @@
 // Lines of a report into a page that has room for them. Each call is told the place to begin at, and answers the place behind what it has
-// put. Page and place stay two, since the calls below, of crate `pages`, are public, and take the two and answer the place.
+// put.
+// Page and place stay two, as the public calls of `pages` below take them: with a struct of both, tried, the check no longer found the
+// room for each of fifteen further calls by itself.
 ghost use Rattle.std.specs.Prelude.{⊤, List, [], ◌∷◌, ◌++◌, ℕ, ◌≤◌, length};
 ghost use Rattle.pages.specs.Lines.{numbers, bits};
 ghost use Rattle.report.specs.Lines.{coefficient};
