@@ -11,7 +11,7 @@ ghost use Rattle.refusals.specs.Refusals.{number_of};
 ghost use Rattle.reader.specs.Steps.{Summable, LaidOut, join_at, sizes};
 
 use crate::sections::{
-    Section, in_bands, in_categories, in_joins, in_places, in_shuffles, in_values,
+    Section, in_bands, in_categories, in_joins, in_places, in_shuffles, in_values, judge_entries,
 };
 use crate::zones::Zones;
 use crate::{Counts, joining};
@@ -50,13 +50,15 @@ fn judge_sums(n: usize, items: &[u8], joins: &[[u8; 3]]) -> Result<(), Refusal>
     ensures { number_of result ≡ first_broken (sum_rules n (signed_words n items.now)
         (weights_of n (table (join_at joins.now) (length joins.now)))) }
 {
-    let mut space = [0; 64];
-    let values = &mut space[..n];
-    words::entries_in(items, values);
     let mut table = [0; 4096];
     let weights = &mut table[..n * n];
     joining::put_joins(n, joins, weights);
-    account::judge(n, values, weights)
+    judge_entries(
+        [0; 64],
+        n,
+        items,
+        |values| account::judge(n, values, weights),
+    )
 }
 
 // Judges an image from its first byte to its last.

@@ -15,8 +15,8 @@ ghost use Rattle.reader.specs.Answers.{counts_of};
 
 use refusals::Refusal;
 
-// How many there are of each in an image. Callers read each of the six by its name: with five of them in an image::Given and the joins beside
-// it, they would have to know in which of two places a count stands.
+// How many there are of each in an image. Callers read each of the six by its name: with five of them in an image::Given, and the joins
+// beside it, they would have to know in which of two places a count stands.
 #[derive(Clone, Copy)]
 pub struct Counts {
     pub values: usize,

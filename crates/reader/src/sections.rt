@@ -1,6 +1,8 @@
 // The sections of an image: each is taken from the front of what is left of it, judged by its count, then by its items.
 ghost use Rattle.std.specs.Prelude.{◌≡◌, true, false, [], ◌∷◌, ℕ, ◌+◌, ◌*◌, ◌≤◌, ◌<◌, ltb, length, drop, take, MatchResult, IfOk};
+ghost use Rattle.std.specs.Fn.{FnOnceReturnsAt};
 ghost use Rattle.whole.specs.Rules.{first_broken};
+ghost use Rattle.whole.specs.Table.{table};
 ghost use Rattle.places.specs.Places.{places_in_turn};
 ghost use Rattle.image.specs.Image.{count, items, after, signed_words, words, value_rules, band_rules, shuffle_rules};
 ghost use Rattle.image.specs.Image.{in_values, in_categories, in_joins, in_places, in_bands, in_shuffles};
@@ -10,6 +12,7 @@ ghost use Rattle.reader.specs.Steps.{Held, Joins};
 use crate::joining;
 use crate::zones::Zones;
 use refusals::Refusal;
+use words::Entry;
 
 // A section: the count of its items, and their bytes. The bytes alone would not tell the count: the size of a shuffle is n, and no type's.
 #[derive(Clone, Copy)]
@@ -42,15 +45,29 @@ fn cut_off(count: usize, size: usize, bytes: &[u8]) -> Result<(Section<'_>, &[u8
     Ok((Section { count, items }, rest))
 }
 
+// What a judge says of so many numbers that stand in bytes: it is lent them in a copy, which has room for the most.
+// A judge of another crate comes in a closure: of its bare name the check would not know the contract.
+pub(super) fn judge_entries<T: Entry, const ROOM: usize, F: FnOnce(&[T]) -> Result<(), Refusal>>(
+    mut room: [T; ROOM],
+    count: usize,
+    bytes: &[u8],
+    judge: F,
+) -> Result<(), Refusal>
+    requires few { count ≤ ROOM }
+    requires callable { F.IsAlwaysCallable judge }
+    ensures { FnOnceReturnsAt F.FnOnce judge (table (T.nth bytes.now) count) result }
+{
+    let numbers = &mut room[..count];
+    words::entries_in(bytes, numbers);
+    judge(numbers)
+}
+
 // 3: a value too far from 0.
 fn judge_values(count: usize, items: &[u8]) -> Result<(), Refusal>
     requires { count ≤ 64 }
     ensures { number_of result ≡ first_broken (value_rules (signed_words count items.now)) }
 {
-    let mut space = [0; 64];
-    let values = &mut space[..count];
-    words::entries_in(items, values);
-    judges::judge_values(values)
+    judge_entries([0; 64], count, items, |values| judges::judge_values(values))
 }
 
 // 10 and 11: a place too far off, or that of an earlier zone.
@@ -58,10 +75,12 @@ fn judge_places(count: usize, items: &[u8]) -> Result<(), Refusal>
     requires { count ≤ 64 }
     ensures { number_of result ≡ first_broken (places_in_turn (signed_words (2 * count) items.now)) }
 {
-    let mut space = [0; 128];
-    let places = &mut space[..2 * count];
-    words::entries_in(items, places);
-    places::judge_in_turn(places)
+    judge_entries(
+        [0; 128],
+        2 * count,
+        items,
+        |places| places::judge_in_turn(places),
+    )
 }
 
 // 12: a band that is 0, or not above the one before it.
@@ -69,15 +88,13 @@ fn judge_bands(count: usize, items: &[u8]) -> Result<(), Refusal>
     requires { count ≤ 8 }
     ensures { number_of result ≡ first_broken (band_rules (words count items.now)) }
 {
-    let mut space = [0; 8];
-    let bands = &mut space[..count];
-    words::entries_in(items, bands);
-    // The writer has this test too: one judge for both would be a public function of places about this one `if`, which is no plainer.
-    if places::any_misplaced(bands) {
-        Err(Refusal::Bands)
-    } else {
-        Ok(())
-    }
+    judge_entries([0; 8], count, items, |bands| {
+        if places::any_misplaced(bands) {
+            Err(Refusal::Bands)
+        } else {
+            Ok(())
+        }
+    })
 }
 
 // The six have one shape. One function for all would be handed two judges, whose rules each of its calls would have to name: no plainer.

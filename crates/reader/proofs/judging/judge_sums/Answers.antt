@@ -1,12 +1,12 @@
 -- `judge_sums` meets its contract: the job's judge is asked of copies that break none of 1 to 5, so that 6 and 7 decide. Assumes nothing.
-use mathlib.Core.Path.{◌≡◌, ap, ◌∙◌}
+use mathlib.Core.Path.{◌≡◌, refl, ap, ◌∙◌}
 use mathlib.Core.Bool.{false}
 use mathlib.Core.List.{List}
-use Prim.Native.Nat.{ℕ, ◌*◌, ◌≤◌}
-use lib.IntN.{ℤ, pos}
-use lib.ListN.{length, replicate}
-use mir.Syntax.{w32}
-use mir.Val.{to_z}
+use Prim.Native.Nat.{ℕ, ◌≤◌}
+use borrow.Author.Rules.{rules}
+use lib.IntN.{ℤ}
+use lib.ListN.{length}
+use Rattle.refusals.specs.Refusals.{number_of}
 use Rattle.whole.specs.Rules.{first_broken}
 use Rattle.whole.specs.Search.{any_beyond}
 use Rattle.whole.specs.Table.{table}
@@ -16,9 +16,7 @@ use Rattle.image.specs.Image.{signed_words}
 use Rattle.image.specs.Joins.{weights_of}
 use Rattle.image.proofs.JoinWeight.{weights_length}
 use Rattle.image.proofs.Weights.{joins_light, joins_clear, sums_decide}
-use Rattle.words.specs.Words.{word_at}
 use Rattle.reader.specs.Steps.{Joinable, join_at}
-use Rattle.reader.proofs.Fronts.{front_is}
 use Rattle.reader.proofs.judging.judge_sums.Goals as goal
 
 -- what the job's judge answers of copies that are the values and the weights
@@ -37,6 +35,6 @@ pub returns : goal.returns
 returns c =
     let a = c.args in
     let values = signed_words a.n a.items.now in
-    let read = front_is (λ i. to_z w32 (word_at a.items.now (4 * i))) a.n _ (replicate 64 (pos 0)) c.requires.joins.zones c.entries_in.ensures in
-    let e = judged a.n values _ a.joins.now _ c.requires.two c.requires.near c.requires.joins (table_length _ a.n) read c.put_joins.ensures in
-    c.judge.ensures ∙ e
+    let l = table (join_at a.joins.now) (length a.joins.now) in
+    let told : number_of c.judge_entries.result ≡ job_refusal a.n values c.put_joins.new.weights = search rules in
+    told ∙ judged a.n values values a.joins.now _ c.requires.two c.requires.near c.requires.joins (table_length _ a.n) refl c.put_joins.ensures
