@@ -1,6 +1,6 @@
 -- `judge_parts` meets its contract: a part is judged where those before it break no rule, and the lists are as long as each judge asks.
 -- Assumes nothing.
-use mathlib.Core.Path.{◌≡◌, sym, ◌∙◌}
+use mathlib.Core.Path.{◌≡◌, sym, ap, ◌∙◌}
 use mathlib.Core.List.{List}
 use borrow.Author.Rules.{rules}
 use Rattle.whole.specs.Rules.{Rule, first_broken}
@@ -37,7 +37,7 @@ past_values :
 unfolding lent_job part_rules
 past_values c =
     let s = (goal.at.In_ok-judge_values c).Start in
-    passes (value_rules (job s).values) (rules_of s parts.after_values) (tt, tt) (rw c.values.ensures at c.in_ok-judge_values.ensures)
+    passes (value_rules (job s).values) (rules_of s parts.after_values) (tt, tt) (c.in_ok-judge_values.ensures ∙ ap (λ l. first_broken (value_rules l)) c.values.ensures)
 
 past_categories :
     (c : In_ok-judge_categories) → let s = (goal.at.In_ok-judge_categories c).Start in
@@ -83,7 +83,7 @@ returns-in_err-judge_values c =
     let s = (goal.at.returns-in_err-judge_values c).Start in
     let e = c.in_err-judge_values in
     let same : number_of c.from_residual.result ≡ number_by e.field-0.0 = search rules in
-    same ∙ stops (value_rules (job s).values) (rules_of s parts.after_values) e.field-0.0 (rw c.values.ensures at e.ensures)
+    same ∙ stops (value_rules (job s).values) (rules_of s parts.after_values) e.field-0.0 (e.ensures ∙ ap (λ l. first_broken (value_rules l)) c.values.ensures)
 
 pub returns-in_err-judge_categories : goal.returns-in_err-judge_categories
 unfolding lent_job
