@@ -33,7 +33,7 @@ fn put_digits(n: u64, text: &mut [u8])
     text.reverse();
 }
 
-// Puts a whole number in decimal at the start of `text`, and answers how many bytes it has.
+// Puts a whole number in decimal at the start of `text`, and answers how many bytes it has: a public signature stays, by a rule of the project.
 #[tactic(auto, using(crate::proofs::DecimalDigits::written))]
 pub fn decimal(number: i64, text: &mut [u8; 20]) -> usize
     ensures length { result ≡ length (decimal number) }
