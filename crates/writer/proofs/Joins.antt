@@ -54,9 +54,6 @@ module _ (n : ℕ) where
   pub joins_few : (weights : List ℕ) → length (joins_of n weights) ≤ length weights
   joins_few weights = from_few 0 weights
 
-  joins_split : (a b : List ℕ) → joins_of n (a ++ b) ≡ joins_of n a ++ joins_from n (length a) b
-  joins_split a b = joins_both 0 a b ∙ ap (λ k. joins_of n a ++ joins_from n k b) {x = 0 + length a} {y = length a} (omega arith)
-
   -- one for each weight above 0, wherever they stand
   anywhere : (p q : ℕ) (weights : List ℕ) → length (joins_from n p weights) ≡ length (joins_from n q weights)
   unfolding joins_from
