@@ -123,7 +123,8 @@ pub(super) fn nine_together(rows: &[i64; 27]) -> (i64, i64)
     (weight, squares)
 }
 
-// The class account of n zones, and the sums of them all: the rows give their W and G, the job's own numerators their P.
+// What is stored goes to three lists of the caller's, here as above: that each has its room is a clause of each function, since n is the
+// job's. The class account of n zones, and the sums of them all: the rows give their W and G, the job's own numerators their P.
 pub(super) fn zone_classes(
     lists: &ClassLists,
     rows: &mut [i64; 27],

@@ -1,5 +1,6 @@
 // The judges: each answers the first broken rule's refusal. A judge of 6 and 7 must find the zones kept, and puts them into room of its
-// caller's, so that they are found once in a call: where nothing is refused it answers the job with them.
+// caller's, so that they are found once in a call: where nothing is refused it answers the job with them, and each judge says that it is
+// the job which was lent. n and the lists go one by one until they are judged: a struct of them would have nothing to say before.
 ghost use Rattle.std.specs.Prelude.{◌≡◌, [], ◌∷◌, ◌*◌, ◌≤◌, eqb, length, IfOk};
 ghost use Rattle.whole.specs.Integer.{is_zero};
 ghost use Rattle.whole.specs.Rules.{first_broken};

@@ -10,7 +10,7 @@ use crate::lists::{self, JobLists, ShuffleRow, ShuffleRows};
 // A job with the zones that are kept of it, rising.
 #[derive(Clone, Copy)]
 pub(super) struct KeptLists<'a> {
-    pub(super) job: JobLists<'a, 'a>,
+    pub(super) job: JobLists<'a>,
     pub(super) zones: &'a [u8],
     ghost kept: { zones.now ≡ kept_zones job.n job.weights.now },
     ghost rising: { Zones zones.now job.n },
@@ -60,8 +60,8 @@ impl KeptLists<'_> {
         requires { length places.old ≡ self.now.job.n }
         ensures { places.new ≡ table (place_in self.now.zones.now) self.now.job.n }
     {
-        // `get` finds nothing at their number: an Option for each zone would be matched only to make that same test.
-        // From a usize, twice: TryFrom and an unwrap is no plainer, and a place is at most 64
+        // The number of zones kept stands for no place: `get` finds nothing there, and an Option for each zone would be matched to the same
+        // end. no From leads here from a usize, twice; TryFrom and an unwrap is no plainer, and a place is at most 64
         places.fill(self.zones.len() as u8);
         for (k, zone) in self.zones.iter().enumerate() {
             places[usize::from(*zone)] = k as u8;

@@ -1,5 +1,6 @@
 // The work on a job that was judged and accepted: its zones kept are worked as zones all of which count. Where every zone is kept that is
-// the job as it was lent. Else their lists are gathered first, and what belongs to a zone is put back at it.
+// the job as it was lent. Else their lists are gathered first, and what belongs to a zone is put back at it. Each function tells the two by
+// one test, and no function does it for all, since what is worked on the gathered lists differs.
 ghost use Rattle.std.specs.Prelude.{◌≡◌, ◌*◌, length};
 ghost use Rattle.whole.specs.Table.{table};
 ghost use Rattle.kept.specs.Kept.{kept_count, kept_values, kept_pairs, kept_shuffles};
@@ -33,7 +34,7 @@ impl Room {
 // The job of the zones kept, and the place of each zone of the whole job among them.
 #[derive(Clone, Copy)]
 struct Gathered<'a> {
-    job: JobLists<'a, 'a>,
+    job: JobLists<'a>,
     places: &'a [u8],
 }
 

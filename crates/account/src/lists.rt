@@ -25,16 +25,16 @@ pub(super) struct Summed<'a> {
     ghost summed: { total ≡ total_of (at list.values.now) list.n },
 }
 
-// A job of n zones. Its lists are lent by a caller, who names no lifetime for both.
+// A job of n zones.
 #[derive(Clone, Copy)]
-pub(super) struct JobLists<'a, 'b> {
+pub(super) struct JobLists<'a> {
     pub(super) n: usize,
     pub(super) values: &'a [i32],
-    pub(super) weights: &'b [u8],
+    pub(super) weights: &'a [u8],
     ghost good: { Job values.now weights.now n },
 }
 
-impl JobLists<'_, '_> {
+impl JobLists<'_> {
     // Its values with their S.
     pub(super) fn summed(&self) -> Summed<'_>
         ensures n_value { result.list.n ≡ self.now.n }
@@ -52,7 +52,7 @@ impl JobLists<'_, '_> {
 // A job with the classes of its pairs.
 #[derive(Clone, Copy)]
 pub(super) struct ClassLists<'a> {
-    pub(super) job: JobLists<'a, 'a>,
+    pub(super) job: JobLists<'a>,
     pub(super) classes: &'a [u8],
     ghost good: { ClassJob job.values.now job.weights.now classes.now job.n },
 }

@@ -18,8 +18,8 @@ pub(super) fn ratio(p: i64, q: i64) -> f64
     nearest::nearest(p, q).unwrap()
 }
 
-// Moran and Geary of the sums of a job or of a class. n and the spread stand beside the row, and what is asked is of each row with them: a
-// struct would have to hold that of one row, and of nine.
+// Moran and Geary of the sums of a job or of a class. n and the spread stay two parameters: `Formable` is of them and a row, and a
+// struct would need one such fact for one row and another for nine.
 pub(super) fn pair(n: usize, spread: i64, row: ClassRow) -> Pair
     requires { Formable n spread row }
     ensures { result ≡ pair_of n spread row }

@@ -128,8 +128,6 @@ pub fn plain_report(
     )?;
     let places = 9 * n;
     let mut class_locals: [i64; 576] = [0; 576];
-    // The local figures of the classes get no place.
-    let mut space: [u64; 1] = [0; 1];
     working::report_sized(
         n,
         values,
@@ -139,6 +137,6 @@ pub fn plain_report(
         &mut class_locals[..places],
         locals,
         figures,
-        &mut space[..0],
+        &mut [], // the local figures of the classes get no place
     )
 }

@@ -44,8 +44,8 @@ pub(super) fn report_job(
 }
 
 // The report of a call whose n and whose lent lists were judged: the class account judges the rest. `parts` has places for the local
-// figures of the classes, or for the first of them, or for none. The lists go one by one, as the two calls are lent them: a struct of them would
-// be put together for this one call, and taken apart in it.
+// figures of the classes, or for the first of them, or for none. The lists go one by one, as the two calls are lent them: a struct of them
+// would be put together for this one call, and taken apart in it.
 pub(super) fn report_sized(
     n: usize,
     values: &[i32],

@@ -33,7 +33,8 @@ fn put_digits(n: u64, text: &mut [u8])
     text.reverse();
 }
 
-// Puts a whole number in decimal at the start of `text`, and answers how many bytes it has: a public signature stays, by a rule of the project.
+// Puts a whole number in decimal at the start of `text`, and answers how many bytes it has. The number and no
+// part of the text: that would keep the text lent, and is no plainer.
 #[tactic(auto, using(crate::proofs::DecimalDigits::written))]
 pub fn decimal(number: i64, text: &mut [u8; 20]) -> usize
     ensures length { result ≡ length (decimal number) }

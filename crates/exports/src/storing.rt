@@ -1,5 +1,6 @@
-// What the calls answer, into lent lists.
-// No NaN, at most 64 kept: asked wherever they go, for Pair and Sums are public, and a ghost field would ask it of all who make one.
+// What the calls answer, into lent lists. Each function asks for its list's length, which is judged with the others where the call begins:
+// an array would be unwrapped at each call, and is no plainer. That a figure is no NaN and that at most 64 zones are kept is asked by each
+// function: Pair and Sums are public, and a ghost field would ask it of all who make one.
 ghost use Rattle.std.specs.Prelude.{◌≡◌, [], ◌∷◌, ◌+◌, ◌*◌, ◌≤◌, ◌<◌, length, get_or};
 ghost use Rattle.whole.specs.Table.{table};
 ghost use Rattle.account.specs.Answers.{listed};

@@ -82,8 +82,8 @@ pub fn judge_shuffle_count(k: usize) -> Result<(), Refusal>
     judge_most(499, k)
 }
 
-// 2: a buffer not of its exact length.
-// Six lengths, and no struct of them: a public signature stays, by a rule of the project.
+// 2: a buffer not of its exact length. Six lengths, and no struct of lists: the reader is lent them to be written and the writer to be
+// read, and either would make one for this call.
 pub fn judge_lengths(
     values: usize,
     categories: usize,

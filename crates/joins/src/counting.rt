@@ -5,7 +5,7 @@ ghost use Rattle.joins.specs.Joins.{join_table};
 ghost use Rattle.joins.specs.Steps.{Counted};
 
 // The categories of n zones, and a row of n weights for each.
-// n stands beside the lists as the C interface lends it; that they are so long is what the ghost fields say.
+// n stands beside the lists, as every clause says by it what is counted: by the length of one of them each would be longer.
 #[derive(Clone, Copy)]
 pub(super) struct Zones<'a> {
     pub(super) n: usize,

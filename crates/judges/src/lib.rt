@@ -26,7 +26,7 @@ pub fn any_beyond(limit: u32, numbers: &[i32]) -> bool
     numbers.iter().any(|number| is_beyond(limit, *number))
 }
 
-// Whether some number is above the limit. Each is looked at; an `any`, which would end at the first, is no plainer: either is one chain.
+// Whether some number is above the limit. Each is looked at, also behind the first, as vector instructions look at several at a time.
 pub fn any_above(limit: u8, numbers: &[u8]) -> bool
     ensures { result ≡ any_above limit numbers.now }
 {

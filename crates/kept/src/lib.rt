@@ -49,8 +49,8 @@ pub fn mark(n: usize, weights: &[u8], marks: &mut [u8]) -> Result<(), Refusal>
     Ok(())
 }
 
-// Puts the weights that count into `counting`, which has n × n places: 0 in the row and in the column of a zone whose value is not returned.
-// Where n is outside 2 to 64 or a list has another length, `counting` is left as it was.
+// Puts the weights that count into `counting`, which has n × n places: 0 in the row and in the column of a zone whose value is not
+// returned. Where n is outside 2 to 64 or a list has another length, `counting` is left as it was.
 pub fn reduce(n: usize, values: &[i32], weights: &[u8], counting: &mut [u8]) -> Result<(), Refusal>
     ensures number { number_of result ≡ reduce_refusal n values.now weights.now counting.old }
     ensures lent { counting.new ≡ reduce_left n values.now weights.now counting.old }

@@ -46,8 +46,8 @@ impl Weights<'_> {
     }
 }
 
-// Marks each zone whose column holds weight in the row, and leaves the other marks. A mark is a byte, here and in every list of marks, as the
-// public list of `mark` has it.
+// Marks each zone whose column holds weight in the row, and leaves the other marks. A mark is a byte: the public list of `mark` has it so,
+// and docs/PERFORMANCE.md says what marks of bool cost.
 fn mark_row(row: &[u8], marks: &mut [u8])
     requires { length row.now ≡ length marks.old }
     ensures { marks.new

@@ -15,7 +15,8 @@ pub struct Divisor {
     pub doublings: u64,
 }
 
-// A quotient's whole part and rest. What was divided had been doubled some times, and so often must the quotient be halved.
+// A quotient's whole part and rest. What was divided had been doubled some times, and so often must the quotient be halved. The divisor
+// stands beside it, with what is asked of both: as a field it would have to be said of each step that it stays.
 #[derive(Clone, Copy)]
 pub struct Quotient {
     pub whole: u64,

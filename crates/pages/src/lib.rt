@@ -1,6 +1,6 @@
 // Text into a page, which is a list of bytes. Each call is told the place to begin at and answers the place behind what it has put. What
-// does not fit is left out, and a place beyond the page's end is its end. Page and place stand side by side: the calls are public, and a struct
-// of both would ask each caller to make one.
+// does not fit is left out, and a place beyond the page's end is its end. Page and place stand side by side: the calls are public, and a
+// struct of both would ask each caller to make one.
 #![tactic(auto)]
 
 ghost use Rattle.std.specs.Prelude.{◌≡◌, [], ◌∷◌, ◌++◌, ◌*◌, ◌≤◌, length};

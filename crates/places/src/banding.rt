@@ -24,7 +24,8 @@ fn band_class(bands: &[u32], distance: i64) -> u8
         .map_or(0, |k| k as u8 + 1) // no From leads here from a usize; TryFrom and an unwrap is no plainer
 }
 
-// The class of each pair, 0 on the diagonal. The p-th pair is zone p / n and zone p % n.
+// The class of each pair, 0 on the diagonal. The p-th pair is zone p / n and zone p % n: one walk over the list that is written, of whose
+// rows, lent by `chunks_exact_mut`, no proof would know what was written.
 pub(super) fn class_pairs(zones: &ZonePlaces, bands: &[u32], classes: &mut [u8])
     requires bands_len_bound { length bands.now ≤ 8 }
     requires classes_len { length classes.old ≡ length zones.now.zones.now * length zones.now.zones.now }

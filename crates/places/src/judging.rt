@@ -20,8 +20,8 @@ fn any_at_one_place(zones: &[[i32; 2]]) -> bool
         .any(|(a, zone)| zones[..a].contains(zone))
 }
 
-// 1, 2, 10 and 11: the zones of the places, or the Gabriel network's refusal. What the lent entries hold is not judged, so their number is
-// all that is asked for.
+// 1, 2, 10 and 11: the zones of the places, or the refusal that the network and the bands share. What the lent entries hold is not judged,
+// so their number is all that is asked for.
 pub(super) fn judge_places(n: usize, places: &[i32], room: usize) -> Result<ZonePlaces<'_>, Refusal>
     ensures number { number_of result ≡ first_broken (call_rules n places.now room []) }
     ensures zones { IfOk result (λ judged. coordinates judged.zones.now ≡ places.now) }

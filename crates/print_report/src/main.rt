@@ -19,8 +19,7 @@ fn input_room() -> [u8; 44909]
 }
 
 // The text of an image at the front of the page, and its length: its report, or `refused` and the number.
-fn print_text(image: &[u8], page: &mut [u8]) -> usize
-    requires { length page.old ≡ 16384 }
+fn print_text(image: &[u8], page: &mut [u8; 16384]) -> usize
     ensures upper_bound { result ≤ length page.new }
     ensures page_after { take result page.new ≡ report_text image.now }
 {
@@ -31,8 +30,7 @@ fn print_text(image: &[u8], page: &mut [u8]) -> usize
 }
 
 // The line of a refusal at the front of the page, and its length.
-fn print_refusal(refusal: Refusal, page: &mut [u8]) -> usize
-    requires { length page.old ≡ 16384 }
+fn print_refusal(refusal: Refusal, page: &mut [u8; 16384]) -> usize
     ensures upper_bound { result ≤ length page.new }
     ensures page_after { take result page.new ≡ refusal_line (number_by refusal) }
 {

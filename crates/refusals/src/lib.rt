@@ -29,13 +29,13 @@ pub enum Refusal {
     Coordinate = 10,
     // two zones at one place
     Place = 11,
-    // bands that do not rise, or too many, or too few, or without places
+    // bands that do not rise from above 0, or too many, or too few, or without places
     Bands = 12,
     // a shuffle that lacks some zone number
     Shuffle = 13,
     // the image ends inside a section or its count
     Cut = 14,
-    // another count not allowed in an image
+    // a count in an image that neither 1 nor 12 is about
     Count = 15,
     // joins that do not rise, or an end not below n
     Joins = 16,
@@ -52,6 +52,7 @@ pub enum Refusal {
 pub fn number_by(refusal: Refusal) -> u8
     ensures { result ≡ number_by refusal }
 {
+    // no From leads from an enum to its number
     refusal as u8
 }
 

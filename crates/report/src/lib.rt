@@ -29,7 +29,8 @@ pub fn report(image: &[u8], page: &mut [u8]) -> Result<usize, Refusal>
 }
 
 // Puts the line of an image that is refused by that number, `refused` and the number, at the front of such a page, and answers its length.
-// Where the page has another length it is left as it was. A `Refusal` in place of the number would ask more of callers than before.
+// Where the page has another length it is left as it was. With a `Refusal` a caller could no longer pass
+// any number, and a public parameter stays.
 pub fn refusal(number: u8, page: &mut [u8]) -> Result<usize, Refusal>
     ensures number { number_of result ≡ line_refusal page.old }
     ensures length { length_in result ≡ line_length number page.old }

@@ -20,8 +20,8 @@ pub(super) struct Zones<'a> {
     ghost zoned: { Zoned (length locals.now) (length weights.now) (length figures.now) },
 }
 
-// The number of zones kept, S, M, then W P G.
-// No NaN, at most 64 kept: asked wherever they go, for Pair and Sums are public, and a ghost field would ask it of all who make one.
+// The number of zones kept, S, M, then W P G. That a figure is no NaN and that at most 64 zones are kept is asked by each function: Pair
+// and Sums are public, and a ghost field would ask it of all who make one.
 pub(super) fn put_sums(page: &mut [u8], at: usize, sums: Sums) -> usize
     requires kept_bound { sums.kept ≤ 64 }
     requires room { Room page.old at 192 }
@@ -81,7 +81,7 @@ pub(super) fn put_ratios(page: &mut [u8], at: usize, whole: Whole) -> usize
     putting::put_line(page, end, &expected)
 }
 
-// The zones in that order, each with its local numerator, M and its local Moran.
+// The zones in the order given, each with its local numerator, M and its local Moran.
 pub(super) fn put_zones(
     page: &mut [u8],
     at: usize,

@@ -5,8 +5,9 @@ ghost use Rattle.whole.specs.Search.{some};
 ghost use Rattle.whole.specs.Table.{table, pair_at};
 ghost use Rattle.shuffles.specs.Steps.{mark_of};
 
-// Marks each number that the row names. There is a mark for each byte, so that no number has to be looked at before it is marked.
-fn mark(row: &[u8], named: &mut [u8])
+// Marks each number that the row names. There is a mark for each byte, so that no number has to be looked at before it is marked,
+// and a mark is a byte, as docs/PERFORMANCE.md says what marks of bool cost.
+fn mark(row: &[u8], named: &mut [u8; 256])
     requires { named.old ≡ table (λ k. 0) 256 }
     ensures { named.new
         ≡ table (λ k. mark_of (some (λ i. eqb (get_or row.now i 0) k) (length row.now))) 256 }

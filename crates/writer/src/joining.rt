@@ -11,7 +11,8 @@ use crate::lists::Table;
 use crate::putting::Out;
 use refusals::Refusal;
 
-// The first number of a table of weights, row by row: 5 before 4 at each weight.
+// The first number of a table of weights, row by row: 5 before 4 at each weight. The p-th weight is that of zone p / n to zone p % n: one
+// walk, as the rules are listed.
 pub(super) fn judge_weights(table: &Table) -> Result<(), Refusal>
     ensures { number_of result
         ≡ first_broken (in_turn (weight_rules table.now.n table.now.weights.now) (table.now.n * table.now.n)) }
@@ -66,6 +67,7 @@ pub(super) fn put_joins(out: &mut Out, table: &Table)
     ensures { Puts out.old (each join_bytes (joins_of table.now.n table.now.weights.now)) out.new }
 {
     let Table { n, weights } = *table;
+    // cut by place: `chunks_exact` is no plainer, as it must be shown that n is above 0 and that nothing is left over
     for from in 0..n {
         put_row(out, from, &weights[from * n..from * n + n]);
     }
