@@ -2,6 +2,7 @@
 // answers the number of the refusal, 0 where none applies, since C has no Result, and its figures go to lent lists; a thin layer above the
 // calls of the other crates, which relies on their promises alone. include/dca.h says the same to a programmer in C.
 // A call that does more than hand its lists on has a second function beside it, `.._into`, for `?` wants a function that answers a Result.
+// Where one list alone is judged by its length it is one `if`: a function for it would be as long at the call, and is no plainer.
 #![tactic(auto)]
 
 mod floats;
