@@ -75,6 +75,7 @@ pub(super) fn zone_rank(job: &JobLists, shuffles: &ShuffleRows) -> Counts
 {
     let JobLists { n, weights, .. } = *job;
     let summed = job.summed();
+    // d has its room here, as where the sums are worked: a function for both would have to be lent it, and is no plainer
     let mut d: [i64; 64] = [0; 64];
     deviations::deviations(&summed, &mut d[..n]);
     let weighed = Weighed {
