@@ -1,15 +1,16 @@
 // The judge of a job that is to be written: 1, then 2, then its parts in the image's order, a count before its items, then 6 and 7.
 ghost use Rattle.std.specs.Prelude.{◌≡◌, ◌∷◌, ◌*◌, take};
-ghost use Rattle.whole.specs.Rules.{first_broken};
+ghost use Rattle.whole.specs.Rules.{first_broken, in_turn};
 ghost use Rattle.refusals.specs.Refusals.{number_of};
 ghost use Rattle.places.specs.Places.{places_in_turn};
+ghost use Rattle.image.specs.Joins.{weight_rules};
 ghost use Rattle.image.specs.Image.{none_or_all_rule, band_count_rule, shuffle_count_rule};
 ghost use Rattle.image.specs.Image.{category_rules, band_rules, shuffle_rules};
 ghost use Rattle.image.specs.Writer.{listed, lent_job, part_rules};
 ghost use Rattle.writer.specs.Steps.{judged_rules};
 
 use crate::joining;
-use crate::lists::SizedLists;
+use crate::lists::{SizedLists, Table};
 use image::{Given, Lists};
 use refusals::Refusal;
 
@@ -21,6 +22,18 @@ fn judge_categories(job: &SizedLists) -> Result<(), Refusal>
 {
     image::judge_none_or_all(job.given.values, job.given.categories)?;
     judges::judge_categories(job.categories())
+}
+
+// 5 and 4: the weights. Which of them comes first, row by row, is asked only where a search of the table finds one: asked of each, a write takes
+// half as long again (docs/PERFORMANCE.md).
+fn judge_weights(table: &Table) -> Result<(), Refusal>
+    ensures { number_of result
+        ≡ first_broken (in_turn (weight_rules table.now.n table.now.weights.now) (table.now.n * table.now.n)) }
+{
+    if judges::any_above(9, table.weights) || judges::any_on_diagonal(table.n, table.weights) {
+        return joining::judge_weights(table);
+    }
+    Ok(())
 }
 
 // 15, 10 and 11: the places.
@@ -63,7 +76,7 @@ fn judge_parts(job: &SizedLists) -> Result<(), Refusal>
 {
     judges::judge_values(job.values())?;
     judge_categories(job)?;
-    joining::judge_weights(&job.table())?;
+    judge_weights(&job.table())?;
     judge_places(job)?;
     judge_bands(job)?;
     judge_shuffles(job)
