@@ -1,10 +1,11 @@
 -- The class account: each ordered pair has a class 0 to 8, 0 being unclassed. For each class, W, P, G and L(i) are taken over its pairs
--- only; d and M stay those of the whole job, and all are taken over the zones kept. Assumes nothing.
+-- only; d and M stay those of the whole job, and all are taken over the zones kept, by the weights that count. Assumes nothing.
 use Rattle.std.specs.Prelude.{cond, List, [], ◌∷◌, ℕ, zero, suc, ◌+◌, ◌*◌, eqb, ℤ, length}
 use Rattle.whole.specs.Rules.{Rule, first_broken, unless_refused}
 use Rattle.whole.specs.Search.{any_above}
 use Rattle.whole.specs.Table.{table_rows, at, pair_at}
 use Rattle.kept.specs.Kept.{kept_count, kept_values, kept_pairs, put_back}
+use Rattle.kept.specs.Returned.{reduced}
 use Rattle.account.specs.Measures.{deviation_of, local_of}
 use Rattle.account.specs.Answers.{class_row, job_figures, job_locals}
 use Rattle.account.specs.Refusals.{call_rules}
@@ -26,17 +27,18 @@ zones_class_local n values weights classes k i = local_of (class_weight weights 
 
 -- ---- of a job: what holds of the zones kept
 module _ (n : ℕ) (values : List ℤ) (weights classes : List ℕ) where
+  -- the weights that count
+  abbrev w : List ℕ
+  w = reduced n values weights
+
   -- the class row of class k
   unfoldable pub class_row_of : ℕ → ClassRow
-  class_row_of k =
-      zones_class_row (kept_count n weights) (kept_values n weights values) (kept_pairs n weights weights) (kept_pairs n weights classes) k
+  class_row_of k = zones_class_row (kept_count n w) (kept_values n w values) (kept_pairs n w w) (kept_pairs n w classes) k
 
   -- the local numerator L(i) of class k, 0 at a zone left out
   unfoldable pub class_local_of : ℕ → ℕ → ℤ
   class_local_of k i =
-      put_back n weights
-      (zones_class_local (kept_count n weights) (kept_values n weights values) (kept_pairs n weights weights) (kept_pairs n weights classes) k)
-      i
+      put_back n w (zones_class_local (kept_count n w) (kept_values n w values) (kept_pairs n w w) (kept_pairs n w classes) k) i
 
 -- ---- in lists
 
@@ -76,7 +78,7 @@ module _ (n : ℕ) (values : List ℤ) (weights classes : List ℕ) (rows of_cla
   unfoldable pub class_refusal : ℕ
   class_refusal = first_broken (class_rules n values weights classes (class_lengths n (length rows) (length of_classes) (length own)))
 
-  -- S, M, W, P, G of the whole job and the number of zones kept, which the call answers
+  -- the seven figures of the whole job, which the call answers
   unfoldable pub class_account_figures : List ℤ
   class_account_figures = unless_refused class_refusal (job_figures n values weights) []
 

@@ -1,6 +1,6 @@
 -- The rank of a job: how many shuffles of its values have a P less than, equal to and greater than its own. The job itself is not counted.
--- A list of shuffles has a row of n zone numbers for each. A shuffle acts on the zones kept: in order they take its kept numbers. Assumes
--- nothing.
+-- A list of shuffles has a row of n zone numbers for each. A shuffle acts on the zones kept, by the weights that count: in order they
+-- take its kept numbers. Assumes nothing.
 use Rattle.std.specs.Prelude.{List, [], ◌∷◌, ℕ, ◌*◌, ℤ, length, Result, Ok, Err}
 use Rattle.std.specs.Int.Signed.{lt_z}
 use Rattle.whole.specs.Integer.{equal}
@@ -9,6 +9,7 @@ use Rattle.whole.specs.Search.{count}
 use Rattle.whole.specs.Table.{at, pair_at}
 use Rattle.refusals.specs.declared.Refusal.{Refusal}
 use Rattle.kept.specs.Kept.{kept_count, kept_values, kept_pairs, kept_shuffles}
+use Rattle.kept.specs.Returned.{reduced}
 use Rattle.shuffles.specs.Shuffles.{shuffle_count, any_lacking}
 use Rattle.account.specs.Measures.{deviation_of, cross_of}
 use Rattle.account.specs.Refusals.{call_rules}
@@ -43,8 +44,8 @@ zones_rank rows n values weights shuffles = compared (shuffle_cross n values wei
 unfoldable pub job_rank : ℕ → List ℤ → List ℕ → List ℕ → List ℕ
 job_rank n values weights shuffles =
     let rows = shuffle_count n (length shuffles) in
-    zones_rank rows (kept_count n weights) (kept_values n weights values) (kept_pairs n weights weights)
-    (kept_shuffles n weights rows shuffles)
+    let w = reduced n values weights in
+    zones_rank rows (kept_count n w) (kept_values n w values) (kept_pairs n w w) (kept_shuffles n w rows shuffles)
 
 -- ---- what is refused
 

@@ -3,24 +3,28 @@
 use Rattle.std.specs.Prelude.{List, [], ◌∷◌, ◌++◌, ℕ, ◌*◌, ℤ, length}
 use Rattle.whole.specs.Integer.{is_zero}
 use Rattle.whole.specs.Rules.{Rule, first_broken, size_rules}
-use Rattle.whole.specs.Search.{any_beyond, any_above, any_on_diagonal}
+use Rattle.whole.specs.Search.{any_above, any_on_diagonal}
 use Rattle.whole.specs.Table.{at, pair_at}
+use Rattle.judges.specs.Values.{any_value_beyond}
 use Rattle.kept.specs.Kept.{kept_count, kept_values}
+use Rattle.kept.specs.Returned.{reduced}
 use Rattle.account.specs.Measures.{weight_of, spread_of}
 
 -- ---- a job's own rules
 
--- 3, 4 and 5: the values and the weights, of every zone
+-- 3, 4 and 5: the values that are returned, and the weights as they are lent
 abbrev pub list_rules : ℕ → List ℤ → List ℕ → List Rule
-list_rules n values weights = (any_beyond 100000 values, 3) ∷ (any_above 9 weights, 4) ∷ (any_on_diagonal n weights, 5) ∷ []
+list_rules n values weights = (any_value_beyond values, 3) ∷ (any_above 9 weights, 4) ∷ (any_on_diagonal n weights, 5) ∷ []
 
 -- the spread M of a job: over the zones kept
 unfoldable pub job_spread : ℕ → List ℤ → List ℕ → ℤ
-job_spread n values weights = spread_of (at (kept_values n weights values)) (kept_count n weights)
+job_spread n values weights =
+    let w = reduced n values weights in spread_of (at (kept_values n w values)) (kept_count n w)
 
--- 6 and 7: W and M
+-- 6 and 7: W, by the weights that count, and M
 abbrev pub sum_rules : ℕ → List ℤ → List ℕ → List Rule
-sum_rules n values weights = (is_zero (weight_of (pair_at weights n) n), 6) ∷ (is_zero (job_spread n values weights), 7) ∷ []
+sum_rules n values weights =
+    (is_zero (weight_of (pair_at (reduced n values weights) n) n), 6) ∷ (is_zero (job_spread n values weights), 7) ∷ []
 
 -- 3 to 7
 unfoldable pub job_rules : ℕ → List ℤ → List ℕ → List Rule

@@ -1,14 +1,16 @@
 -- What the private functions ask of each other; no part of the public promise. Assumes nothing.
-use Rattle.std.specs.Prelude.{◌≡◌, cond, List, ℕ, zero, suc, ◌+◌, ◌*◌, ◌≤◌, ◌<◌, eqb, ltb, ℤ, pos, nat_abs, ◌+ℤ◌, ◌-ℤ◌, length, get_or}
+use Rattle.std.specs.Prelude.{◌≡◌, false, cond, List, ℕ, zero, suc, ◌+◌, ◌*◌, ◌≤◌, ◌<◌, eqb, ltb, ℤ, pos, nat_abs, ◌+ℤ◌, ◌-ℤ◌, length, get_or}
 use Rattle.whole.specs.Integer.{square}
 use Rattle.whole.specs.Search.{first}
 use Rattle.whole.specs.Sum.{sum}
 use Rattle.whole.specs.Table.{table, table_rows, at, pair_at}
-use Rattle.kept.specs.Kept.{passing}
+use Rattle.judges.specs.Values.{any_value_beyond}
+use Rattle.kept.specs.Kept.{passing, kept_count, kept_values, kept_pairs, kept_shuffles}
+use Rattle.kept.specs.Returned.{reduced}
 use Rattle.account.specs.Measures.{deviation_of, row_of, cross_of, local_of}
 use Rattle.account.specs.Answers.{zones_local}
 use Rattle.account.specs.Classes.{class_weight, zones_class_row, zones_class_local, sum_at}
-use Rattle.account.specs.Rank.{shuffled}
+use Rattle.account.specs.Rank.{shuffled, zones_rank}
 use Rattle.account.specs.declared.ClassRow.{ClassRow}
 
 -- the most that a local numerator of a job can be in size
@@ -36,11 +38,21 @@ pub record Job (values : List ℤ) (weights : List ℕ) (n : ℕ) : Type 0 where
   pub valued : Valued values n
   pub weighted : Weighted weights n
 
--- both, with the classes of the pairs, each at most 8
-pub record ClassJob (values : List ℤ) (weights classes : List ℕ) (n : ℕ) : Type 0 where
-  pub job : Job values weights n
+-- classes of the pairs of n zones, each at most 8
+pub record Classed (classes : List ℕ) (n : ℕ) : Type 0 where
   pub count : length classes ≡ n * n
   pub low : (k : ℕ) → k < n * n → get_or classes k 0 ≤ 8
+
+-- a job with such classes
+pub record ClassJob (values : List ℤ) (weights classes : List ℕ) (n : ℕ) : Type 0 where
+  pub job : Job values weights n
+  pub classed : Classed classes n
+
+-- the lists of a job as they are lent, in which 3 and 4 hold: a value that is not returned has no limit
+pub record Lent (values : List ℤ) (weights : List ℕ) (n : ℕ) : Type 0 where
+  pub count : length values ≡ n
+  pub near : any_value_beyond values ≡ false
+  pub weighted : Weighted weights n
 
 -- ---- the zones kept, as the code has them: a list of zones below n, rising
 pub record Zones (zones : List ℕ) (n : ℕ) : Type 0 where
@@ -127,6 +139,12 @@ pub record Owned (n : ℕ) (values : List ℤ) (weights : List ℕ) (zones : ℕ
   pub numerators : (i : ℕ) → i < zones → at locals i ≡ local_of (pair_at weights n) (deviation_of (at values) n) n i
 
 -- ---- the shuffles
+
+-- so many of them counted, of a job: over the zones kept
+abbrev pub ranked : ℕ → List ℤ → List ℕ → ℕ → List ℕ → List ℕ
+ranked n values weights rows shuffles =
+    let w = reduced n values weights in
+    zones_rank rows (kept_count n w) (kept_values n w values) (kept_pairs n w w) (kept_shuffles n w rows shuffles)
 
 -- the P of the deviations that a list holds, and of those that the zones take in shuffle r
 abbrev pub cross_held : List ℕ → ℕ → List ℤ → ℤ

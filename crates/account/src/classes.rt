@@ -1,5 +1,5 @@
 // The class account's work on zones all of which count: one pass over their pairs, each added to the sums of its own class.
-ghost use Rattle.std.specs.Prelude.{◌≡◌, ℕ, ◌*◌, ◌+◌, ◌≤◌, ◌<◌, pos, nat_abs, length};
+ghost use Rattle.std.specs.Prelude.{◌≡◌, [], ◌∷◌, ◌++◌, ℕ, ◌*◌, ◌+◌, ◌≤◌, ◌<◌, pos, nat_abs, length};
 ghost use Rattle.whole.specs.Sum.{sum};
 ghost use Rattle.whole.specs.Table.{table_rows};
 ghost use Rattle.account.specs.Answers.{listed, zones_figures};
@@ -124,16 +124,19 @@ pub(super) fn nine_together(rows: &[i64; 27]) -> (i64, i64)
 }
 
 // What is stored goes to three lists of the caller's, here as above: that each has its room is a clause of each function, since n is the
-// job's. The class account of n zones, and the sums of them all: the rows give their W and G, the job's own numerators their P.
+// job's. The class account of n zones, and the sums of them all, where so many values of the whole job are not returned: the rows give their
+// W and G, the job's own numerators their P.
 pub(super) fn zone_classes(
     lists: &ClassLists,
+    missing: usize,
     rows: &mut [i64; 27],
     class_locals: &mut [i64],
     locals: &mut [i64],
 ) -> Sums
     requires class_locals_len { length class_locals.old ≡ 9 * lists.now.job.n }
     requires locals_len { length locals.old ≡ lists.now.job.n }
-    ensures result_value { listed result ≡ zones_figures lists.now.job.n lists.now.job.values.now lists.now.job.weights.now }
+    ensures result_value { listed result
+        ≡ zones_figures lists.now.job.n lists.now.job.values.now lists.now.job.weights.now ++ (pos missing ∷ []) }
     ensures rows_after { rows.new ≡ zones_class_sums lists.now.job.n lists.now.job.values.now lists.now.job.weights.now
         lists.now.classes.now }
     ensures class_locals_after { class_locals.new
@@ -159,5 +162,6 @@ pub(super) fn zone_classes(
         cross,
         squares,
         kept: n,
+        missing,
     }
 }

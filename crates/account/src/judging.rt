@@ -13,7 +13,7 @@ ghost use Rattle.account.specs.Rank.{rank_refusal};
 ghost use Rattle.account.specs.Steps.{gathered, Judged};
 
 use crate::keeping::KeptLists;
-use crate::lists::{JobLists, Summed, ZoneValues};
+use crate::lists::{LentLists, Summed, ZoneValues};
 use crate::{deviations, differences};
 use judges::Places;
 use refusals::Refusal;
@@ -49,7 +49,7 @@ pub(super) fn judge_sums(kept: &KeptLists) -> Result<(), Refusal>
         ∷ []) }
 {
     let KeptLists { job, zones } = *kept;
-    let JobLists { n, values, .. } = job;
+    let LentLists { n, values, .. } = job;
     let many = zones.len();
     if many == 0 {
         return Err(Refusal::Weightless);
@@ -81,9 +81,9 @@ pub(super) fn judge_job<'a>(
     ensures job { IfOk result (λ kept. Judged n values.now weights.now kept.job.n kept.job.values.now kept.job.weights.now) }
 {
     judge_lists(n, values, weights)?;
-    let many = kept::keep(n, weights, zones)?;
+    let many = kept::keep(n, values, weights, zones)?;
     let kept = KeptLists {
-        job: JobLists { n, values, weights },
+        job: LentLists { n, values, weights },
         zones: &zones[..many],
     };
     judge_sums(&kept)?;

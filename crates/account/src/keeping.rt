@@ -3,16 +3,17 @@ ghost use Rattle.std.specs.Prelude.{◌≡◌, ◌*◌, ◌+◌, ◌≤◌, ◌<
 ghost use Rattle.whole.specs.Search.{count};
 ghost use Rattle.whole.specs.Table.{table, table_rows, at, pair_at};
 ghost use Rattle.kept.specs.Kept.{kept_zones};
+ghost use Rattle.kept.specs.Returned.{reduced};
 ghost use Rattle.account.specs.Steps.{Zones, gathered_pairs, place_in, at_place, placed_number};
 
-use crate::lists::{self, JobLists, ShuffleRow, ShuffleRows};
+use crate::lists::{self, JobLists, LentLists, ShuffleRow, ShuffleRows};
 
-// A job with the zones that are kept of it, rising.
+// The lists of a job with the zones that are kept of it, rising, by the weights that count. Weights between zones kept are those lent.
 #[derive(Clone, Copy)]
 pub(super) struct KeptLists<'a> {
-    pub(super) job: JobLists<'a>,
+    pub(super) job: LentLists<'a>,
     pub(super) zones: &'a [u8],
-    ghost kept: { zones.now ≡ kept_zones job.n job.weights.now },
+    ghost kept: { zones.now ≡ kept_zones job.n (reduced job.n job.values.now job.weights.now) },
     ghost rising: { Zones zones.now job.n },
 }
 
@@ -29,7 +30,18 @@ pub(super) fn pick<T: Copy>(list: &[T], numbers: &[u8], out: &mut [T])
     }
 }
 
-impl KeptLists<'_> {
+impl<'a> KeptLists<'a> {
+    // The job as it was lent, where every zone is kept: each value is returned then.
+    pub(super) fn whole(&self) -> JobLists<'a>
+        requires { length self.now.zones.now ≡ self.now.job.n }
+        ensures n { result.n ≡ self.now.job.n }
+        ensures values { result.values.now ≡ self.now.job.values.now }
+        ensures weights { result.weights.now ≡ self.now.job.weights.now }
+    {
+        let LentLists { n, values, weights } = self.job;
+        JobLists { n, values, weights }
+    }
+
     // What a list that has an entry for each zone holds of the zones kept.
     pub(super) fn gather<T: Copy>(&self, list: &[T], out: &mut [T])
         requires list_len { length list.now ≡ self.now.job.n }

@@ -3,11 +3,10 @@
 // one test, and no function does it for all, since what is worked on the gathered lists differs.
 ghost use Rattle.std.specs.Prelude.{◌≡◌, ◌*◌, length};
 ghost use Rattle.whole.specs.Table.{table};
-ghost use Rattle.kept.specs.Kept.{kept_count, kept_values, kept_pairs, kept_shuffles};
 ghost use Rattle.account.specs.Answers.{listed, job_figures, job_locals};
 ghost use Rattle.account.specs.Classes.{class_sums, class_locals_of};
-ghost use Rattle.account.specs.Rank.{zones_rank, three};
-ghost use Rattle.account.specs.Steps.{ClassJob, gathered, gathered_pairs, place_in};
+ghost use Rattle.account.specs.Rank.{three};
+ghost use Rattle.account.specs.Steps.{Classed, gathered, gathered_pairs, place_in, ranked};
 
 use crate::keeping::KeptLists;
 use crate::lists::{ClassLists, JobLists, ShuffleRows};
@@ -80,14 +79,15 @@ pub(super) fn job_sums(kept: &KeptLists, locals: &mut [i64]) -> Sums
         ≡ job_locals kept.now.job.n kept.now.job.values.now kept.now.job.weights.now }
 {
     let KeptLists { job, zones } = *kept;
+    let missing = kept::count_missing(job.values);
     if zones.len() == job.n {
-        return working::zone_sums(&job, locals);
+        return working::zone_sums(&kept.whole(), missing, locals);
     }
     let mut room = Room::new();
     let gathered = gather(kept, &mut room);
     let mut local_space: [i64; 64] = [0; 64];
     let kept_locals = &mut local_space[..gathered.job.n];
-    let sums = working::zone_sums(&gathered.job, kept_locals);
+    let sums = working::zone_sums(&gathered.job, missing, kept_locals);
     keeping::put_back(gathered.places, kept_locals, locals);
     sums
 }
@@ -100,7 +100,7 @@ pub(super) fn work_classes<'a>(
     class_locals: &mut [i64],
     locals: &mut [i64],
 ) -> Sums
-    requires classed { ClassJob kept.now.job.values.now kept.now.job.weights.now classes.now kept.now.job.n }
+    requires classed { Classed classes.now kept.now.job.n }
     requires class_locals_len { length class_locals.old ≡ 9 * kept.now.job.n }
     requires locals_len { length locals.old ≡ kept.now.job.n }
     ensures result_value { listed result
@@ -113,9 +113,13 @@ pub(super) fn work_classes<'a>(
         ≡ job_locals kept.now.job.n kept.now.job.values.now kept.now.job.weights.now }
 {
     let KeptLists { job, zones } = *kept;
+    let missing = kept::count_missing(job.values);
     if zones.len() == job.n {
-        let lists = ClassLists { job, classes };
-        return classes::zone_classes(&lists, rows, class_locals, locals);
+        let lists = ClassLists {
+            job: kept.whole(),
+            classes,
+        };
+        return classes::zone_classes(&lists, missing, rows, class_locals, locals);
     }
     let mut room = Room::new();
     let gathered = gather(kept, &mut room);
@@ -133,7 +137,7 @@ pub(super) fn work_classes<'a>(
         job: gathered.job,
         classes: kept_classes,
     };
-    let sums = classes::zone_classes(&lists, rows, kept_nine, kept_locals);
+    let sums = classes::zone_classes(&lists, missing, rows, kept_nine, kept_locals);
     keeping::put_back_rows(gathered.places, many, kept_nine, class_locals);
     keeping::put_back(gathered.places, kept_locals, locals);
     sums
@@ -143,14 +147,11 @@ pub(super) fn work_classes<'a>(
 pub(super) fn work_rank(kept: &KeptLists, shuffles: &ShuffleRows) -> Counts
     requires { shuffles.now.n ≡ kept.now.job.n }
     ensures { three result
-        ≡ zones_rank shuffles.now.rows (kept_count kept.now.job.n kept.now.job.weights.now)
-        (kept_values kept.now.job.n kept.now.job.weights.now kept.now.job.values.now)
-        (kept_pairs kept.now.job.n kept.now.job.weights.now kept.now.job.weights.now)
-        (kept_shuffles kept.now.job.n kept.now.job.weights.now shuffles.now.rows shuffles.now.shuffles.now) }
+        ≡ ranked kept.now.job.n kept.now.job.values.now kept.now.job.weights.now shuffles.now.rows shuffles.now.shuffles.now }
 {
     let KeptLists { job, zones } = *kept;
     if zones.len() == job.n {
-        return ranking::zone_rank(&job, shuffles);
+        return ranking::zone_rank(&kept.whole(), shuffles);
     }
     let mut room = Room::new();
     let gathered = gather(kept, &mut room);

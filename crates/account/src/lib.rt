@@ -1,6 +1,7 @@
 // The account of a job: values and weights give S, M, W, P, G, and the local numerators L(i) go to a lent list. The class account of a
 // job and its classes: the same, and W, P, G and the local numerators of each class go to two more. The rank of a job among shuffles of
-// its values. All of them are taken over the zones kept, those whose row or column of weights holds some weight.
+// its values. All of them are taken over the zones kept, those whose row or column holds some weight that counts: the weights of a zone
+// whose value is not returned count as 0.
 #![tactic(auto)]
 
 mod class_row;
@@ -43,6 +44,8 @@ pub struct Sums {
     pub squares: i64,
     // the number of zones kept, over which they are taken
     pub kept: usize,
+    // the number of values not returned
+    pub missing: usize,
 }
 
 // A class row: the three sums over the pairs of a class.

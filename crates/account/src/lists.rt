@@ -5,7 +5,7 @@ ghost use Rattle.whole.specs.Order.{lacks};
 ghost use Rattle.whole.specs.Table.{table, at};
 ghost use Rattle.shuffles.specs.Steps.{Shuffles};
 ghost use Rattle.account.specs.Measures.{total_of, deviation_of};
-ghost use Rattle.account.specs.Steps.{Sized, Valued, Weighted, Job, ClassJob};
+ghost use Rattle.account.specs.Steps.{Sized, Valued, Weighted, Job, Lent, ClassJob};
 
 use crate::deviations;
 
@@ -23,6 +23,15 @@ pub(super) struct Summed<'a> {
     pub(super) list: ZoneValues<'a>,
     pub(super) total: i64,
     ghost summed: { total ≡ total_of (at list.values.now) list.n },
+}
+
+// The lists of a job as they were lent: a value may be one that is not returned.
+#[derive(Clone, Copy)]
+pub(super) struct LentLists<'a> {
+    pub(super) n: usize,
+    pub(super) values: &'a [i32],
+    pub(super) weights: &'a [u8],
+    ghost good: { Lent values.now weights.now n },
 }
 
 // A job of n zones.

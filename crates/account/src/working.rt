@@ -1,5 +1,5 @@
 // The work on zones all of which count: the sums over their pairs, and all sums.
-ghost use Rattle.std.specs.Prelude.{◌≡◌, ◌≤◌, length, sum};
+ghost use Rattle.std.specs.Prelude.{◌≡◌, [], ◌∷◌, ◌++◌, ◌≤◌, pos, length, sum};
 ghost use Rattle.account.specs.Answers.{listed, zones_figures};
 ghost use Rattle.account.specs.Steps.{zones_locals};
 
@@ -14,10 +14,11 @@ fn weight_sum(weights: &[u8]) -> u32
     weights.iter().map(|weight| u32::from(*weight)).sum()
 }
 
-// The sums of n zones, with their local numerators in `locals`.
-pub(super) fn zone_sums(job: &JobLists, locals: &mut [i64]) -> Sums
+// The sums of n zones, with their local numerators in `locals`; so many values of the whole job are not returned.
+pub(super) fn zone_sums(job: &JobLists, missing: usize, locals: &mut [i64]) -> Sums
     requires { length locals.old ≡ job.now.n }
-    ensures result_value { listed result ≡ zones_figures job.now.n job.now.values.now job.now.weights.now }
+    ensures result_value { listed result
+        ≡ zones_figures job.now.n job.now.values.now job.now.weights.now ++ (pos missing ∷ []) }
     ensures locals_after { locals.new ≡ zones_locals job.now.n job.now.values.now job.now.weights.now }
 {
     let JobLists { n, weights, .. } = *job;
@@ -41,5 +42,6 @@ pub(super) fn zone_sums(job: &JobLists, locals: &mut [i64]) -> Sums
         cross,
         squares,
         kept: n,
+        missing,
     }
 }

@@ -1,2 +1,3 @@
 -- What a buyer must believe of the judges.
 pub mod Sizes
+pub mod Values

@@ -4,13 +4,15 @@
 
 mod lists;
 mod sizes;
+mod values;
 
 ghost use Rattle.std.specs.Prelude.{◌≡◌};
 ghost use Rattle.whole.specs.Integer.{beyond};
 ghost use Rattle.whole.specs.Search.{any_beyond, any_above, any_on_diagonal};
 
-pub use lists::{judge_categories, judge_values, judge_weights};
+pub use lists::{judge_categories, judge_weights};
 pub use sizes::{Places, judge_lent, judge_zones};
+pub use values::{is_missing, judge_values};
 
 // Whether a number is beyond the limit in size.
 fn is_beyond(limit: u32, number: i32) -> bool

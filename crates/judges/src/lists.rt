@@ -1,21 +1,11 @@
 // The rules of lent lists that more than one call judges by.
 ghost use Rattle.std.specs.Prelude.{◌≡◌, [], ◌∷◌};
 ghost use Rattle.whole.specs.Rules.{first_broken};
-ghost use Rattle.whole.specs.Search.{any_beyond, any_above, any_on_diagonal};
+ghost use Rattle.whole.specs.Search.{any_above, any_on_diagonal};
 ghost use Rattle.refusals.specs.Refusals.{number_of};
 
-use crate::{any_above, any_beyond, any_on_diagonal};
+use crate::{any_above, any_on_diagonal};
 use refusals::Refusal;
-
-// 3: a value beyond 100,000 in size.
-pub fn judge_values(values: &[i32]) -> Result<(), Refusal>
-    ensures { number_of result ≡ first_broken ((any_beyond 100000 values.now, 3) ∷ []) }
-{
-    if any_beyond(100000, values) {
-        return Err(Refusal::Value);
-    }
-    Ok(())
-}
 
 // 4 and 5: a weight above 9, then one on the diagonal.
 pub fn judge_weights(n: usize, weights: &[u8]) -> Result<(), Refusal>

@@ -18,7 +18,8 @@ use Rattle.whole.proofs.Search.{some_none, none_some, none_above, some_cong}
 use Rattle.whole.proofs.Counting.{count_le, count_less}
 use Rattle.whole.proofs.TableRows.{split, rows_length, rows_at, rows_each, rows_flat, rows_cong}
 use Rattle.kept.specs.Kept.{keeps, kept_count, kept_zone, kept_values, kept_pairs}
-use Rattle.kept.specs.Returned.{missing, missing_count, reduced, any_value_beyond}
+use Rattle.judges.specs.Values.{missing, any_value_beyond}
+use Rattle.kept.specs.Returned.{missing_count, reduced}
 use Rattle.kept.proofs.KeptZones.{zone_stands, values_at, keeps_all}
 
 -- ---- how many are missing
@@ -53,26 +54,21 @@ module _ (values : List ℤ) where
   missing_few = count_le (missing values) (length values)
 
   -- ---- rule 3 where it holds: a value that is returned is within the limit
-  within : (b : Bool) {c : Bool} → c ≡ false → (b && not c) ≡ false → b ≡ false
-  within true e f = absurd (false≢true (sym f ∙ rw e refl))
-  within false e f = refl
+  within : (b : Bool) {c : Bool} → c ≡ false → (not c && b) ≡ false → b ≡ false
+  within b e f = sym (rw e refl) ∙ f
 
   pub returned_near :
       any_value_beyond values ≡ false → (i : ℕ) → i < length values → missing values i ≡ false → nat_abs (at values i) ≤ 100000
   unfolding any_value_beyond
   returned_near e i h r =
-      let right = some_none (λ k. beyond 100000 (at values k) && not (missing values k)) (length values) i e h in
+      let right = some_none (λ k. not (missing values k) && beyond 100000 (at values k)) (length values) i e h in
       ltb-false 100000 (nat_abs (at values i)) (within (beyond 100000 (at values i)) r right)
 
   -- where every value is returned, it is document 01's
   pub same_limit :
       ((i : ℕ) → i < length values → missing values i ≡ false) → any_value_beyond values ≡ any_beyond 100000 values
   unfolding any_value_beyond any_beyond
-  same_limit none = some_cong _ _ (length values) (λ k h. rw (none k h) (and_true (beyond 100000 (at values k))))
-    where
-      and_true : (b : Bool) → (b && true) ≡ b
-      and_true true = refl
-      and_true false = refl
+  same_limit none = some_cong _ _ (length values) (λ k h. rw (none k h) refl)
 
 -- ---- the weights that count
 module _ (n : ℕ) (values : List ℤ) (weights : List ℕ) where

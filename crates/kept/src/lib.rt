@@ -1,4 +1,5 @@
-// The zones of a job that are kept: those whose row or column of weights holds some weight.
+// The zones of a job that are kept: those whose row or column of the weights that count holds some weight. The weights of a zone whose value
+// is not returned count as 0.
 #![tactic(auto)]
 
 mod keeping;
@@ -15,37 +16,51 @@ use judges::Places;
 use marking::Weights;
 use refusals::Refusal;
 
-// Of values not returned: whether one that is returned is beyond the limit, and how many there are. No other crate asks for these yet.
-pub use returned::{any_value_beyond, count_missing};
+// How many values are not returned.
+pub use returned::count_missing;
 
 // Puts the zones kept, rising, at the front of `zones`, which has 64 places, and answers how many they are. Where n is outside 2 to 64
 // or a list has another length, `zones` is left as it was.
-pub fn keep(n: usize, weights: &[u8], zones: &mut [u8]) -> Result<usize, Refusal>
-    ensures number { number_of result ≡ keep_refusal n weights.now zones.old }
-    ensures many { many_in result ≡ keep_many n weights.now zones.old }
-    ensures lent { zones.new ≡ keep_left n weights.now zones.old }
+pub fn keep(n: usize, values: &[i32], weights: &[u8], zones: &mut [u8]) -> Result<usize, Refusal>
+    ensures number { number_of result ≡ keep_refusal n values.now weights.now zones.old }
+    ensures many { many_in result ≡ keep_many n values.now weights.now zones.old }
+    ensures lent { zones.new ≡ keep_left n values.now weights.now zones.old }
 {
     judges::judge_lent(
         n,
         &[
+            (values.len(), Places::Zones),
             (weights.len(), Places::Pairs),
             (zones.len(), Places::Fixed(64)),
         ],
     )?;
-    Ok(keeping::put_kept(&Weights { n, rows: weights }, zones))
+    let lent = Weights { n, rows: weights };
+    if count_missing(values) > 0 {
+        return Ok(keeping::put_kept_counting(values, &lent, zones));
+    }
+    Ok(keeping::put_kept(&lent, zones))
 }
 
 // Puts a 1 for each zone that is kept and a 0 for each that is left out into `marks`, which has n places. Where n is outside 2 to 64 or a
 // list has another length, `marks` is left as it was.
-pub fn mark(n: usize, weights: &[u8], marks: &mut [u8]) -> Result<(), Refusal>
-    ensures number { number_of result ≡ marks_refusal n weights.now marks.old }
-    ensures lent { marks.new ≡ marks_left n weights.now marks.old }
+pub fn mark(n: usize, values: &[i32], weights: &[u8], marks: &mut [u8]) -> Result<(), Refusal>
+    ensures number { number_of result ≡ marks_refusal n values.now weights.now marks.old }
+    ensures lent { marks.new ≡ marks_left n values.now weights.now marks.old }
 {
     judges::judge_lent(
         n,
-        &[(weights.len(), Places::Pairs), (marks.len(), Places::Zones)],
+        &[
+            (values.len(), Places::Zones),
+            (weights.len(), Places::Pairs),
+            (marks.len(), Places::Zones),
+        ],
     )?;
-    keeping::put_marks(&Weights { n, rows: weights }, marks);
+    let lent = Weights { n, rows: weights };
+    if count_missing(values) > 0 {
+        keeping::put_marks_counting(values, &lent, marks);
+        return Ok(());
+    }
+    keeping::put_marks(&lent, marks);
     Ok(())
 }
 

@@ -1,34 +1,12 @@
-// Values not returned, which one value marks, and the weights that count: 0 in the row and in the column of a zone that has none.
-ghost use Rattle.std.specs.Prelude.{◌≡◌, not, cond, ◌&&◌, ◌||◌, ◌*◌, length, get_or};
-ghost use Rattle.whole.specs.Integer.{beyond, equal};
+// How many values are not returned, and the weights that count: 0 in the row and in the column of a zone that has none.
+ghost use Rattle.std.specs.Prelude.{◌≡◌, cond, ◌||◌, ◌*◌, length, get_or};
+ghost use Rattle.whole.specs.Integer.{equal};
 ghost use Rattle.whole.specs.Table.{table};
-ghost use Rattle.kept.specs.Returned.{not_returned, missing, missing_count, reduced, any_value_beyond};
+ghost use Rattle.judges.specs.Values.{not_returned, missing};
+ghost use Rattle.kept.specs.Returned.{missing_count, reduced};
 
 use crate::marking::Weights;
-
-// The value that marks a value not returned: a marking value and no Option, since document 02 has it stand among the values that C lends.
-const NOT_RETURNED: i32 = i32::MIN;
-
-// Whether a value is not returned.
-fn is_missing(value: i32) -> bool
-    ensures { result ≡ equal value not_returned }
-{
-    value == NOT_RETURNED
-}
-
-// Whether a value is returned and beyond 100,000 in size.
-fn value_beyond(value: i32) -> bool
-    ensures { result ≡ (beyond 100000 value && not (equal value not_returned)) }
-{
-    value.unsigned_abs() > 100000 && !is_missing(value)
-}
-
-// Whether some value that is returned is beyond 100,000 in size.
-pub fn any_value_beyond(values: &[i32]) -> bool
-    ensures { result ≡ any_value_beyond values.now }
-{
-    values.iter().any(|value| value_beyond(*value))
-}
+use judges::is_missing;
 
 // How many values are not returned.
 pub fn count_missing(values: &[i32]) -> usize
@@ -73,4 +51,20 @@ pub(super) fn reduce_rows(values: &[i32], weights: &Weights, counting: &mut [u8]
         let end = first + weights.n;
         reduce_row(*own, values, weights.row(i), &mut counting[first..end]);
     }
+}
+
+// The weights that count, in room that is lent.
+pub(super) fn reduce_into<'a>(
+    values: &[i32],
+    weights: &Weights,
+    room: &'a mut [u8; 4096],
+) -> Weights<'a>
+    requires { length values.now ≡ weights.now.n }
+    ensures n { result.n ≡ weights.now.n }
+    ensures rows { result.rows.now ≡ reduced weights.now.n values.now weights.now.rows.now }
+{
+    let n = weights.n;
+    let counting = &mut room[..n * n];
+    reduce_rows(values, weights, counting);
+    Weights { n, rows: counting }
 }

@@ -4,7 +4,8 @@ use lib.IntN.{pos}
 use Rattle.std.proofs.Common.{rules}
 use Rattle.std.specs.List.{count_by}
 use Rattle.whole.specs.Integer.{equal}
-use Rattle.kept.specs.Returned.{not_returned, missing, missing_count}
+use Rattle.judges.specs.Values.{not_returned, missing}
+use Rattle.kept.specs.Returned.{missing_count}
 use Rattle.whole.proofs.Chains.{counted}
 use Rattle.kept.proofs.returned.count_missing.Goals as goal
 

@@ -8,7 +8,7 @@ use Rattle.whole.specs.Integer.{equal}
 use Rattle.whole.specs.Table.{at}
 use Rattle.whole.proofs.Machine.{r32}
 use Rattle.whole.proofs.Table.{is_table, stored}
-use Rattle.kept.specs.Returned.{not_returned, missing}
+use Rattle.judges.specs.Values.{not_returned, missing}
 use Rattle.kept.proofs.Missing.{value_is}
 use Rattle.kept.proofs.returned.reduce_row.Goals as goal
 

@@ -3,7 +3,7 @@ use mathlib.Core.Bool.{cond, ◌||◌}
 use Prim.Native.Nat.{ℕ, ◌<◌}
 use lib.ListN.{get_or}
 use Rattle.whole.specs.Integer.{equal}
-use Rattle.kept.specs.Returned.{not_returned, missing}
+use Rattle.judges.specs.Values.{not_returned, missing}
 use Rattle.kept.proofs.returned.reduce_row.Given as goal
 
 -- the weights of the zones passed are written

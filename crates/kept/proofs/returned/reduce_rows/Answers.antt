@@ -11,7 +11,8 @@ use Rattle.whole.specs.Integer.{equal}
 use Rattle.whole.specs.Table.{table, at}
 use Rattle.whole.proofs.Table.{table_cong}
 use Rattle.whole.proofs.TableRows.{rows_none, row_written, rows_done}
-use Rattle.kept.specs.Returned.{not_returned, missing, reduced}
+use Rattle.judges.specs.Values.{not_returned, missing}
+use Rattle.kept.specs.Returned.{reduced}
 use Rattle.kept.proofs.Marks.{row_end, row_at}
 use Rattle.kept.proofs.Missing.{value_is}
 use Rattle.kept.proofs.returned.reduce_rows.Invariants.{counts}

@@ -5,7 +5,7 @@ use Prim.Native.Nat.{ℕ, ◌*◌}
 use lib.IntN.{ℤ}
 use lib.ListN.{take}
 use Rattle.whole.specs.Table.{table_rows, pair_at}
-use Rattle.kept.specs.Returned.{missing}
+use Rattle.judges.specs.Values.{missing}
 use Rattle.kept.proofs.returned.reduce_rows.Given as goal
 
 abbrev pub counts : ℕ → List ℤ → List ℕ → ℕ → ℕ → ℕ
