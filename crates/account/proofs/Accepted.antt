@@ -11,25 +11,26 @@ use lib.ListN.{length, get_or}
 use Rattle.whole.specs.Integer.{is_zero}
 use Rattle.whole.specs.Rules.{Rule, first_broken, misfits, size_rules}
 use Rattle.whole.proofs.Rules.{holds, first_none, both_hold, fits, sizes_hold, sizes_let_in}
-use Rattle.whole.proofs.Search.{none_beyond, none_above}
+use Rattle.whole.proofs.Search.{none_above}
 use Rattle.whole.proofs.Size.{some_size}
 use Rattle.whole.specs.Table.{pair_at}
-use Rattle.whole.specs.Search.{any_beyond, any_above, any_on_diagonal}
+use Rattle.whole.specs.Search.{any_above, any_on_diagonal}
+use Rattle.judges.specs.Values.{any_value_beyond}
 use Rattle.shuffles.specs.Shuffles.{shuffle_count, any_lacking, shuffle_refusal}
 use Rattle.shuffles.specs.Steps.{Shuffles}
 use Rattle.shuffles.proofs.Theorems.{list_taken}
-use Rattle.kept.specs.Kept.{kept_count}
+use Rattle.kept.specs.Kept.{kept_count, kept_values, kept_pairs}
+use Rattle.kept.specs.Returned.{reduced}
+use Rattle.kept.proofs.Reduced.{reduced_clear}
 use Rattle.account.specs.Measures.{weight_of}
 use Rattle.account.specs.Refusals.{list_rules, job_spread, sum_rules, job_rules, job_lengths, call_rules, account_rules, account_refusal}
 use Rattle.account.specs.Classes.{class_rules, class_lengths}
 use Rattle.account.specs.Rank.{rank_rules, rank_refusal}
-use Rattle.account.specs.Steps.{Sized, Valued, Weighted, Job, ClassJob}
-use Rattle.account.proofs.KeptJob.{clear_of, two_kept}
+use Rattle.account.specs.Steps as steps
+use Rattle.account.specs.Steps.{Weighted, Job, Lent}
+use Rattle.account.proofs.KeptJob.{clear_of, two_kept, counting_weighted, lent_job}
 
 -- ---- what a rule that holds tells
-pub near : (limit : ℕ) (numbers : List ℤ) (n : ℕ) → length numbers ≡ n → any_beyond limit numbers ≡ false → Sized limit numbers n
-near limit numbers n l e = record { count = l; size = λ k h. none_beyond limit numbers e k (omega arith) }
-
 pub weighted : (weights : List ℕ) (n : ℕ) → n ≤ 64 → length weights ≡ n * n → any_above 9 weights ≡ false → Weighted weights n
 weighted weights n zones l e = record { zones = zones; count = l; light = λ k h. none_above 9 weights e k (omega arith) }
 
@@ -79,28 +80,29 @@ also_misfits n values weights lent = go (not (eqb values n)) (not (eqb weights (
 
 -- ---- a job in which 3, 4 and 5 hold
 pub record Lawful (n : ℕ) (values : List ℤ) (weights : List ℕ) : Type 0 where
-  pub valued : Valued values n
-  pub light : Weighted weights n
+  pub lent : Lent values weights n
   pub clear : any_on_diagonal n weights ≡ false
 
 pub lawful :
     (n : ℕ) (values : List ℤ) (weights : List ℕ) → n ≤ 64 → length values ≡ n → length weights ≡ n * n →
     first_broken (list_rules n values weights) ≡ 0 → Lawful n values weights
 lawful n values weights zones l m e =
-    let e3 = holds (any_beyond 100000 values) 2 _ e in
+    let e3 = holds (any_value_beyond values) 2 _ e in
     let e4 = holds (any_above 9 weights) 3 _ e3.1 in
     let e5 = holds (any_on_diagonal n weights) 4 0 e4.1 in record {
-      valued = record { zones = zones; near = near 100000 values n l e3.0 };
-      light = weighted weights n zones m e4.0;
+      lent = record { count = l; near = e3.0; weighted = weighted weights n zones m e4.0 };
       clear = e5.0;
     }
 
--- ---- a job in which 3 to 7 hold
+-- ---- a job in which 3 to 7 hold: by the weights that count two zones at least are kept, which are a job that the work takes
 pub record Sound (n : ℕ) (values : List ℤ) (weights : List ℕ) : Type 0 where
-  pub job : Job values weights n
-  pub clear : (i : ℕ) → i < n → pair_at weights n i i ≡ 0
-  pub weighty : 1 ≤ nat_abs (weight_of (pair_at weights n) n)
-  pub two_kept : 2 ≤ kept_count n weights
+  pub lent : Lent values weights n
+  pub clear : (i : ℕ) → i < n → pair_at (reduced n values weights) n i i ≡ 0
+  pub weighty : 1 ≤ nat_abs (weight_of (pair_at (reduced n values weights) n) n)
+  pub two_kept : 2 ≤ kept_count n (reduced n values weights)
+  pub job :
+      Job (kept_values n (reduced n values weights) values) (kept_pairs n (reduced n values weights) (reduced n values weights))
+      (kept_count n (reduced n values weights))
   pub varied : 1 ≤ nat_abs (job_spread n values weights)
 
 sound :
@@ -110,12 +112,15 @@ unfolding job_rules
 sound n values weights zones l m e =
     let both = first_none (sum_rules n values weights) 0 (list_rules n values weights) (tt, (tt, (tt, tt))) e in
     let lists = lawful n values weights zones l m both.0 in
-    let e6 = holds (is_zero (weight_of (pair_at weights n) n)) 5 _ both.1 in
+    let r = reduced n values weights in
+    let clear = reduced_clear n values weights lists.clear in
+    let e6 = holds (is_zero (weight_of (pair_at r n) n)) 5 _ both.1 in
     let e7 = holds (is_zero (job_spread n values weights)) 6 0 e6.1 in record {
-      job = record { valued = lists.valued; weighted = lists.light };
-      clear = clear_of weights n lists.clear;
-      weighty = some_size (weight_of (pair_at weights n) n) e6.0;
-      two_kept = two_kept n values weights lists.light lists.clear e6.0;
+      lent = lists.lent;
+      clear = clear_of r n clear;
+      weighty = some_size (weight_of (pair_at r n) n) e6.0;
+      two_kept = two_kept n values r (counting_weighted n values weights lists.lent) clear e6.0;
+      job = lent_job n values weights lists.lent;
       varied = some_size (job_spread n values weights) e7.0;
     }
 
@@ -204,8 +209,8 @@ classed n values weights classes lent e =
 -- its work asks for no more
 pub class_job :
     {n : ℕ} {values : List ℤ} {weights classes : List ℕ} {lent : List (ℕ × ℕ)} → Classed n values weights classes lent →
-    ClassJob values weights classes n
-class_job c = record { job = c.good.job; count = c.classes_fit; low = c.low }
+    steps.Classed classes n
+class_job c = record { count = c.classes_fit; low = c.low }
 
 -- and of the class account's refusal
 pub record ClassAccepted (n : ℕ) (values : List ℤ) (weights classes : List ℕ) (rows of_classes own : ℕ) : Type 0 where

@@ -17,6 +17,7 @@ use Rattle.whole.proofs.Rules.{first_least, first_applies}
 use Rattle.whole.proofs.Search.{all_within}
 use Rattle.whole.proofs.TableRows as rows
 use Rattle.kept.specs.Kept.{kept_count, kept_values, kept_pairs}
+use Rattle.kept.specs.Returned.{reduced}
 use Rattle.kept.proofs.KeptZones.{pairs_each, put_back_sum, put_back_cong, put_back_sums}
 use Rattle.account.specs.Measures.{deviation_of}
 use Rattle.account.specs.Limits.{Limits}
@@ -26,7 +27,7 @@ use Rattle.account.specs.Classes.{class_weight, zones_class_row, zones_class_loc
 use Rattle.account.proofs.Accepted.{let_in, account_called, classed, class_called}
 use Rattle.account.proofs.Adding.{locals_sum}
 use Rattle.account.proofs.ByClass.{class_le}
-use Rattle.account.proofs.KeptJob.{kept_job, kept_clear, job_locals_at}
+use Rattle.account.proofs.KeptJob.{kept_clear, job_locals_at}
 use Rattle.account.proofs.NineClasses.{weights_together, crosses_together, squares_together, locals_together}
 use Rattle.account.proofs.Reading.{weight_le}
 use Rattle.account.proofs.Theorems.{Sharp, limits_of, within_sizes}
@@ -56,23 +57,26 @@ module _ (n : ℕ) (values : List ℤ) (weights classes : List ℕ) where
   unfolding class_locals_of
   class_locals_at k i h p = rows.rows_at (class_local_of n values weights classes) 9 n k i (pos 0) h p
 
+  abbrev counting : List ℕ
+  counting = reduced n values weights
+
   abbrev m : ℕ
-  m = kept_count n weights
+  m = kept_count n counting
 
   abbrev x : List ℤ
-  x = kept_values n weights values
+  x = kept_values n counting values
 
   abbrev w : List ℕ
-  w = kept_pairs n weights weights
+  w = kept_pairs n counting counting
 
   abbrev c : List ℕ
-  c = kept_pairs n weights classes
+  c = kept_pairs n counting classes
 
   -- the local numerators of a class add up to its P
   pub class_adds_up : (k : ℕ) → sum (class_local_of n values weights classes k) n ≡ (class_row_of n values weights classes k).cross
   unfolding class_local_of class_row_of zones_class_row zones_class_local class_row
   class_adds_up k =
-      put_back_sum n weights (zones_class_local m x w c k) ∙ locals_sum (class_weight w c m k) (deviation_of (at x) m) m
+      put_back_sum n counting (zones_class_local m x w c k) ∙ locals_sum (class_weight w c m k) (deviation_of (at x) m) m
 
 -- ---- where nothing is refused
 module _ (n : ℕ) (values : List ℤ) (weights classes : List ℕ) (lent : List (ℕ × ℕ))
@@ -87,7 +91,7 @@ module _ (n : ℕ) (values : List ℤ) (weights classes : List ℕ) (lent : List
 
   -- n is 2 to 64
   pub zones_in_range : (2 ≤ n) × (n ≤ 64)
-  zones_in_range = let a = classed n values weights classes lent taken in (a.two, a.good.job.valued.zones)
+  zones_in_range = let a = classed n values weights classes lent taken in (a.two, a.good.lent.weighted.zones)
 
   -- every further list fits
   pub lent_fits : misfits lent ≡ false
@@ -98,7 +102,7 @@ module _ (n : ℕ) (values : List ℤ) (weights classes : List ℕ) (lent : List
   unfolding pair_at
   low_kept =
       let a = classed n values weights classes lent taken in
-      pairs_each n weights (λ v. v ≤ 8) classes (λ i j p q. a.low (i * n + j) (within n i j p q))
+      pairs_each n (reduced n values weights) (λ v. v ≤ 8) classes (λ i j p q. a.low (i * n + j) (within n i j p q))
 
   -- how large the measures of a class are; so every numerator and divisor is at most 6 × 10^18
   pub class_sizes :
@@ -108,14 +112,13 @@ module _ (n : ℕ) (values : List ℤ) (weights classes : List ℕ) (lent : List
       (m n values weights classes)
   class_sizes k =
       let good = (classed n values weights classes lent taken).good in
-      let job = good.job in
       let weights_kept = w n values weights classes in
       let classes_kept = c n values weights classes in
       let many = m n values weights classes in
-      let of_kept = kept_job n values weights job.valued.zones job.valued.near.size (weight_le weights n job.weighted) in
+      let of_kept = good.job in
       within_sizes (class_weight weights_kept classes_kept many k) (at (x n values weights classes)) many of_kept.valued.zones
       (λ i j p q. class_le weights_kept classes_kept many k i j 9 (weight_le weights_kept many of_kept.weighted i j p q))
-      (λ i p. let h = class_le weights_kept classes_kept many k i i 0 (N.le_of_eq (kept_clear n values weights good.clear i p)) in omega arith)
+      (λ i p. let h = class_le weights_kept classes_kept many k i i 0 (N.le_of_eq (kept_clear n values (reduced n values weights) good.clear i p)) in omega arith)
       of_kept.valued.near.size
 
   pub class_limits :
@@ -141,8 +144,8 @@ module _ (n : ℕ) (values : List ℤ) (weights classes : List ℕ) (lent : List
   pub nine_locals : (i : ℕ) → i < n → sum (λ k. class_local_of n values weights classes k i) 9 ≡ at (job_locals n values weights) i
   unfolding class_local_of zones_local
   nine_locals i h =
-      put_back_sums n weights (zones_class_local _ (x n values weights classes) _ (c n values weights classes)) 9 i
-      ∙ put_back_cong n weights _ _ (locals_together _ (x n values weights classes) _ (c n values weights classes) low_kept) i h
+      put_back_sums n (reduced n values weights) (zones_class_local _ (x n values weights classes) _ (c n values weights classes)) 9 i
+      ∙ put_back_cong n (reduced n values weights) _ _ (locals_together _ (x n values weights classes) _ (c n values weights classes) low_kept) i h
       ∙ sym (job_locals_at n values weights i h)
 
 -- ---- where the account refuses nothing, and the classes are 0 to 8 and every further list fits, nothing is refused

@@ -15,6 +15,7 @@ use Rattle.whole.proofs.Lists.{front, front_le}
 use Rattle.whole.proofs.Rules.{first_here, first_next, worked_when_taken}
 use Rattle.refusals.specs.declared.Refusal.{Refusal}
 use Rattle.kept.specs.Kept.{kept_zones, kept_count, kept_values}
+use Rattle.kept.specs.Returned.{reduced}
 use Rattle.kept.specs.Answers.{many_in, keep_refusal, keep_many, keep_left}
 use Rattle.kept.proofs.KeptZones.{zones_length}
 use Rattle.kept.proofs.Sized.{let_in}
@@ -22,7 +23,7 @@ use Rattle.account.specs.Measures.{spread_of}
 use Rattle.account.specs.Refusals.{list_rules, job_spread, sum_rules, job_rules}
 use Rattle.account.specs.Steps.{Zones, gathered, Judged}
 use Rattle.account.proofs.Accepted.{Lawful}
-use Rattle.account.proofs.KeptJob.{six_by_count}
+use Rattle.account.proofs.KeptJob.{six_by_kept}
 use Rattle.account.proofs.KeptLists.{zones_are, values_gathered}
 
 -- ---- the zones kept, at the front of a list
@@ -32,14 +33,15 @@ pub record Left (n : ℕ) (weights left : List ℕ) (many : ℕ) : Type 0 where
 
 -- what `keep` answers and leaves, where it is lent the weights of n zones and 64 places: it refuses nothing
 module _
-    (n : ℕ) (weights lent : List ℕ) (two : 2 ≤ n) (most : n ≤ 64) (fit : length weights ≡ n * n)
-    (places : length lent ≡ 64) where
-  taken : keep_refusal n weights lent ≡ 0
-  unfolding keep_refusal
-  taken = let_in n (length weights) (length lent) 64 (record { two = two; zones = most; weights_fit = fit; lent_fit = places })
+    (n : ℕ) (values : List ℤ) (weights lent : List ℕ) (two : 2 ≤ n) (most : n ≤ 64) (long : length values ≡ n)
+    (fit : length weights ≡ n * n) (places : length lent ≡ 64) where
+  taken : keep_refusal n values weights lent ≡ 0
+  taken =
+      let_in n (length values) (length weights) (length lent) 64
+      (record { two = two; zones = most; values_fit = long; weights_fit = fit; lent_fit = places })
 
-  module _ (r : Result ℕ Refusal) (e : many_in r ≡ keep_many n weights lent) where
-    counted : many_in r ≡ kept_count n weights ∷ []
+  module _ (r : Result ℕ Refusal) (e : many_in r ≡ keep_many n values weights lent) where
+    counted : many_in r ≡ kept_count n (reduced n values weights) ∷ []
     unfolding keep_many
     counted = e ∙ worked_when_taken _ _ _ taken
 
@@ -47,13 +49,15 @@ module _
     unfolding many_in
     never_refused refusal q = let z : ◌≡◌ {A = ℕ} 0 1 = ap length (sym (ap many_in q) ∙ counted) in omega arith
 
-    pub zones_left : (left : List ℕ) (many : ℕ) → left ≡ keep_left n weights lent → r ≡ Ok many → Left n weights left many
+    pub zones_left :
+        (left : List ℕ) (many : ℕ) → left ≡ keep_left n values weights lent → r ≡ Ok many → Left n (reduced n values weights) left many
     unfolding many_in keep_left
     zones_left left many l q =
-        let kept = kept_zones n weights in
-        let same : many ≡ kept_count n weights = ap (λ (k : List ℕ). get_or k 0 0) (sym (ap many_in q) ∙ counted) in
+        let counting = reduced n values weights in
+        let kept = kept_zones n counting in
+        let same : many ≡ kept_count n counting = ap (λ (k : List ℕ). get_or k 0 0) (sym (ap many_in q) ∙ counted) in
         let all : left ≡ over kept lent = l ∙ worked_when_taken _ _ _ taken in
-        let long = zones_length n weights ∙ sym same in record {
+        let long = zones_length n counting ∙ sym same in record {
           zones = ap (take many) all ∙ front kept (drop (length kept) lent) kept many refl long;
           room = omega (arith, ap length all, front_le kept (drop (length kept) lent) kept many refl long);
         }
@@ -69,22 +73,25 @@ module _ (n : ℕ) (values : List ℤ) (weights : List ℕ) where
   unfolding job_rules
   by_lists r e some = first_here (sum_rules n values weights) (list_rules n values weights) r e some
 
-  module _ (good : Lawful n values weights) (zones : List ℕ) (e : zones ≡ kept_zones n weights) where
+  abbrev counting : List ℕ
+  counting = reduced n values weights
+
+  module _ (good : Lawful n values weights) (zones : List ℕ) (e : zones ≡ kept_zones n counting) where
     -- what is known of the job and of them
     pub rise : Zones zones n
-    rise = rw e (zones_are n weights good.valued.zones)
+    rise = rw e (zones_are n counting good.lent.weighted.zones)
 
     -- what the judge of the sums answers
     sums_are : judged (eqb (length zones) 0) (gathered values zones) (length zones) ≡ first_broken (sum_rules n values weights)
     unfolding job_spread
     sums_are =
-        let kept = kept_zones n weights in
-        let many = kept_count n weights in
-        let six_is = six_by_count n values weights good.light good.clear in
+        let kept = kept_zones n counting in
+        let many = kept_count n counting in
+        let six_is = six_by_kept n values weights good.lent good.clear in
         ap (λ (k : List ℕ). judged (eqb (length k) 0) (gathered values k) (length k)) e
-        ∙ ap (λ k. judged (eqb k 0) (gathered values kept) k) (zones_length n weights)
-        ∙ ap (λ list. judged (eqb many 0) list many) (values_gathered n weights values)
-        ∙ ap (λ six. judged six (kept_values n weights values) many) (sym six_is)
+        ∙ ap (λ k. judged (eqb k 0) (gathered values kept) k) (zones_length n counting)
+        ∙ ap (λ list. judged (eqb many 0) list many) (values_gathered n counting values)
+        ∙ ap (λ six. judged six (kept_values n counting values) many) (sym six_is)
 
     pub by_sums :
         first_broken (list_rules n values weights) ≡ 0 → (r : ℕ) →

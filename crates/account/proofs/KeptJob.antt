@@ -1,5 +1,5 @@
--- The job of the zones kept. Its W, P, G and local numerators are sums over all zones too, with the deviations that the kept zones give; it
--- is one that the work takes where 3 to 5 hold, and two zones are kept where 6 does. Assumes nothing.
+-- The job of the zones kept, by some weights. Its W, P and G are sums over all zones too, with the deviations that the kept zones give; two
+-- zones are kept where 6 holds. By the weights that count it is one that the work takes where 3 and 4 hold. Assumes nothing.
 use mathlib.Core.Path.{◌≡◌, refl, sym, ap, ◌∙◌}
 use mathlib.Core.Bool.{Bool, true, false, ◌||◌}
 use mathlib.Core.List.{List}
@@ -32,10 +32,13 @@ use Rattle.kept.proofs.KeptZones.{
   put_back_sum,
 }
 use Rattle.account.specs.Measures.{total_of, deviation_of, row_of, pairs_of, weight_of, cross_of, squares_of}
+use Rattle.judges.specs.Values.{missing}
+use Rattle.kept.specs.Returned.{reduced}
+use Rattle.kept.proofs.Reduced.{returned_near, reduced_length, reduced_light, reduced_clear, kept_near, kept_all_returned}
 use Rattle.account.specs.Answers.{zones_local, job_locals}
-use Rattle.account.specs.Steps.{Job, Weighted}
+use Rattle.account.specs.Steps.{Job, Weighted, Lent}
 use Rattle.account.proofs.Adding.{locals_sum}
-use Rattle.account.proofs.Reading.{weightless}
+use Rattle.account.proofs.Reading.{weightless, weight_le}
 
 -- ---- what rule 5 tells where it holds
 pub clear_of : (weights : List ℕ) (n : ℕ) → any_on_diagonal n weights ≡ false → (i : ℕ) → i < n → pair_at weights n i i ≡ 0
@@ -95,25 +98,10 @@ module _ (n : ℕ) (values : List ℤ) (weights : List ℕ) where
       pairs_all (λ i j. deviation i *ℤ deviation j) (λ a b. deviation_of (at x) m a *ℤ deviation_of (at x) m b)
       (λ a b p q. rw (deviation_kept a p, deviation_kept b q) refl)
 
-  -- ---- the local numerators by their places; together they are P
-  pub job_locals_length : length (job_locals n values weights) ≡ n
-  unfolding job_locals
-  job_locals_length = table_length (put_back n weights (zones_local m x w)) n
-
-  pub job_locals_at : (i : ℕ) → i < n → at (job_locals n values weights) i ≡ put_back n weights (zones_local m x w) i
-  unfolding job_locals
-  job_locals_at i h = table_at (put_back n weights (zones_local m x w)) n i (pos 0) h
-
-  pub job_locals_sum : sum (at (job_locals n values weights)) n ≡ cross_of (pair_at w m) (deviation_of (at x) m) m
-  unfolding zones_local
-  job_locals_sum =
-      sum_cong _ _ n job_locals_at
-      ∙ put_back_sum n weights (zones_local m x w)
-      ∙ locals_sum (pair_at w m) (deviation_of (at x) m) m
-
-  -- ---- the kept job of a job in which 3, 4 and 5 hold is one that the account's work takes, and its diagonal is clear
+  -- ---- where the values of the zones kept are within their limit and the weights too, the job of those zones is one that the account's
+  -- work takes; and its diagonal is clear where that of all zones is
   module _
-      (zones : n ≤ 64) (near : (i : ℕ) → i < n → nat_abs (at values i) ≤ 100000)
+      (zones : n ≤ 64) (near : (k : ℕ) → k < m → nat_abs (at x k) ≤ 100000)
       (light : (i j : ℕ) → i < n → j < n → pair_at weights n i j ≤ 9) where
     pub kept_job : Job x w m
     kept_job = record {
@@ -121,7 +109,7 @@ module _ (n : ℕ) (values : List ℤ) (weights : List ℕ) where
         zones = omega (arith, kept_few n weights);
         near = record {
           count = values_length n weights values;
-          size = λ k p. rw (values_at n weights values k p) (near (zone k) (zone_stands n weights k p).below);
+          size = near;
         };
       };
       weighted = record {
@@ -181,3 +169,60 @@ module _ (n : ℕ) (values : List ℤ) (weights : List ℕ) (good : Weighted wei
           sym (eq-eqb (count (keeps n weights) n) 0 (no_one (keeps n weights) n (quiet none)))
       go false e =
           sym (ne_eqb (count (keeps n weights) n) 0 (λ z. let x : ⊥ = omega (arith, two_kept n values weights good clear e) in x))
+
+-- ---- of a job, by the weights that count
+module _ (n : ℕ) (values : List ℤ) (weights : List ℕ) where
+  abbrev r : List ℕ
+  r = reduced n values weights
+
+  abbrev own : ℕ → ℤ
+  own = zones_local (kept_count n r) (kept_values n r values) (kept_pairs n r r)
+
+  -- the local numerators by their places; together they are P
+  pub job_locals_length : length (job_locals n values weights) ≡ n
+  unfolding job_locals
+  job_locals_length = table_length (put_back n r own) n
+
+  pub job_locals_at : (i : ℕ) → i < n → at (job_locals n values weights) i ≡ put_back n r own i
+  unfolding job_locals
+  job_locals_at i h = table_at (put_back n r own) n i (pos 0) h
+
+  pub job_locals_sum :
+      sum (at (job_locals n values weights)) n
+      ≡ cross_of (pair_at (kept_pairs n r r) (kept_count n r)) (deviation_of (at (kept_values n r values)) (kept_count n r)) (kept_count n r)
+  unfolding zones_local
+  job_locals_sum =
+      sum_cong _ _ n job_locals_at
+      ∙ put_back_sum n r own
+      ∙ locals_sum (pair_at (kept_pairs n r r) (kept_count n r)) (deviation_of (at (kept_values n r values)) (kept_count n r)) (kept_count n r)
+
+  module _ (lent : Lent values weights n) where
+    -- the weights that count are weights between the zones
+    pub counting_weighted : Weighted r n
+    counting_weighted = record {
+      zones = lent.weighted.zones;
+      count = reduced_length n values weights;
+      light = reduced_light n values weights 9 (weight_le weights n lent.weighted);
+    }
+
+    -- and the job of the zones kept is one that the work takes
+    pub lent_job : Job (kept_values n r values) (kept_pairs n r r) (kept_count n r)
+    lent_job =
+        kept_job n values r lent.weighted.zones (kept_near n values weights lent.near lent.count) (weight_le r n counting_weighted)
+
+    -- 6 is that no zone is kept
+    pub six_by_kept : any_on_diagonal n weights ≡ false → is_zero (weight_of (pair_at r n) n) ≡ eqb (kept_count n r) 0
+    six_by_kept clear = six_by_count n values r counting_weighted (reduced_clear n values weights clear)
+
+    -- where every zone is kept, the job as it was lent is one that the work takes too
+    pub whole_job : kept_count n r ≡ n → Job values weights n
+    whole_job all = record {
+      valued = record {
+        zones = lent.weighted.zones;
+        near = record {
+          count = lent.count;
+          size = λ i h. returned_near values lent.near i (omega (arith, h, lent.count)) (kept_all_returned n values weights all i h);
+        };
+      };
+      weighted = lent.weighted;
+    }

@@ -1,6 +1,6 @@
 -- The deviations and the local numerators as the code holds them in lists, and what is known of the sums that are told. Assumes nothing.
 use mathlib.Core.Path.{◌≡◌, refl, ◌∙◌}
-use mathlib.Core.List.{List}
+use mathlib.Core.List.{List, [], ◌∷◌, ◌++◌}
 use Prim.Native.Nat.{ℕ, ◌≤◌, ◌<◌}
 use native.Mathlib.Nat as N
 use lib.IntN.{ℤ, pos, nat_abs}
@@ -124,9 +124,10 @@ module _ (values : List ℤ) (weights : List ℕ) (n : ℕ) (r : Job values weig
 
 -- ---- listed numbers that are those of the job
 pub same_figures :
-    (n : ℕ) (values : List ℤ) (weights : List ℕ) (s m w p g : ℤ) → s ≡ total_of (at values) n → m ≡ spread_of (at values) n →
+    (n : ℕ) (values : List ℤ) (weights : List ℕ) (missing : ℕ) (s m w p g : ℤ) → s ≡ total_of (at values) n → m ≡ spread_of (at values) n →
     w ≡ weight_of (pair_at weights n) n → p ≡ cross_of (pair_at weights n) (deviation_of (at values) n) n →
     g ≡ squares_of (pair_at weights n) (at values) n →
-    listed (record { total = s; spread = m; weight = w; cross = p; squares = g; kept = n }) ≡ zones_figures n values weights
+    listed (record { total = s; spread = m; weight = w; cross = p; squares = g; kept = n; missing = missing })
+    ≡ zones_figures n values weights ++ (pos missing ∷ [])
 unfolding zones_figures
-same_figures n values weights s m w p g e1 e2 e3 e4 e5 = rw (e1, e2, e3, e4, e5) refl
+same_figures n values weights missing s m w p g e1 e2 e3 e4 e5 = rw (e1, e2, e3, e4, e5) refl

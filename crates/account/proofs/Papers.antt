@@ -10,6 +10,7 @@ use Rattle.whole.specs.Sum.{sum}
 use Rattle.whole.specs.Table.{at, pair_at}
 use Rattle.whole.proofs.Integer.{*_assoc, *_left_comm}
 use Rattle.kept.specs.Kept.{kept_count, kept_zone, kept_values, kept_pairs}
+use Rattle.kept.specs.Returned.{reduced}
 use Rattle.kept.proofs.KeptZones.{zone_stands, put_back_zone}
 use Rattle.account.specs.Measures.{deviation_of, spread_of, weight_of, cross_of, squares_of, local_of}
 use Rattle.account.specs.Refusals.{job_spread}
@@ -49,29 +50,32 @@ module _ (f : ℕ → ℕ → ℕ) (x : ℕ → ℤ) (n : ℕ) where
 
 -- ---- so are the coefficients of a job, over the zones kept: n is their number, f their weights and x their values
 module _ (n : ℕ) (values : List ℤ) (weights : List ℕ) where
+  abbrev counting : List ℕ
+  counting = reduced n values weights
+
   abbrev kept_deviation : ℕ → ℤ
-  kept_deviation = deviation_of (at (kept_values n weights values)) (kept_count n weights)
+  kept_deviation = deviation_of (at (kept_values n counting values)) (kept_count n counting)
 
   abbrev kept_dd : ℤ
-  kept_dd = sum (λ k. square (kept_deviation k)) (kept_count n weights)
+  kept_dd = sum (λ k. square (kept_deviation k)) (kept_count n counting)
 
   pub job_moran_of_paper :
       (job_row n values weights).cross *ℤ ((job_row n values weights).weight *ℤ kept_dd)
       ≡ (pos (job_kept n values weights) *ℤ (job_row n values weights).cross)
       *ℤ ((job_row n values weights).weight *ℤ job_spread n values weights)
   unfolding job_row class_row job_kept job_spread
-  job_moran_of_paper = moran_of_paper _ (at (kept_values n weights values)) (kept_count n weights)
+  job_moran_of_paper = moran_of_paper _ (at (kept_values n counting values)) (kept_count n counting)
 
   -- of the k-th zone kept, whose L stands in the list at its zone
   pub job_local_of_paper :
-      (k : ℕ) → k < kept_count n weights →
-      at (job_locals n values weights) (kept_zone n weights k) *ℤ kept_dd
-      ≡ (pos (job_kept n values weights) *ℤ at (job_locals n values weights) (kept_zone n weights k)) *ℤ job_spread n values weights
+      (k : ℕ) → k < kept_count n counting →
+      at (job_locals n values weights) (kept_zone n counting k) *ℤ kept_dd
+      ≡ (pos (job_kept n values weights) *ℤ at (job_locals n values weights) (kept_zone n counting k)) *ℤ job_spread n values weights
   unfolding job_kept job_spread zones_local
   job_local_of_paper k h =
-      let stands = zone_stands n weights k h in
-      rw (job_locals_at n values weights (kept_zone n weights k) stands.below ∙ put_back_zone n weights _ k h)
-      (local_of_paper (pair_at (kept_pairs n weights weights) (kept_count n weights)) (at (kept_values n weights values)) (kept_count n weights) k)
+      let stands = zone_stands n counting k h in
+      rw (job_locals_at n values weights (kept_zone n counting k) stands.below ∙ put_back_zone n counting _ k h)
+      (local_of_paper (pair_at (kept_pairs n counting counting) (kept_count n counting)) (at (kept_values n counting values)) (kept_count n counting) k)
 
   pub job_geary_of_paper :
       let m = job_kept n values weights in
@@ -80,4 +84,4 @@ module _ (n : ℕ) (values : List ℤ) (weights : List ℕ) where
       (pos ((m - 1) * m) *ℤ g) *ℤ ((pos 2 *ℤ w) *ℤ kept_dd)
       ≡ (pos m *ℤ (pos ((m - 1) * m) *ℤ g)) *ℤ ((pos 2 *ℤ w) *ℤ job_spread n values weights)
   unfolding job_row class_row job_kept job_spread
-  job_geary_of_paper = geary_of_paper _ (at (kept_values n weights values)) (kept_count n weights)
+  job_geary_of_paper = geary_of_paper _ (at (kept_values n counting values)) (kept_count n counting)

@@ -23,6 +23,7 @@ use Rattle.whole.proofs.Rules.{first_least, first_applies, worked_when_taken}
 use Rattle.whole.proofs.Size.{one_*}
 use Rattle.shuffles.specs.Shuffles.{shuffle_count}
 use Rattle.shuffles.proofs.ShuffleList.{whole_rows}
+use Rattle.kept.specs.Returned.{reduced}
 use Rattle.kept.specs.Kept.{kept_count, kept_values, kept_pairs, kept_shuffles}
 use Rattle.kept.proofs.KeptShuffle.{shuffle_full}
 use Rattle.account.specs.Measures.{total_of, spread_of}
@@ -55,14 +56,17 @@ shuffled_spread x row n all =
 
 -- ---- of a job, over the zones kept
 module _ (n : ℕ) (values : List ℤ) (weights : List ℕ) where
+  abbrev counting : List ℕ
+  counting = reduced n values weights
+
   abbrev m : ℕ
-  m = kept_count n weights
+  m = kept_count n counting
 
   abbrev x : List ℤ
-  x = kept_values n weights values
+  x = kept_values n counting values
 
   abbrev w : List ℕ
-  w = kept_pairs n weights weights
+  w = kept_pairs n counting counting
 
   -- the P that the shuffles are compared with is the one that the account answers
   pub own_of_account : values_cross m w (at x) ≡ at (job_figures n values weights) 3
@@ -75,7 +79,7 @@ module _ (n : ℕ) (values : List ℤ) (weights : List ℕ) where
     rows = shuffle_count n (length shuffles)
 
     abbrev s : List ℕ
-    s = kept_shuffles n weights rows shuffles
+    s = kept_shuffles n counting rows shuffles
 
     -- each shuffle is counted once
     pub rank_adds_up :
@@ -106,7 +110,7 @@ module _ (n : ℕ) (values : List ℤ) (weights : List ℕ) where
 
       pub kept_row_lacks_none : lacks row m ≡ false
       kept_row_lacks_none =
-          shuffle_full n weights (rows shuffles) shuffles r h ((rank_accepted n values weights shuffles taken).rows.full r h)
+          shuffle_full n counting (rows shuffles) shuffles r h ((rank_accepted n values weights shuffles taken).rows.full r h)
 
       -- S and M are those of the job in every shuffle
       pub shuffle_total : total_of (shuffled (at x) row) m ≡ total_of (at x) m

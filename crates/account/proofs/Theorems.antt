@@ -23,6 +23,7 @@ use Rattle.whole.specs.Table.{at, pair_at}
 use Rattle.account.specs.Measures.{total_of, deviation_of, spread_of, weight_of, cross_of, squares_of, local_of}
 use Rattle.account.specs.Limits.{Limits}
 use Rattle.kept.specs.Kept.{keeps, kept_count, kept_zone, kept_place, kept_values, kept_pairs}
+use Rattle.kept.specs.Returned.{missing_count, reduced}
 use Rattle.kept.proofs.KeptZones.{kept_few, zone_stands, zone_at_place, place_within, values_at}
 use Rattle.account.specs.Refusals.{job_spread, job_rules, job_lengths, call_rules, account_rules, account_refusal}
 use Rattle.account.specs.Answers.{listed, zones_figures, figures_of, job_kept, job_figures, job_row, job_locals}
@@ -35,7 +36,7 @@ use Rattle.account.specs.declared.Sums.{Sums}
 use Rattle.account.proofs.Accepted.{Sound, fitting, accepted}
 use Rattle.account.proofs.Adding as adding
 use Rattle.account.proofs.Judged.{by_sizes}
-use Rattle.account.proofs.KeptJob.{deviation, kept_job, kept_clear, weight_all, cross_all, squares_all}
+use Rattle.account.proofs.KeptJob.{deviation, kept_clear, weight_all, cross_all, squares_all}
 use Rattle.account.proofs.Reading.{weight_le}
 use Rattle.account.proofs.Sizes.{deviation_size, spread_of_size, weight_sharp, squares_sharp, local_sharp, cross_sharp}
 -- stated where they are proved: W is not below 0, whatever the weights; what stands at each place of the list of local numerators, and
@@ -86,61 +87,64 @@ module _ (x : ℕ → ℤ) (n : ℕ) where
       sum_cong _ _ n (λ j p. sum_cong _ _ j (λ i q. none i j (omega arith) p) ∙ sum_none j)
       ∙ sum_none n
 
--- ---- of every job, over the zones kept
+-- ---- of every job, over the zones kept by the weights that count
 module _ (n : ℕ) (values : List ℤ) (weights : List ℕ) where
+  abbrev counting : List ℕ
+  counting = reduced n values weights
+
   -- their deviations: the squares of d sum to the number kept times M
   pub kept_squared_sum :
-      sum (λ k. square (deviation_of (at (kept_values n weights values)) (kept_count n weights) k)) (kept_count n weights)
+      sum (λ k. square (deviation_of (at (kept_values n counting values)) (kept_count n counting) k)) (kept_count n counting)
       ≡ pos (job_kept n values weights) *ℤ job_spread n values weights
   unfolding job_kept job_spread
-  kept_squared_sum = deviations_squared_sum (at (kept_values n weights values)) (kept_count n weights)
+  kept_squared_sum = deviations_squared_sum (at (kept_values n counting values)) (kept_count n counting)
 
   -- M is 0 exactly when all values of the zones kept are equal
   pub equal_kept :
-      job_spread n values weights ≡ pos 0 → (i j : ℕ) → i < n → j < n → keeps n weights i ≡ true → keeps n weights j ≡ true →
+      job_spread n values weights ≡ pos 0 → (i j : ℕ) → i < n → j < n → keeps n counting i ≡ true → keeps n counting j ≡ true →
       at values i ≡ at values j
   unfolding job_spread
   equal_kept e i j p q f g =
-      let a = kept_place n weights i in
-      let b = kept_place n weights j in
-      let stands : (k : ℕ) → k < n → keeps n weights k ≡ true →
-      at (kept_values n weights values) (kept_place n weights k) ≡ at values k =
-      λ k h l. values_at n weights values (kept_place n weights k) (place_within n weights k h l) ∙ ap (at values) (zone_at_place n weights k h l) in
+      let a = kept_place n counting i in
+      let b = kept_place n counting j in
+      let stands : (k : ℕ) → k < n → keeps n counting k ≡ true →
+      at (kept_values n counting values) (kept_place n counting k) ≡ at values k =
+      λ k h l. values_at n counting values (kept_place n counting k) (place_within n counting k h l) ∙ ap (at values) (zone_at_place n counting k h l) in
       sym (stands i p f)
-      ∙ equal_when_zero (at (kept_values n weights values)) (kept_count n weights) e a b (place_within n weights i p f)
-      (place_within n weights j q g)
+      ∙ equal_when_zero (at (kept_values n counting values)) (kept_count n counting) e a b (place_within n counting i p f)
+      (place_within n counting j q g)
       ∙ stands j q g
 
   pub zero_kept :
-      ((i j : ℕ) → i < n → j < n → keeps n weights i ≡ true → keeps n weights j ≡ true → at values i ≡ at values j) →
+      ((i j : ℕ) → i < n → j < n → keeps n counting i ≡ true → keeps n counting j ≡ true → at values i ≡ at values j) →
       job_spread n values weights ≡ pos 0
   unfolding job_spread
   zero_kept same =
-      zero_when_equal (at (kept_values n weights values)) (kept_count n weights)
+      zero_when_equal (at (kept_values n counting values)) (kept_count n counting)
       (λ a b p q.
-      let s = zone_stands n weights a p in
-      let t = zone_stands n weights b q in
-      values_at n weights values a p
-      ∙ same (kept_zone n weights a) (kept_zone n weights b) s.below t.below s.passes t.passes
-      ∙ sym (values_at n weights values b q))
+      let s = zone_stands n counting a p in
+      let t = zone_stands n counting b q in
+      values_at n counting values a p
+      ∙ same (kept_zone n counting a) (kept_zone n counting b) s.below t.below s.passes t.passes
+      ∙ sym (values_at n counting values b q))
 
   -- no more zones are kept than there are
   pub kept_most : job_kept n values weights ≤ n
   unfolding job_kept
-  kept_most = kept_few n weights
+  kept_most = kept_few n counting
 
   -- W, P and G are sums over all zones too, d(i) being the number kept times x(i), less S
-  pub weight_of_all : (job_row n values weights).weight ≡ weight_of (pair_at weights n) n
+  pub weight_of_all : (job_row n values weights).weight ≡ weight_of (pair_at counting n) n
   unfolding job_row class_row
-  weight_of_all = weight_all n values weights
+  weight_of_all = weight_all n values counting
 
-  pub cross_of_all : (job_row n values weights).cross ≡ cross_of (pair_at weights n) (deviation n values weights) n
+  pub cross_of_all : (job_row n values weights).cross ≡ cross_of (pair_at counting n) (deviation n values counting) n
   unfolding job_row class_row
-  cross_of_all = cross_all n values weights
+  cross_of_all = cross_all n values counting
 
-  pub squares_of_all : (job_row n values weights).squares ≡ squares_of (pair_at weights n) (at values) n
+  pub squares_of_all : (job_row n values weights).squares ≡ squares_of (pair_at counting n) (at values) n
   unfolding job_row class_row
-  squares_of_all = squares_all n values weights
+  squares_of_all = squares_all n values counting
 
 -- ---- how large the measures are, whatever weights of at most 9 are counted off the diagonal
 pub record Sharp (f : ℕ → ℕ → ℕ) (x : ℕ → ℤ) (n : ℕ) : Type 0 where
@@ -184,6 +188,9 @@ module _ (f : ℕ → ℕ → ℕ) (x : ℕ → ℤ) (n : ℕ) (zones : n ≤ 64
 
 -- ---- of every accepted job: at least two zones are kept, the sizes and limits, W and M are at least 1
 module _ (n : ℕ) (values : List ℤ) (weights : List ℕ) (locals : List ℤ) (taken : account_refusal n values weights locals ≡ 0) where
+  abbrev taken_by : List ℕ
+  taken_by = reduced n values weights
+
   abbrev good : Sound n values weights
   good = (accepted n values weights locals taken).good
 
@@ -192,28 +199,27 @@ module _ (n : ℕ) (values : List ℤ) (weights : List ℕ) (locals : List ℤ) 
   kept_least = good.two_kept
 
   pub accepted_sizes :
-      Sharp (pair_at (kept_pairs n weights weights) (kept_count n weights)) (at (kept_values n weights values)) (kept_count n weights)
+      Sharp (pair_at (kept_pairs n taken_by taken_by) (kept_count n taken_by)) (at (kept_values n taken_by values)) (kept_count n taken_by)
   accepted_sizes =
-      let job = good.job in
-      let of_kept = kept_job n values weights job.valued.zones job.valued.near.size (weight_le weights n job.weighted) in
-      let m = kept_count n weights in
-      within_sizes (pair_at (kept_pairs n weights weights) m) (at (kept_values n weights values)) m
+      let of_kept = good.job in
+      let m = kept_count n taken_by in
+      within_sizes (pair_at (kept_pairs n taken_by taken_by) m) (at (kept_values n taken_by values)) m
       of_kept.valued.zones
-      (weight_le (kept_pairs n weights weights) m of_kept.weighted)
-      (kept_clear n values weights good.clear)
+      (weight_le (kept_pairs n taken_by taken_by) m of_kept.weighted)
+      (kept_clear n values taken_by good.clear)
       of_kept.valued.near.size
 
   pub accepted_limits :
-      Limits (pair_at (kept_pairs n weights weights) (kept_count n weights)) (at (kept_values n weights values)) (kept_count n weights)
+      Limits (pair_at (kept_pairs n taken_by taken_by) (kept_count n taken_by)) (at (kept_values n taken_by values)) (kept_count n taken_by)
   accepted_limits = limits_of _ _ _ accepted_sizes
 
   pub weight_one : pos 1 ≤ℤ (job_row n values weights).weight
   weight_one =
-      rw (weight_of_all n values weights) (one_of _ (adding.weight_above (pair_at weights n) n) good.weighty)
+      rw (weight_of_all n values weights) (one_of _ (adding.weight_above (pair_at taken_by n) n) good.weighty)
 
   pub spread_one : pos 1 ≤ℤ job_spread n values weights
   unfolding job_spread
-  spread_one = one_of _ (adding.spread_above (at (kept_values n weights values)) (kept_count n weights)) good.varied
+  spread_one = one_of _ (adding.spread_above (at (kept_values n taken_by values)) (kept_count n taken_by)) good.varied
 
 -- ---- the refusal is the least number that applies: it applies, and no number below it does
 module _ {A : Type 0} (n : ℕ) (values : List ℤ) (weights : List ℕ) (locals : List A) where
@@ -250,20 +256,21 @@ unfolding account_refusal account_rules
 refusal_same n values weights locals others e = ap (λ k. first_broken (call_rules n values weights ((k, n) ∷ []) [])) e
 
 -- ---- an answer is known by its number and its figures, so that the contract leaves no second answer open
-made : (s m w p g : ℤ) (k : ℕ) → Sums
-made s m w p g k = record { total = s; spread = m; weight = w; cross = p; squares = g; kept = k }
+made : (s m w p g : ℤ) (k l : ℕ) → Sums
+made s m w p g k l = record { total = s; spread = m; weight = w; cross = p; squares = g; kept = k; missing = l }
 
 same :
-    (s m w p g : ℤ) (k : ℕ) (s' m' w' p' g' : ℤ) (k' : ℕ) → s ≡ s' → m ≡ m' → w ≡ w' → p ≡ p' → g ≡ g' → k ≡ k' →
-    made s m w p g k ≡ made s' m' w' p' g' k'
-same s m w p g k s' m' w' p' g' k' e1 e2 e3 e4 e5 e6 = cc
+    (s m w p g : ℤ) (k l : ℕ) (s' m' w' p' g' : ℤ) (k' l' : ℕ) → s ≡ s' → m ≡ m' → w ≡ w' → p ≡ p' → g ≡ g' → k ≡ k' → l ≡ l' →
+    made s m w p g k l ≡ made s' m' w' p' g' k' l'
+same s m w p g k l s' m' w' p' g' k' l' e1 e2 e3 e4 e5 e6 e7 = cc
 
 pub answer_unique : (a b : Result Sums Refusal) → number_of a ≡ number_of b → figures_of a ≡ figures_of b → a ≡ b
 unfolding figures_of made
 answer_unique (Err k) (Err l) e f = ap Err (cause_unique k l e)
 answer_unique (Err k) (Ok t) e f = absurd (not_refused k e)
 answer_unique (Ok s) (Err l) e f = absurd (not_refused l (sym e))
-answer_unique (Ok s) (Ok t) e f = ap Ok (same _ _ _ _ _ _ _ _ _ _ _ _ (cc) (cc) (cc) (cc) (cc) (ap nat_abs (ap (λ l. at l 5) f)))
+answer_unique (Ok s) (Ok t) e f =
+    ap Ok (same _ _ _ _ _ _ _ _ _ _ _ _ _ _ (cc) (cc) (cc) (cc) (cc) (ap nat_abs (ap (λ l. at l 5) f)) (ap nat_abs (ap (λ l. at l 6) f)))
 
 -- ---- where nothing is refused, the answer is the sums of the job, and the lent list holds its local numerators
 module _ (n : ℕ) (values : List ℤ) (weights : List ℕ) (locals : List ℤ) (taken : account_refusal n values weights locals ≡ 0) where
@@ -282,11 +289,11 @@ module _ (n : ℕ) (values : List ℤ) (weights : List ℕ) (locals : List ℤ) 
       (r : Result Sums Refusal) (sums : Sums) → figures_of r ≡ account_figures n values weights locals → r ≡ Ok sums → sums.kept ≤ n
   unfolding job_figures zones_figures
   accounted_kept r sums e g =
-      let same = ap (λ (l : List ℤ). nat_abs (at l 5)) (accounted_sums r sums e g) in omega (arith, same, kept_few n weights)
+      let same = ap (λ (l : List ℤ). nat_abs (at l 5)) (accounted_sums r sums e g) in omega (arith, same, kept_few n (reduced n values weights))
 
   pub never_refused : (r : Result Sums Refusal) (k : Refusal) → figures_of r ≡ account_figures n values weights locals → r ≡ Err k → ⊥
   unfolding figures_of job_figures zones_figures
-  never_refused r k e g = let z : ◌≡◌ {A = ℕ} 0 6 = ap length (sym (ap figures_of g) ∙ answered r e) in omega arith
+  never_refused r k e g = let z : ◌≡◌ {A = ℕ} 0 7 = ap length (sym (ap figures_of g) ∙ answered r e) in omega arith
 
   pub locals_left : (left : List ℤ) → left ≡ account_locals n values weights locals → left ≡ job_locals n values weights
   unfolding account_locals

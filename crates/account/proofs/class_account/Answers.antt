@@ -43,7 +43,7 @@ pub work_classes-requires : goal.work_classes-requires
 work_classes-requires c =
     let g = good ((goal.at.work_classes-requires c).In_ok-kept) in
     let job = c.in_ok-kept.ensures.job in
-    rw (job.zones, job.of_values, job.of_weights) (record {
+    rw job.zones (record {
       classed = class_job g.whole;
       class_locals_len = g.of_classes_fit;
       locals_len = g.own_fit;

@@ -1,12 +1,12 @@
 -- `rank` meets its contract: judged first, and worked only where no rule is broken. Assumes nothing.
-use Rattle.std.proofs.Common.{◌≡◌, sym, ◌∙◌, subst, List, ℕ, ◌/◌, ℤ, length, arith}
+use Rattle.std.proofs.Common.{◌≡◌, sym, ap, ◌∙◌, subst, List, ℕ, ◌/◌, ℤ, length, arith}
 use Rattle.std.proofs.lemmas.Result.{err_from_is_err_and}
 use Rattle.refusals.proofs.Refusals.{left_by, worked_by}
 use Rattle.shuffles.specs.Shuffles.{shuffle_count}
 use Rattle.shuffles.specs.Steps.{Shuffles}
 use Rattle.shuffles.proofs.ShuffleList.{whole_rows}
-use Rattle.kept.specs.Kept.{kept_count, kept_values, kept_pairs, kept_shuffles}
-use Rattle.account.specs.Rank.{zones_rank, job_rank, rank_counts, counts_of}
+use Rattle.account.specs.Rank.{job_rank, rank_counts, counts_of}
+use Rattle.account.specs.Steps.{ranked}
 use Rattle.account.proofs.Accepted.{RankAccepted, rank_accepted}
 use Rattle.account.proofs.rank.Goals as goal
 use Rattle.account.proofs.rank.Goals.{In_ok-kept}
@@ -41,12 +41,9 @@ work_rank-requires c = sym c.in_ok-kept.ensures.job.zones
 -- the counts of so many rows are those of the job, where they are its shuffles
 as_job :
     (n : ℕ) (values : List ℤ) (weights shuffles : List ℕ) {counts : List ℕ} {rows : ℕ} → rows ≡ shuffle_count n (length shuffles) →
-    counts
-    ≡ zones_rank rows (kept_count n weights) (kept_values n weights values) (kept_pairs n weights weights)
-    (kept_shuffles n weights rows shuffles) →
-    counts ≡ job_rank n values weights shuffles
+    counts ≡ ranked n values weights rows shuffles → counts ≡ job_rank n values weights shuffles
 unfolding job_rank
-as_job n values weights shuffles e f = rw (← e) f
+as_job n values weights shuffles e f = f ∙ ap (λ rows. ranked n values weights rows shuffles) e
 
 pub returns : goal.returns
 unfolding counts_of rank_counts

@@ -171,7 +171,7 @@ returns c =
     -- what is stored is L(i)
     let own_is =
     running_done _ _ b.k (to_z w64 b.own-bits) nine b.invariant.1
-    ∙ locals_together a.work.now.lists.job.n a.work.now.lists.job.values.now a.work.now.lists.job.weights.now a.work.now.lists.classes.now c.args.work.now.lists.good.low a.i c.requires.i_lt_n in record {
+    ∙ locals_together a.work.now.lists.job.n a.work.now.lists.job.values.now a.work.now.lists.job.weights.now a.work.now.lists.classes.now c.args.work.now.lists.good.classed.low a.i c.requires.i_lt_n in record {
       zoned_2 =
           same_zones a.work.now.lists.job.n a.work.now.lists.job.values.now a.work.now.lists.job.weights.now a.work.now.lists.classes.now (zones_in a.i b.k) (λ k. a.i + 1) _ _ all b.invariant.0;
       owned_2 = record {

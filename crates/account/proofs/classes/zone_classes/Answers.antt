@@ -39,10 +39,10 @@ module _ (n : ℕ) (values : List ℤ) (weights classes : List ℕ) (g : ClassJo
   squares_small k h = rw (squares_are k h) (class_squares_size n values weights classes g k)
 
   weight_together : sum (λ k. (row_at rows k).weight) 9 ≡ weight_of (pair_at weights n) n
-  weight_together = sum_cong _ _ 9 weight_is ∙ weights_together n values weights classes g.low
+  weight_together = sum_cong _ _ 9 weight_is ∙ weights_together n values weights classes g.classed.low
 
   square_together : sum (λ k. (row_at rows k).squares) 9 ≡ squares_of (pair_at weights n) (at values) n
-  square_together = sum_cong _ _ 9 squares_are ∙ squares_together n values weights classes g.low
+  square_together = sum_cong _ _ 9 squares_are ∙ squares_together n values weights classes g.classed.low
 
 -- the call that is answered with the rows and the local numerators
 module _ (c : After-add_zones) where
@@ -85,7 +85,7 @@ returns c =
     let all = ap (sum (at c.add_zones.new.locals)) (locals_sized _ _ _ r _ held.locals_after).count in
     let weight = c.nine_together-weight.ensures.weight ∙ weight_together a.lists.now.job.n a.lists.now.job.values.now a.lists.now.job.weights.now a.lists.now.classes.now g _ held.rows_after in
     let squares = c.nine_together-weight.ensures.square ∙ square_together a.lists.now.job.n a.lists.now.job.values.now a.lists.now.job.weights.now a.lists.now.classes.now g _ held.rows_after in record {
-      result_value = same_figures a.lists.now.job.n a.lists.now.job.values.now a.lists.now.job.weights.now _ _ _ _ _
+      result_value = same_figures a.lists.now.job.n a.lists.now.job.values.now a.lists.now.job.weights.now a.missing _ _ _ _ _
           (total_held _ _ r.valued total)
           (rd w64 (spread_told _ _ r.valued spread) tt).same
           (rd w64 (weight_told _ _ r.weighted weight) tt).same

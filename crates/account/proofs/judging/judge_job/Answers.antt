@@ -6,8 +6,9 @@ use Rattle.refusals.proofs.Refusals.{not_refused}
 use Rattle.refusals.specs.declared.Refusal.{Refusal}
 use Rattle.whole.specs.Rules.{first_broken}
 use Rattle.kept.specs.Kept.{kept_zones}
+use Rattle.kept.specs.Returned.{reduced}
 use Rattle.account.specs.Refusals.{job_rules}
-use Rattle.account.specs.Steps.{Job, Zones, gathered}
+use Rattle.account.specs.Steps.{Zones, gathered}
 use Rattle.account.proofs.Accepted.{Lawful, lawful}
 use Rattle.account.proofs.Found.{Left, judged, never_refused, zones_left, by_lists, rise, by_sums}
 use Rattle.account.proofs.judging.judge_job.Goals as goal
@@ -37,19 +38,19 @@ module _ (c : After-keep) where
 
   never : (refusal : Refusal) → c.keep.result ≡ Err refusal → ⊥
   never =
-      never_refused n weights a.args.zones.now a.requires.le_n a.requires.n_bound a.requires.weights_len a.told-zones _
+      never_refused n values weights a.args.zones.now a.requires.le_n a.requires.n_bound a.requires.values_len a.requires.weights_len a.told-zones _
       c.keep.ensures.many
 
-  kept : (many : ℕ) → c.keep.result ≡ Ok many → Left n weights left many
+  kept : (many : ℕ) → c.keep.result ≡ Ok many → Left n (reduced n values weights) left many
   kept many q =
-      zones_left n weights a.args.zones.now a.requires.le_n a.requires.n_bound a.requires.weights_len a.told-zones _ c.keep.ensures.many
-      left many c.keep.ensures.lent q
+      zones_left n values weights a.args.zones.now a.requires.le_n a.requires.n_bound a.requires.values_len a.requires.weights_len a.told-zones _
+      c.keep.ensures.many left many c.keep.ensures.lent q
 
 -- the zones that the sums are judged of
 abbrev asked : In_ok-many → After-keep
 asked c = ((goal.at.In_ok-many c).After-keep)
 
-lying : (c : In_ok-many) → Left (n (asked c)) (weights (asked c)) (left (asked c)) c.in_ok-many.many
+lying : (c : In_ok-many) → Left (n (asked c)) (reduced (n (asked c)) (values (asked c)) (weights (asked c))) (left (asked c)) c.in_ok-many.many
 lying c = kept (asked c) _ c.in_ok-many.was
 
 -- the job with them
@@ -57,11 +58,8 @@ module _ (q : In_ok-many) where
   abbrev zones : List ℕ
   zones = take q.in_ok-many.many (left (asked q))
 
-  stands : zones ≡ kept_zones (n (asked q)) (weights (asked q))
+  stands : zones ≡ kept_zones (n (asked q)) (reduced (n (asked q)) (values (asked q)) (weights (asked q)))
   stands = (lying q).zones
-
-  job : Job (values (asked q)) (weights (asked q)) (n (asked q))
-  job = let g = good (asked q) in record { valued = g.valued; weighted = g.light }
 
   rising : Zones zones (n (asked q))
   rising = rise (n (asked q)) (values (asked q)) (weights (asked q)) (good (asked q)) zones stands
@@ -91,7 +89,7 @@ shared_ref_as_front-kept c =
     let k = asked q in omega (arith, (lying q).room, k.keep.auto.zones, (a k).told-zones)
 
 pub invariant_of-kept : goal.invariant_of-kept
-invariant_of-kept c = record { good = job ((goal.at.invariant_of-kept c).In_ok-many) }
+invariant_of-kept c = record { good = (good (asked ((goal.at.invariant_of-kept c).In_ok-many))).lent }
 
 pub invariant_of-kept-2 : goal.invariant_of-kept-2
 invariant_of-kept-2 c =

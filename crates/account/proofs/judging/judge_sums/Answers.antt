@@ -13,23 +13,16 @@ use lib.Seq.{length-take-le}
 use Rattle.whole.specs.Integer.{is_zero}
 use Rattle.whole.specs.Rules.{first_broken}
 use Rattle.whole.specs.Table.{at}
+use Rattle.kept.specs.Returned.{reduced}
 use Rattle.account.specs.Measures.{spread_of}
-use Rattle.account.specs.Steps.{Valued, Zones, gathered}
+use Rattle.account.specs.Steps.{gathered}
 use Rattle.account.proofs.KeptLists.{gathered_by, gathered_all}
-use Rattle.account.proofs.Reading.{table_sized}
+use Rattle.account.proofs.KeptJob.{lent_job, whole_job}
+use Rattle.account.proofs.KeptWork as work
 use Rattle.account.proofs.judging.judge_sums.Goals as goal
 use Rattle.account.proofs.judging.judge_sums.Goals.{After-gather, Else-many-n}
 
 module _ (values : List ℤ) (zones : List ℕ) (out : List ℤ) (e : out ≡ gathered values zones) where
-  -- the values of some zones are those of zones
-  gathered_valued : (n : ℕ) → Valued values n → Zones zones n → Valued out (length zones)
-  gathered_valued n v z = record {
-    zones = omega (arith, z.few, z.most);
-    near =
-        table_sized 100000 (length zones) (λ k. at values (get_or zones k 0)) out e
-        (λ k p. v.near.size (get_or zones k 0) (z.below k p));
-  }
-
   -- what is judged of them is 7 of the job, where 6 is not broken
   by_spread :
       eqb (length zones) 0 ≡ false → (r : ℕ) → r ≡ first_broken ((is_zero (spread_of (at out) (length zones)), 7) ∷ []) →
@@ -48,13 +41,21 @@ room c = let z = c.args.kept.now.rising in omega (arith, z.few, z.most)
 pub returns-then-many-eq0 : goal.returns-then-many-eq0
 returns-then-many-eq0 c = rw (eq-eqb _ _ c.if-many-eq0.true) refl
 
+pub invariant_of-judge_spread : goal.invariant_of-judge_spread
+invariant_of-judge_spread c =
+    let kept = c.args.kept.now in
+    let job = kept.job in
+    let counting = reduced job.n job.values.now job.weights.now in
+    let all = sym (work.zones_count job.n counting kept.zones.now kept.kept) ∙ c.if-many-n.true in
+    record { valued = (whole_job job.n job.values.now job.weights.now job.good all).valued }
+
 pub returns-then-many-n : goal.returns-then-many-n
 returns-then-many-n c =
     let kept = c.args.kept.now in
     let job = kept.job in
     let values = job.values.now in
     let zones = kept.zones.now in
-    let all = gathered_all zones job.n kept.rising c.if-many-n.true values job.good.valued.near.count in
+    let all = gathered_all zones job.n kept.rising c.if-many-n.true values job.good.count in
     by_spread values zones values (sym all) (ne_eqb _ _ c.if-many-eq0.false) _ (rw c.if-many-n.true c.judge_spread.ensures)
 
 -- the values that are gathered
@@ -64,10 +65,20 @@ values_are c =
     let long = c.gather.auto.out ∙ length-take-le _ _ (room ((goal.at.After-gather c).Else-many-n)) in
     gathered_by (pos 0) k.job.values.now c.gather.new.out k.zones.now long c.gather.ensures
 
+-- those of zones kept are within the limit
 pub invariant_of-judge_spread-2 : goal.invariant_of-judge_spread-2
 invariant_of-judge_spread-2 c =
     let kept = c.args.kept.now in
-    record { valued = gathered_valued _ _ _ (values_are ((goal.at.invariant_of-judge_spread-2 c).After-gather)) _ kept.job.good.valued kept.rising }
+    let job = kept.job in
+    let counting = reduced job.n job.values.now job.weights.now in
+    let values = values_are ((goal.at.invariant_of-judge_spread-2 c).After-gather) in
+    record {
+      valued =
+          rw (
+            work.values_are job.n counting kept.zones.now kept.kept job.values.now _ values,
+            work.zones_count job.n counting kept.zones.now kept.kept,
+          ) (lent_job job.n job.values.now job.weights.now job.good).valued;
+    }
 
 pub returns : goal.returns
 returns c =

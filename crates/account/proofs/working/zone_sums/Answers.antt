@@ -72,7 +72,7 @@ returns c =
     let spread = c.spread-spread.ensures ∙ summed_alike (λ x m. spread_of (at x) m) s.n_value s.values_value in
     let weight = c.from-weight.ensures ∙ ap pos c.weight_sum.ensures ∙ added_weight _ _ r.weighted in
     let all = ap (sum (at c.local_numerators.new.locals)) (locals_sized _ _ _ r _ locals).count in record {
-      result_value = same_figures job.n job.values.now job.weights.now _ _ _ _ _
+      result_value = same_figures job.n job.values.now job.weights.now c.args.missing _ _ _ _ _
           (total_held _ _ r.valued total)
           (rd w64 (spread_told _ _ r.valued spread) tt).same
           (rd w64 (weight_told _ _ r.weighted weight) tt).same
