@@ -9,13 +9,13 @@ use Rattle.account.specs.Rank.{job_rank}
 use Rattle.account.specs.Refusals.{call_rules}
 
 module _ (n : ℕ) (values : List ℤ) (weights : List ℕ) where
-  -- ---- dca_account: n local numerators and the six sums are lent
+  -- ---- dca_account: n local numerators and the seven sums are lent
 
   -- 1 to 7; 0 where no rule is broken
   unfoldable pub account_number : List ℤ → List ℤ → ℕ
-  account_number locals sums = first_broken (call_rules n values weights ((length locals, n) ∷ (length sums, 6) ∷ []) [])
+  account_number locals sums = first_broken (call_rules n values weights ((length locals, n) ∷ (length sums, 7) ∷ []) [])
 
-  -- L(0), L(1), .. and S, M, W, P, G with the number of zones kept after the call
+  -- L(0), L(1), .. and S, M, W, P, G with the number of zones kept and that of values not returned, after the call
   unfoldable pub locals_after : List ℤ → List ℤ → List ℤ
   locals_after locals sums = unless_refused (account_number locals sums) (job_locals n values weights) locals
 

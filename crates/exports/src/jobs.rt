@@ -29,7 +29,7 @@ fn account_into(
         &[
             (values.len(), Places::Zones),
             (weights.len(), Places::Pairs),
-            (sums.len(), Places::Fixed(6)),
+            (sums.len(), Places::Fixed(7)),
         ],
     )?;
     let figures = account::account(n, values, weights, locals)?;
@@ -37,7 +37,8 @@ fn account_into(
     Ok(())
 }
 
-// The local numerators go to `locals`, n places, and S, M, W, P, G and the number of zones kept to `sums`, 6 places.
+// The local numerators go to `locals`, n places, and S, M, W, P, G, the number of zones kept and that of values not returned to `sums`, 7
+// places.
 #[unsafe(no_mangle)]
 pub extern "C" fn dca_account(
     n: usize,

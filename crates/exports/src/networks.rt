@@ -12,14 +12,15 @@ use grid::Move;
 #[unsafe(no_mangle)]
 pub extern "C" fn dca_join_table(
     n: usize,
+    values: &[i32],
     categories: &[u8],
     weights: &[u8],
     table: &mut [i64],
 ) -> u8
-    ensures number { result ≡ join_refusal n categories.now weights.now (length table.old) }
-    ensures lent { table.new ≡ joins_left n categories.now weights.now table.old }
+    ensures number { result ≡ join_refusal n values.now categories.now weights.now (length table.old) }
+    ensures lent { table.new ≡ joins_left n values.now categories.now weights.now table.old }
 {
-    refusals::number_of(joins::join_table(n, categories, weights, table))
+    refusals::number_of(joins::join_table(n, values, categories, weights, table))
 }
 
 // The Gabriel network of the places, two coordinates a zone, goes to `weights`, n × n places.

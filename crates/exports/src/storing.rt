@@ -16,14 +16,16 @@ use account::{Counts, Sums};
 use coefficients::{Coefficient, Pair};
 use image::Given;
 
-// S, M, W, P, G and the number of zones kept.
+// S, M, W, P, G, the number of zones kept and that of values not returned.
 pub(super) fn put_sums(account: Sums, sums: &mut [i64])
     requires kept_bound { account.kept ≤ 64 }
-    requires sums_len { length sums.old ≡ 6 }
+    requires missing_bound { account.missing ≤ 64 }
+    requires sums_len { length sums.old ≡ 7 }
     ensures { sums.new ≡ listed account }
 {
     // no From leads here from a usize; TryFrom and an unwrap is no plainer
     let kept = account.kept as i64;
+    let missing = account.missing as i64;
     sums.copy_from_slice(&[
         account.total,
         account.spread,
@@ -31,6 +33,7 @@ pub(super) fn put_sums(account: Sums, sums: &mut [i64])
         account.cross,
         account.squares,
         kept,
+        missing,
     ]);
 }
 

@@ -8,6 +8,7 @@ use Rattle.whole.specs.Integer.{equal}
 use Rattle.whole.specs.Table.{table, at}
 use Rattle.nearest.specs.Answers.{nearest_float}
 use Rattle.nearest.specs.Bits.{value_of}
+use Rattle.kept.specs.Returned.{reduced}
 use Rattle.account.specs.Answers.{job_figures, job_locals}
 use Rattle.account.specs.Classes.{class_row_of}
 use Rattle.account.specs.Rank.{job_rank}
@@ -83,7 +84,8 @@ right (class job k w p g moran geary) =
     let worked = class_pair job.zones job.values job.weights job.classes k in
     same equal (w ∷ p ∷ g ∷ []) (row.weight ∷ row.cross ∷ row.squares ∷ []) && shows moran worked.moran && shows geary worked.geary
 right (hot job zones) = same eqb zones (hot_list job.zones job.values job.weights)
-right (joins job categories entries) = same equal entries (join_table job.zones categories job.weights)
+right (joins job categories entries) =
+    same equal entries (join_table job.zones categories (reduced job.zones job.values job.weights))
 right (banded job places bands) = same eqb job.classes (band_classes job.zones places bands)
 right (rank job shuffles less level greater) =
     same eqb (less ∷ level ∷ greater ∷ []) (job_rank job.zones job.values job.weights shuffles)

@@ -4,9 +4,10 @@ use Rattle.std.specs.Prelude.{not, ◌&&◌, ◌||◌, List, [], ◌∷◌, ◌+
 use Rattle.std.specs.Int.{w32}
 use Rattle.std.proofs.Common.{to_z, of_z}
 use Rattle.whole.specs.Rules.{Rule, first_broken, in_turn, outside}
-use Rattle.whole.specs.Search.{any_beyond, any_above}
+use Rattle.whole.specs.Search.{any_above}
 use Rattle.whole.specs.Table.{table, each}
 use Rattle.words.specs.Words.{byte_at, two_at, word_at, two_bytes, word_bytes}
+use Rattle.judges.specs.Values.{any_value_beyond}
 use Rattle.shuffles.specs.Shuffles.{any_lacking}
 use Rattle.account.specs.Refusals.{sum_rules}
 use Rattle.places.specs.Places.{places_in_turn}
@@ -127,7 +128,7 @@ shuffle_count_rule k = (ltb 499 k, 15)
 -- ---- and on its items, which the writer has too but for the joins. Where all items of a section have one rule it is said of them together
 
 abbrev pub value_rules : List ℤ → List Rule
-value_rules values = (any_beyond 100000 values, 3) ∷ []
+value_rules values = (any_value_beyond values, 3) ∷ []
 
 abbrev pub category_rules : List ℕ → List Rule
 category_rules categories = (any_above 7 categories, 8) ∷ []

@@ -74,7 +74,8 @@ pub record TakenByAll (image : List ℕ) : Type 0 where
   pub rank : rank_refusal (count image) (job_of image).values (job_of image).weights (job_of image).shuffles ≡ 0
   -- where it has categories
   pub join_table :
-      (count (from_categories image) ≡ 0 → ⊥) → join_refusal (count image) (job_of image).categories (job_of image).weights 64 ≡ 0
+      (count (from_categories image) ≡ 0 → ⊥) →
+      join_refusal (count image) (job_of image).values (job_of image).categories (job_of image).weights 64 ≡ 0
   -- where it has places
   pub gabriel : (count (from_places image) ≡ 0 → ⊥) → gabriel_refusal (count image) (job_of image).places (count image * count image) ≡ 0
   -- where it has bands

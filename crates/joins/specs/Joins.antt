@@ -5,6 +5,8 @@ use Rattle.whole.specs.Rules.{Rule, first_broken, size_rules, unless_refused}
 use Rattle.whole.specs.Search.{any_above, any_on_diagonal}
 use Rattle.whole.specs.Sum.{sum}
 use Rattle.whole.specs.Table.{table_rows, pair_at}
+use Rattle.judges.specs.Values.{any_value_beyond}
+use Rattle.kept.specs.Returned.{reduced}
 use Rattle.account.specs.Measures.{weight_of}
 
 -- ---- what is worked
@@ -41,17 +43,17 @@ unlike_joins f c n r s = sum (λ j. sum (λ i. pos (weight_across f c r s i j)) 
 
 -- ---- what is refused
 
--- 1, 2, 4, 5 and 8, where `room` places are lent: the join table needs neither values nor 6
-unfoldable pub join_rules : ℕ → List ℕ → List ℕ → ℕ → List Rule
-join_rules n categories weights room =
-    size_rules n ((length categories, n) ∷ (length weights, n * n) ∷ (room, 64) ∷ [])
-    ++ ((any_above 9 weights, 4) ∷ (any_on_diagonal n weights, 5) ∷ (any_above 7 categories, 8) ∷ [])
+-- 1 to 5 and 8, where `room` places are lent: the join table needs neither 6 nor 7, and of the values no more than whether they are returned
+unfoldable pub join_rules : ℕ → List ℤ → List ℕ → List ℕ → ℕ → List Rule
+join_rules n values categories weights room =
+    size_rules n ((length values, n) ∷ (length categories, n) ∷ (length weights, n * n) ∷ (room, 64) ∷ [])
+    ++ ((any_value_beyond values, 3) ∷ (any_above 9 weights, 4) ∷ (any_on_diagonal n weights, 5) ∷ (any_above 7 categories, 8) ∷ [])
 
 -- the refusal, 0 where no rule is broken
-unfoldable pub join_refusal : ℕ → List ℕ → List ℕ → ℕ → ℕ
-join_refusal n categories weights room = first_broken (join_rules n categories weights room)
+unfoldable pub join_refusal : ℕ → List ℤ → List ℕ → List ℕ → ℕ → ℕ
+join_refusal n values categories weights room = first_broken (join_rules n values categories weights room)
 
--- what the lent list holds after the call
-unfoldable pub joins_left : ℕ → List ℕ → List ℕ → List ℤ → List ℤ
-joins_left n categories weights lent =
-    unless_refused (join_refusal n categories weights (length lent)) (join_table n categories weights) lent
+-- what the lent list holds after the call: the table of the weights that count
+unfoldable pub joins_left : ℕ → List ℤ → List ℕ → List ℕ → List ℤ → List ℤ
+joins_left n values categories weights lent =
+    unless_refused (join_refusal n values categories weights (length lent)) (join_table n categories (reduced n values weights)) lent

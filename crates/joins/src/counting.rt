@@ -1,6 +1,7 @@
 // The join table's work on lists that were judged and accepted.
 ghost use Rattle.std.specs.Prelude.{◌≡◌, false, ◌+◌, ◌*◌, ◌≤◌, ◌<◌, pos, length, replicate};
 ghost use Rattle.whole.specs.Search.{any_above};
+ghost use Rattle.kept.specs.Returned.{reduced};
 ghost use Rattle.joins.specs.Joins.{join_table};
 ghost use Rattle.joins.specs.Steps.{Counted};
 
@@ -45,5 +46,30 @@ impl Zones<'_> {
         for i in 0..self.n {
             self.count_row(i, entries);
         }
+    }
+
+    // The same by the weights that count, where some value is not returned: a function of its own, as the common case need not clear room for
+    // them.
+    pub(super) fn count_returned(&self, values: &[i32], entries: &mut [i64])
+        requires two { 2 ≤ self.now.n }
+        requires values_len { length values.now ≡ self.now.n }
+        requires zeros { entries.old ≡ replicate 64 (pos 0) }
+        ensures { entries.new
+            ≡ join_table self.now.n self.now.categories.now (reduced self.now.n values.now self.now.weights.now) }
+    {
+        let Zones {
+            n,
+            categories,
+            weights,
+        } = *self;
+        let mut space: [u8; 4096] = rooms::room();
+        let counting = &mut space[..n * n];
+        kept::reduce(n, values, weights, counting).unwrap();
+        let zones = Zones {
+            n,
+            categories,
+            weights: counting,
+        };
+        zones.count_joins(entries);
     }
 }

@@ -1,4 +1,5 @@
-// The join table: how much weight goes from the zones of one category to those of another.
+// The join table: how much weight goes from the zones of one category to those of another. The weights of a zone whose value is not returned
+// count as 0.
 #![tactic(auto)]
 
 mod counting;
@@ -14,20 +15,25 @@ use refusals::Refusal;
 // Works the join table: `table` is lent 64 places for T(0,0), T(0,1), .., T(7,7) and is left as it was where the call is refused.
 pub fn join_table(
     n: usize,
+    values: &[i32],
     categories: &[u8],
     weights: &[u8],
     table: &mut [i64],
 ) -> Result<(), Refusal>
-    ensures number { number_of result ≡ join_refusal n categories.now weights.now (length table.old) }
-    ensures lent { table.new ≡ joins_left n categories.now weights.now table.old }
+    ensures number { number_of result ≡ join_refusal n values.now categories.now weights.now (length table.old) }
+    ensures lent { table.new ≡ joins_left n values.now categories.now weights.now table.old }
 {
-    judging::judge_joins(n, categories, weights, table.len())?;
+    judging::judge_joins(n, values, categories, weights, table.len())?;
     table.fill(0);
     let zones = Zones {
         n,
         categories,
         weights,
     };
+    if kept::count_missing(values) > 0 {
+        zones.count_returned(values, table);
+        return Ok(());
+    }
     zones.count_joins(table);
     Ok(())
 }

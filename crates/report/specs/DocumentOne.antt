@@ -1,5 +1,5 @@
--- The report of a job in which every zone counts, as document 01 alone has it: what the text is where every zone touches another. Assumes
--- nothing.
+-- The report of a job in which every zone counts, as document 01 alone has it: what the text is where every zone touches another and its
+-- value is returned. Assumes nothing.
 use Rattle.std.specs.Prelude.{List, ◌++◌, ℕ, suc, length}
 use Rattle.whole.specs.Order.{ordered}
 use Rattle.whole.specs.Table.{table, at, pair_at, each}

@@ -54,10 +54,11 @@ pub record Within (sums : Sums) : Type 0 where
   pub geary_numerator : nat_abs (pos ((sums.kept - 1) * sums.kept) *ℤ sums.squares) ≤ ratio_limit
   pub geary_divisor : nat_abs ((pos 2 *ℤ sums.weight) *ℤ sums.spread) ≤ ratio_limit
 
--- weights and figures of n zones
-pub record Zoned (n weights figures : ℕ) : Type 0 where
+-- values, weights and figures of n zones
+pub record Zoned (n values weights figures : ℕ) : Type 0 where
   pub least : 2 ≤ n
   pub most : n ≤ 64
+  pub values_fit : values ≡ n
   pub weights_fit : weights ≡ n * n
   pub figures_fit : figures ≡ n
 
@@ -79,8 +80,8 @@ pub record Sound (n : ℕ) (values : List ℤ) (weights : List ℕ) : Type 0 whe
       first_broken (class_rules n values weights classes further) ≡ 0
 
 -- categories, where there are any
-abbrev pub Joinable : ℕ → List ℕ → List ℕ → Type 0
-Joinable n categories weights = (length categories ≡ 0 → ⊥) → join_refusal n categories weights 64 ≡ 0
+abbrev pub Joinable : ℕ → List ℤ → List ℕ → List ℕ → Type 0
+Joinable n values categories weights = (length categories ≡ 0 → ⊥) → join_refusal n values categories weights 64 ≡ 0
 
 -- places and bands, where there are bands, with so many places lent for classes
 pub record Bandable (n : ℕ) (places : List ℤ) (bands : List ℕ) (room : ℕ) : Type 0 where
@@ -100,7 +101,7 @@ pub record Classed (n : ℕ) (places : List ℤ) (bands classes : List ℕ) : Ty
 -- its values and weights, and its other lists, each where it has something in it
 pub record SoundJob (n : ℕ) (job : Job) : Type 0 where
   pub weighted : Sound n job.values job.weights
-  pub joined : Joinable n job.categories job.weights
+  pub joined : Joinable n job.values job.categories job.weights
   pub banded : (length job.bands ≡ 0 → ⊥) → band_refusal n job.places job.bands (n * n) ≡ 0
   pub few_bands : length job.bands ≤ 8
   pub ranked : rank_refusal n job.values job.weights job.shuffles ≡ 0

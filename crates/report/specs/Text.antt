@@ -6,6 +6,7 @@ use Rattle.whole.specs.Rules.{first_broken, misfits, unless_refused}
 use Rattle.whole.specs.Table.{table, at, pair_at, each, over}
 use Rattle.refusals.specs.declared.Refusal.{Refusal}
 use Rattle.kept.specs.Kept.{keeps, kept_count, kept_values, kept_pairs}
+use Rattle.kept.specs.Returned.{reduced}
 use Rattle.account.specs.Measures.{total_of, deviation_of, spread_of, weight_of, cross_of, squares_of}
 use Rattle.account.specs.Refusals.{job_spread}
 use Rattle.account.specs.Answers.{job_locals}
@@ -73,17 +74,19 @@ counts_line counts = line "rank" (numbers (whole counts))
 
 -- ---- of values and weights of n zones
 module _ (n : ℕ) (values : List ℤ) (weights : List ℕ) where
+  -- the weights that count
+  abbrev w : List ℕ
+  w = reduced n values weights
+
   -- the whole job: what holds of the zones kept
   unfoldable pub job_lines : List ℕ
-  job_lines =
-      whole_lines (kept_count n weights) (at (kept_values n weights values))
-      (pair_at (kept_pairs n weights weights) (kept_count n weights))
+  job_lines = whole_lines (kept_count n w) (at (kept_values n w values)) (pair_at (kept_pairs n w w) (kept_count n w))
 
   -- the zones in hot-list order; one that is left out has no line
   unfoldable pub local_lines : List ℕ
   local_lines =
       each
-      (λ zone. cond (keeps n weights zone) (local_line (job_locals n values weights) (job_spread n values weights) zone) [])
+      (λ zone. cond (keeps n w zone) (local_line (job_locals n values weights) (job_spread n values weights) zone) [])
       (hot_list n values weights)
 
   unfoldable pub rank_line : List ℕ → List ℕ
@@ -96,7 +99,7 @@ module _ (n : ℕ) (values : List ℤ) (weights : List ℕ) where
       each (λ k. class_line (class_row_of n values weights classes k) (class_pair n values weights classes k) k)
       (numbered (suc (length bands)))
 
--- ---- of categories and weights of n zones
+-- ---- of categories of n zones, and weights that all count
 module _ (n : ℕ) (categories weights : List ℕ) where
   -- r, s, T where T is above 0
   unfoldable pub pair_line : ℕ → ℕ → List ℕ
@@ -120,7 +123,7 @@ unfoldable pub job_text : ℕ → Job → List ℕ
 job_text n job =
     job_lines n job.values job.weights
     ++ (local_lines n job.values job.weights
-    ++ (where_given job.categories (pair_lines n job.categories job.weights)
+    ++ (where_given job.categories (pair_lines n job.categories (reduced n job.values job.weights))
     ++ (where_given job.bands (class_lines n job.values job.weights job.places job.bands)
     ++ where_given job.shuffles (rank_line n job.values job.weights job.shuffles))))
 

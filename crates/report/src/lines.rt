@@ -10,14 +10,15 @@ use crate::putting::{self, Line};
 use account::{ClassRow, Sums};
 use coefficients::{Pair, Whole};
 
-// The zones of a job: the weights between them, and of each its local numerator and the bits of its local Moran.
-// These two stay two lists: the public calls that fill and order them are handed each as one.
+// The zones of a job: their values, the weights between them, and of each its local numerator and the bits of its local Moran.
+// These last two stay two lists: the public calls that fill and order them are handed each as one.
 #[derive(Clone, Copy)]
 pub(super) struct Zones<'a> {
+    pub(super) values: &'a [i32],
     pub(super) weights: &'a [u8],
     pub(super) locals: &'a [i64],
     pub(super) figures: &'a [u64],
-    ghost zoned: { Zoned (length locals.now) (length weights.now) (length figures.now) },
+    ghost zoned: { Zoned (length locals.now) (length values.now) (length weights.now) (length figures.now) },
 }
 
 // The number of zones kept, S, M, then W P G. That a figure is no NaN and that at most 64 zones are kept is asked by each function: Pair

@@ -1,6 +1,7 @@
 // The calls on a job, and its lines from what they answer. No call refuses the job of an accepted image, so that each answer is unwrapped.
 ghost use Rattle.std.specs.Prelude.{◌≡◌, cond, [], ◌++◌, suc, ◌≤◌, eqb, length, take};
 ghost use Rattle.whole.specs.Table.{each};
+ghost use Rattle.kept.specs.Returned.{reduced};
 ghost use Rattle.account.specs.Rank.{rank_refusal};
 ghost use Rattle.hot_list.specs.HotList.{in_order};
 ghost use Rattle.coefficients.specs.Steps.{ReadablePair, ReadablePairs};
@@ -31,11 +32,17 @@ fn put_hot_list(page: &mut [u8], at: usize, zones: &Zones, many: usize, spread: 
     requires room { Room page.old at 8192 }
     ensures { Put page.old page.new at result 8192
         (each (zone_line zones.now.locals.now zones.now.figures.now spread)
-        (take many (in_order (length zones.now.locals.now) zones.now.weights.now zones.now.locals.now))) }
+        (take many (in_order (length zones.now.locals.now) zones.now.values.now zones.now.weights.now zones.now.locals.now))) }
 {
     let n = zones.locals.len();
     let mut space: [u8; 64] = [0; 64];
-    hot_list::order(n, zones.weights, zones.locals, &mut space[..n]).unwrap();
+    hot_list::order(
+        n,
+        zones.values,
+        zones.weights,
+        zones.locals,
+        &mut space[..n],
+    ).unwrap();
     lines::put_zones(page, at, &space[..many], zones, spread)
 }
 
@@ -47,7 +54,8 @@ fn put_account(page: &mut Page, whole: Whole, zones: &Zones) -> usize
     ensures { Put page.old page.new 0 result 8736
         ((sum_lines whole.sums ++ ratio_lines whole.sums whole.pair)
         ++ each (zone_line zones.now.locals.now zones.now.figures.now whole.sums.spread)
-        (take whole.sums.kept (in_order (length zones.now.locals.now) zones.now.weights.now zones.now.locals.now))) }
+        (take whole.sums.kept
+        (in_order (length zones.now.locals.now) zones.now.values.now zones.now.weights.now zones.now.locals.now))) }
 {
     let sums = whole.sums;
     let spread = sums.spread;
@@ -58,17 +66,24 @@ fn put_account(page: &mut Page, whole: Whole, zones: &Zones) -> usize
 }
 
 // The pair lines, which need categories.
-fn put_pairs(page: &mut [u8], at: usize, n: usize, categories: &[u8], weights: &[u8]) -> usize
-    requires joinable { Joinable n categories.now weights.now }
+fn put_pairs(
+    page: &mut [u8],
+    at: usize,
+    values: &[i32],
+    categories: &[u8],
+    weights: &[u8],
+) -> usize
+    requires joinable { Joinable (length values.now) values.now categories.now weights.now }
     requires room { Room page.old at 6144 }
     ensures { Put page.old page.new at result 6144
-        (where_given categories.now (pair_lines n categories.now weights.now)) }
+        (where_given categories.now
+        (pair_lines (length values.now) categories.now (reduced (length values.now) values.now weights.now))) }
 {
     if categories.is_empty() {
         return at;
     }
     let mut table: [i64; 64] = [0; 64];
-    joins::join_table(n, categories, weights, &mut table).unwrap();
+    joins::join_table(values.len(), values, categories, weights, &mut table).unwrap();
     lines::put_table(page, at, &table)
 }
 
@@ -143,12 +158,13 @@ pub(super) fn put_job(page: &mut Page, lists: &Lists) -> usize
         n, values, weights, classes, &mut rows, locals, figures,
     ).unwrap();
     let zones = Zones {
+        values,
         weights,
         locals,
         figures,
     };
     let at_pairs = put_account(page, report.whole, &zones);
-    let at_classes = put_pairs(page, at_pairs, n, categories, weights);
+    let at_classes = put_pairs(page, at_pairs, values, categories, weights);
     let at_rank = put_classes(page, at_classes, &rows, report.classes, bands.len());
     put_rank(page, at_rank, values, weights, shuffles)
 }
