@@ -9,6 +9,7 @@ use Rattle.whole.specs.Rules.{first_broken}
 use Rattle.whole.specs.Table.{at, pair_at}
 use Rattle.whole.proofs.TableRows.{rows_each}
 use Rattle.kept.specs.Kept.{kept_count, kept_values, kept_pairs}
+use Rattle.kept.specs.Returned.{reduced}
 use Rattle.kept.proofs.KeptZones.{put_back_each}
 use Rattle.account.specs.Measures.{deviation_of, local_of}
 use Rattle.account.specs.Limits.{Limits}
@@ -44,17 +45,20 @@ module _ (n : ℕ) (values : List ℤ) (weights : List ℕ) (sums : Sums) (e : l
 -- ---- what is within the limits
 module _ (n : ℕ) (values : List ℤ) (weights classes : List ℕ) (lent : List (ℕ × ℕ))
     (taken : first_broken (class_rules n values weights classes lent) ≡ 0) where
+  abbrev counting : List ℕ
+  counting = reduced n values weights
+
   abbrev m : ℕ
-  m = kept_count n weights
+  m = kept_count n counting
 
   abbrev x : List ℤ
-  x = kept_values n weights values
+  x = kept_values n counting values
 
   abbrev w : List ℕ
-  w = kept_pairs n weights weights
+  w = kept_pairs n counting counting
 
   abbrev c : List ℕ
-  c = kept_pairs n weights classes
+  c = kept_pairs n counting classes
 
   -- the account's own refusal
   none : account_refusal n values weights (job_locals n values weights) ≡ 0
@@ -106,7 +110,7 @@ module _ (n : ℕ) (values : List ℤ) (weights classes : List ℕ) (lent : List
   unfolding zones_local
   local_ratio i h =
       rw (job_locals_at n values weights i h)
-      (put_back_each n weights (λ (z : ℤ). Ratio z (job_spread n values weights)) (zones_local m x w) zero_ratio
+      (put_back_each n counting (λ (z : ℤ). Ratio z (job_spread n values weights)) (zones_local m x w) zero_ratio
       (local_within (pair_at w m) job_limits)
       i h)
 
@@ -115,7 +119,7 @@ module _ (n : ℕ) (values : List ℤ) (weights classes : List ℕ) (lent : List
   class_local_ratio t h =
       rows_each (class_local_of n values weights classes) (λ (z : ℤ). Ratio z (job_spread n values weights)) 9 n (pos 0)
       (λ k i p q.
-      put_back_each n weights (λ (z : ℤ). Ratio z (job_spread n values weights)) (zones_class_local m x w c k) zero_ratio
+      put_back_each n counting (λ (z : ℤ). Ratio z (job_spread n values weights)) (zones_class_local m x w c k) zero_ratio
       (local_within (class_weight w c m k) (class_limits n values weights classes lent taken k))
       i q)
       t h

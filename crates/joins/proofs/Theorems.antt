@@ -16,6 +16,7 @@ use Rattle.whole.proofs.Rules.{first_least, first_applies, kept_when_refused, wo
 use Rattle.whole.proofs.Search.{none_above}
 use Rattle.whole.proofs.Sum.{sum_cong, sum_+, sum_rows, pairs_twice}
 use Rattle.whole.proofs.TableRows.{rows_at}
+use Rattle.kept.specs.Returned.{reduced}
 use Rattle.account.specs.Measures.{weight_of, pairs_of, row_of}
 use Rattle.account.proofs.Adding.{counts_once, weight_parts}
 use Rattle.account.specs.Answers.{job_row}
@@ -125,44 +126,49 @@ pub join_table_at :
 unfolding join_table
 join_table_at n categories weights r s h k = rows_at (joins_of (pair_at weights n) (category_at categories) n) 8 8 r s (pos 0) h k
 
--- where nothing is refused, what the lent list holds adds up to the W of the weights
+-- where nothing is refused, what the lent list holds adds up to the W of the weights that count
 pub joins_left_add_up :
-    (n : ℕ) (categories weights : List ℕ) (room : ℕ) → join_refusal n categories weights room ≡ 0 →
-    sum (at (join_table n categories weights)) 64 ≡ weight_of (pair_at weights n) n
-joins_left_add_up n categories weights room e =
-    let g = accepted n categories weights room e in
-    let f = pair_at weights n in
+    (n : ℕ) (values : List ℤ) (categories weights : List ℕ) (room : ℕ) → join_refusal n values categories weights room ≡ 0 →
+    sum (at (join_table n categories (reduced n values weights))) 64 ≡ weight_of (pair_at (reduced n values weights) n) n
+joins_left_add_up n values categories weights room e =
+    let g = accepted n values categories weights room e in
+    let w = reduced n values weights in
+    let f = pair_at w n in
     let c = category_at categories in
-    sum_rows (at (join_table n categories weights)) 8 8
-    ∙ sum_cong _ _ 8 (λ r h. sum_cong _ _ 8 (λ s k. join_table_at n categories weights r s h k))
+    sum_rows (at (join_table n categories w)) 8 8
+    ∙ sum_cong _ _ 8 (λ r h. sum_cong _ _ 8 (λ s k. join_table_at n categories w r s h k))
     ∙ joins_add_up f c n (λ i p. let z = none_above 7 categories g.low i (omega (arith, g.categories_fit)) in omega arith)
 
--- and to the W of a job with these weights, which is taken over the zones kept: a zone left out has no weight
+-- and to the W that the account answers of a job with these values and weights, which is taken over the zones kept: a zone left out has no
+-- weight that counts
 pub joins_of_job :
-    (n : ℕ) (values : List ℤ) (categories weights : List ℕ) (room : ℕ) → join_refusal n categories weights room ≡ 0 →
-    sum (at (join_table n categories weights)) 64 ≡ (job_row n values weights).weight
-joins_of_job n values categories weights room e = joins_left_add_up n categories weights room e ∙ sym (weight_of_all n values weights)
+    (n : ℕ) (values : List ℤ) (categories weights : List ℕ) (room : ℕ) → join_refusal n values categories weights room ≡ 0 →
+    sum (at (join_table n categories (reduced n values weights))) 64 ≡ (job_row n values weights).weight
+joins_of_job n values categories weights room e =
+    joins_left_add_up n values categories weights room e ∙ sym (weight_of_all n values weights)
 
 -- ---- what the call leaves in the lent list
-module _ (n : ℕ) (categories weights : List ℕ) (lent left : List ℤ) (e : left ≡ joins_left n categories weights lent) where
-  pub table_left : join_refusal n categories weights (length lent) ≡ 0 → left ≡ join_table n categories weights
+module _
+    (n : ℕ) (values : List ℤ) (categories weights : List ℕ) (lent left : List ℤ) (e : left ≡ joins_left n values categories weights lent) where
+  pub table_left :
+      join_refusal n values categories weights (length lent) ≡ 0 → left ≡ join_table n categories (reduced n values weights)
   unfolding joins_left
   table_left z = e ∙ worked_when_taken _ _ _ z
 
-  pub table_leaves : (join_refusal n categories weights (length lent) ≡ 0 → ⊥) → left ≡ lent
+  pub table_leaves : (join_refusal n values categories weights (length lent) ≡ 0 → ⊥) → left ≡ lent
   unfolding joins_left
   table_leaves f = e ∙ kept_when_refused _ _ _ f
 
 -- ---- the refusal is the least number that applies
 pub join_refusal_least :
-    (n : ℕ) (categories weights : List ℕ) (room number : ℕ) → Applies number (join_rules n categories weights room) →
-    join_refusal n categories weights room ≤ number
+    (n : ℕ) (values : List ℤ) (categories weights : List ℕ) (room number : ℕ) →
+    Applies number (join_rules n values categories weights room) → join_refusal n values categories weights room ≤ number
 unfolding join_refusal join_rules
-join_refusal_least n categories weights room number =
-    first_least 0 number (join_rules n categories weights room) (tt, (tt, (tt, (tt, (tt, tt)))))
+join_refusal_least n values categories weights room number =
+    first_least 0 number (join_rules n values categories weights room) (tt, (tt, (tt, (tt, (tt, (tt, tt))))))
 
 pub join_refusal_applies :
-    (n : ℕ) (categories weights : List ℕ) (room : ℕ) → (join_refusal n categories weights room ≡ 0 → ⊥) →
-    Applies (join_refusal n categories weights room) (join_rules n categories weights room)
+    (n : ℕ) (values : List ℤ) (categories weights : List ℕ) (room : ℕ) → (join_refusal n values categories weights room ≡ 0 → ⊥) →
+    Applies (join_refusal n values categories weights room) (join_rules n values categories weights room)
 unfolding join_refusal
-join_refusal_applies n categories weights room f = first_applies (join_rules n categories weights room) f
+join_refusal_applies n values categories weights room f = first_applies (join_rules n values categories weights room) f

@@ -1,2 +1,3 @@
 -- Laws of refusals.
 pub mod Refusals
+pub mod Unrefused

@@ -9,4 +9,3 @@ pub mod Printing
 pub mod FirstBytes
 pub mod AllKept
 pub mod Theorems
-pub mod Unrefused

@@ -21,7 +21,7 @@ use Rattle.report.specs.Text.{image_text, refusal_line, report_text, length_in}
 use Rattle.report.specs.Text.{print_refusal, print_length, page_left, line_refusal, line_length, line_left}
 use Rattle.report.specs.Steps.{Put, Prints}
 use Rattle.report.proofs.Puts.{put_over}
-use Rattle.report.proofs.Unrefused.{unrefused}
+use Rattle.refusals.proofs.Unrefused.{unrefused}
 
 -- the cause where the library has no array of a page
 pub untaken : {A : Type 0} (page : Option A) {e : Refusal} → page ≡ None → Err e ≡ ok_or page Length → e ≡ Length

@@ -2,7 +2,7 @@
 use mathlib.Core.Path.{◌∙◌}
 use borrow.Author.Rules.{rules}
 use Rattle.report.proofs.Classing.{unbanded, bands_taken, banded}
-use Rattle.report.proofs.Unrefused.{unrefused}
+use Rattle.refusals.proofs.Unrefused.{unrefused}
 use Rattle.report.proofs.working.class_pairs.Goals as goal
 
 pub unwrap-requires : goal.unwrap-requires

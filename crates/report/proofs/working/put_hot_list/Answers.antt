@@ -16,7 +16,7 @@ use Rattle.hot_list.proofs.Ordered.{order_taken, in_order_length, in_order_below
 use Rattle.report.specs.Steps.{Listed, zone_line}
 use Rattle.report.specs.declared.lines.Zones.{Zones}
 use Rattle.report.proofs.Puts.{put_as, put_most}
-use Rattle.report.proofs.Unrefused.{unrefused}
+use Rattle.refusals.proofs.Unrefused.{unrefused}
 use Rattle.report.proofs.working.put_hot_list.Goals as goal
 use Rattle.report.proofs.working.put_hot_list.Goals.{After-order, Start}
 

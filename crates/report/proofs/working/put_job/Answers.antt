@@ -18,7 +18,7 @@ use Rattle.report.proofs.Puts.{put_as, put_then}
 use Rattle.report.proofs.Listed.{class_lines_are as class-rows-are}
 use Rattle.report.proofs.JobText.{figures_length, zones_are, sums_within, job_lines_are}
 use Rattle.report.proofs.JobText.{Reports, plain_taken, reports, class_lines_are, job_text_is}
-use Rattle.report.proofs.Unrefused.{unrefused}
+use Rattle.refusals.proofs.Unrefused.{unrefused}
 use Rattle.report.proofs.working.put_job.Goals as goal
 use Rattle.report.proofs.working.put_job.Goals.{After-class_pairs, After-plain_report, After-unwrap-report, Start}
 

@@ -5,7 +5,7 @@ use lib.ListN.{length}
 use Rattle.joins.proofs.Theorems.{table_left}
 use Rattle.report.proofs.Listed.{given, joined_lines}
 use Rattle.report.proofs.Puts.{put_as}
-use Rattle.report.proofs.Unrefused.{unrefused}
+use Rattle.refusals.proofs.Unrefused.{unrefused}
 use Rattle.report.proofs.working.put_pairs.Goals as goal
 
 pub unwrap-requires : goal.unwrap-requires

@@ -10,7 +10,7 @@ use Rattle.account.specs.Rank.{job_rank, three}
 use Rattle.account.proofs.RankTheorems.{ranked_counts}
 use Rattle.report.proofs.Listed.{given, few_counted, counted_line}
 use Rattle.report.proofs.Puts.{put_as}
-use Rattle.report.proofs.Unrefused.{unrefused}
+use Rattle.refusals.proofs.Unrefused.{unrefused}
 use Rattle.report.proofs.working.put_rank.Goals as goal
 use Rattle.report.proofs.working.put_rank.Goals.{After-unwrap-counts}
 
