@@ -21,15 +21,15 @@ use Rattle.agreement.specs.declared.Every.{Every}
 
 -- ---- sums are known by their list
 members_same :
-    {s m w p g s' m' w' p' g' : ℤ} {k k' : ℕ} → s ≡ s' → m ≡ m' → w ≡ w' → p ≡ p' → g ≡ g' → k ≡ k' →
-    ◌≡◌ {A = Sums} (record { total = s; spread = m; weight = w; cross = p; squares = g; kept = k })
-    (record { total = s'; spread = m'; weight = w'; cross = p'; squares = g'; kept = k' })
-members_same a b c d e f = rw (a, b, c, d, e, f) refl
+    {s m w p g s' m' w' p' g' : ℤ} {k l k' l' : ℕ} → s ≡ s' → m ≡ m' → w ≡ w' → p ≡ p' → g ≡ g' → k ≡ k' → l ≡ l' →
+    ◌≡◌ {A = Sums} (record { total = s; spread = m; weight = w; cross = p; squares = g; kept = k; missing = l })
+    (record { total = s'; spread = m'; weight = w'; cross = p'; squares = g'; kept = k'; missing = l' })
+members_same a b c d e f g = rw (a, b, c, d, e, f, g) refl
 
 sums_same : (s t : Sums) → account.listed s ≡ account.listed t → s ≡ t
 sums_same s t e =
     let place : (k : ℕ) → at (account.listed s) k ≡ at (account.listed t) k = λ k. ap (λ (l : List ℤ). at l k) e in
-    members_same (place 0) (place 1) (place 2) (place 3) (place 4) (ap nat_abs (place 5))
+    members_same (place 0) (place 1) (place 2) (place 3) (place 4) (ap nat_abs (place 5)) (ap nat_abs (place 6))
 
 -- ---- an answer of the report is known by its number, its sums, its pair and those of its classes
 whole_same : {s t : Sums} {p q : Pair} → s ≡ t → p ≡ q → ◌≡◌ {A = Whole} (record { sums = s; pair = p }) (record { sums = t; pair = q })

@@ -4,6 +4,7 @@ use Rattle.whole.specs.Rules.{first_broken, unless_refused}
 use Rattle.whole.specs.Table.{table, at}
 use Rattle.refusals.specs.declared.Refusal.{Refusal}
 use Rattle.account.specs.Refusals.{job_spread}
+use Rattle.kept.specs.Returned.{missing_count}
 use Rattle.account.specs.Answers.{job_kept, job_figures, job_locals}
 use Rattle.account.specs.Classes.{class_sums, class_locals_of, class_rules}
 use Rattle.account.specs.declared.Sums.{Sums}
@@ -59,7 +60,7 @@ lent_lengths n lent =
 
 -- ---- what is worked
 
--- S, M, W, P, G of a job and the number of zones kept, as a struct
+-- the seven figures of a job, as a struct
 unfoldable pub job_sums : ℕ → List ℤ → List ℕ → Sums
 job_sums n values weights =
     let figures = job_figures n values weights in
@@ -70,6 +71,7 @@ job_sums n values weights =
       cross = at figures 3;
       squares = at figures 4;
       kept = job_kept n values weights;
+      missing = missing_count values;
     }
 
 -- the float report of a job

@@ -20,25 +20,32 @@ module _ (n : ℕ) (values : List ℤ) (weights zones : List ℕ) (good : sizes_
   same = refusal_same n values weights locals zones (places ∙ sym (sizes_fit n values weights zones good).1)
 
   -- of the rest `order` refuses nothing, where it is lent a numerator for each zone
-  in_range : (held : List ℤ) → length held ≡ n → order_refusal n (length weights) (length held) (length zones) ≡ 0
+  in_range : (held : List ℤ) → length held ≡ n → order_refusal n (length values) (length weights) (length held) (length zones) ≡ 0
   in_range held l =
       let lengths = job_lengths n (length values) (length weights) ((length zones, n) ∷ []) in
       let sizes = sizes_hold n lengths good in
       let own = fits (length values) n ((length weights, n * n) ∷ (length zones, n) ∷ []) sizes.fitting in
       let lent = fits (length weights) (n * n) ((length zones, n) ∷ []) own.1 in
-      order_taken n (length weights) (length held) (length zones) sizes.two sizes.zones lent.0 l
-      (sizes_fit n values weights zones good).1
+      order_taken n (length values) (length weights) (length held) (length zones)
+      (record {
+        two = sizes.two;
+        most = sizes.zones;
+        values_fit = own.0;
+        weights_fit = lent.0;
+        locals_fit = l;
+        zones_fit = (sizes_fit n values weights zones good).1;
+      })
 
   -- and puts the zones in the order of the local numerators that the account left
   module _ (held : List ℤ) (taken : 0 ≡ account_refusal n values weights locals) (h : held ≡ account_locals n values weights locals) where
     job : held ≡ job_locals n values weights
     job = locals_left n values weights locals (sym taken) held h
 
-    pub number_put : order_refusal n (length weights) (length held) (length zones) ≡ account_refusal n values weights zones
+    pub number_put : order_refusal n (length values) (length weights) (length held) (length zones) ≡ account_refusal n values weights zones
     number_put = in_range held (ap length job ∙ job_locals_length n values weights) ∙ taken ∙ same
 
-    pub zones_put : order_left n weights held zones ≡ hot_zones n values weights zones
+    pub zones_put : order_left n values weights held zones ≡ hot_zones n values weights zones
     unfolding order_left hot_zones hot_list
     zones_put =
         let none = in_range held (ap length job ∙ job_locals_length n values weights) in
-        worked_by _ _ _ (sym none) ∙ ap (in_order n weights) job ∙ sym (worked_by _ _ _ (taken ∙ same))
+        worked_by _ _ _ (sym none) ∙ ap (in_order n values weights) job ∙ sym (worked_by _ _ _ (taken ∙ same))
