@@ -24,6 +24,7 @@ use Rattle.account.specs.Measures.{total_of, deviation_of, spread_of, weight_of,
 use Rattle.account.specs.Limits.{Limits}
 use Rattle.kept.specs.Kept.{keeps, kept_count, kept_zone, kept_place, kept_values, kept_pairs}
 use Rattle.kept.specs.Returned.{missing_count, reduced}
+use Rattle.kept.proofs.Reduced.{missing_few}
 use Rattle.kept.proofs.KeptZones.{kept_few, zone_stands, zone_at_place, place_within, values_at}
 use Rattle.account.specs.Refusals.{job_spread, job_rules, job_lengths, call_rules, account_rules, account_refusal}
 use Rattle.account.specs.Answers.{listed, zones_figures, figures_of, job_kept, job_figures, job_row, job_locals}
@@ -290,6 +291,14 @@ module _ (n : ℕ) (values : List ℤ) (weights : List ℕ) (locals : List ℤ) 
   unfolding job_figures zones_figures
   accounted_kept r sums e g =
       let same = ap (λ (l : List ℤ). nat_abs (at l 5)) (accounted_sums r sums e g) in omega (arith, same, kept_few n (reduced n values weights))
+
+  -- and of whose values no more are not returned
+  pub accounted_missing :
+      (r : Result Sums Refusal) (sums : Sums) → figures_of r ≡ account_figures n values weights locals → r ≡ Ok sums → sums.missing ≤ n
+  unfolding job_figures zones_figures
+  accounted_missing r sums e g =
+      let same = ap (λ (l : List ℤ). nat_abs (at l 6)) (accounted_sums r sums e g) in
+      omega (arith, same, missing_few values, (accepted n values weights locals taken).good.lent.count)
 
   pub never_refused : (r : Result Sums Refusal) (k : Refusal) → figures_of r ≡ account_figures n values weights locals → r ≡ Err k → ⊥
   unfolding figures_of job_figures zones_figures

@@ -69,13 +69,13 @@ module _ (n : ℕ) (values : List ℤ) (weights : List ℕ) where
     then_below e = rw (eq-eqb lent places (own_fits lent places e)) refl
 
   module _ (locals sums : List ℤ) where
-    pub account_sizes : (r : ℕ) → r ≡ own (length sums) 6 → (r ≡ 0 → ⊥) → r ≡ account_number n values weights locals sums
+    pub account_sizes : (r : ℕ) → r ≡ own (length sums) 7 → (r ≡ 0 → ⊥) → r ≡ account_number n values weights locals sums
     unfolding account_number
-    account_sizes = sizes_number (length sums) 6 (length locals) n []
+    account_sizes = sizes_number (length sums) 7 (length locals) n []
 
-    pub account_below : own (length sums) 6 ≡ 0 → account_number n values weights locals sums ≡ account_refusal n values weights locals
+    pub account_below : own (length sums) 7 ≡ 0 → account_number n values weights locals sums ≡ account_refusal n values weights locals
     unfolding account_number account_refusal account_rules
-    account_below = then_below (length sums) 6 (length locals) n []
+    account_below = then_below (length sums) 7 (length locals) n []
 
   module _ (shuffles counts : List ℕ) where
     abbrev thirteen : List Rule

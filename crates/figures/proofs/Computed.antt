@@ -19,6 +19,8 @@ use Rattle.kept.specs.Kept.{
   kept_first,
   put_back,
 }
+use Rattle.judges.specs.Values.{missing}
+use Rattle.kept.specs.Returned.{missing_count, reduced}
 use Rattle.account.specs.Measures.{total_of, deviation_of, spread_of, row_of, pairs_of, weight_of, cross_of, squares_of, local_of}
 use Rattle.account.specs.Refusals.{job_spread}
 use Rattle.account.specs.Answers.{class_row, zones_figures, zones_local, job_kept, job_figures, job_row, job_locals}
@@ -33,7 +35,7 @@ use Rattle.figures.specs.Figures.{right, all_right, published}
 
 pub figures_right : T (all_right published)
 unfolding right all_right published sum some count first place_of ordered table table_rows pair_at nearest_float round to_bits
-    passing keeps kept_zones kept_count kept_values kept_pairs kept_row kept_shuffles kept_first put_back
+    missing missing_count reduced passing keeps kept_zones kept_count kept_values kept_pairs kept_row kept_shuffles kept_first put_back
     total_of deviation_of spread_of row_of pairs_of weight_of cross_of squares_of local_of class_row class_weight
     zones_figures zones_local zones_class_row zones_rank job_spread job_kept job_figures job_row job_locals class_row_of
     hotter in_order hot_list weight_between joins_of join_table across up squared_distance within_band band_class pair_class band_classes

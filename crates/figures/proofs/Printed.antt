@@ -22,6 +22,8 @@ use Rattle.kept.specs.Kept.{
   kept_first,
   put_back,
 }
+use Rattle.judges.specs.Values.{missing}
+use Rattle.kept.specs.Returned.{reduced}
 use Rattle.account.specs.Measures.{total_of, deviation_of, spread_of, row_of, pairs_of, weight_of, cross_of, squares_of, local_of}
 use Rattle.account.specs.Refusals.{job_spread}
 use Rattle.account.specs.Answers.{class_row, zones_local, job_kept, job_locals}
@@ -58,7 +60,7 @@ use Rattle.figures.specs.WorkedReport.{printed, worked_report}
 computed : job_text 4 report_job ≡ printed worked_report
 unfolding job_text whole_lines counts_line job_lines local_lines local_line pair_lines pair_line class_lines class_line rank_line numbers bits coefficient each
     unsigned decimal hexadecimal nearest_float round to_bits table table_rows pair_at sum some count first place_of ordered
-    passing keeps kept_zones kept_count kept_values kept_pairs kept_row kept_shuffles kept_first put_back
+    missing reduced passing keeps kept_zones kept_count kept_values kept_pairs kept_row kept_shuffles kept_first put_back
     total_of deviation_of spread_of row_of pairs_of weight_of cross_of squares_of local_of class_row class_weight
     zones_local zones_class_row zones_rank job_spread job_kept job_locals class_row_of
     hotter in_order hot_list shuffle_count values_cross shuffle_cross compared job_rank weight_between joins_of across up squared_distance

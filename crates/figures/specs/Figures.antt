@@ -1,5 +1,5 @@
--- The published cases as one table, a row each: what is worked, and what document 01 says that it gives, or A.6 of document 02, by which
--- a zone that touches nobody is left out. Assumes nothing.
+-- The published cases as one table, a row each: what is worked, and what document 01 says that it gives, or document 02: A.6, by which a
+-- zone that touches nobody is left out, and A.7, by which a zone whose value is not returned is left out too. Assumes nothing.
 use Rattle.std.specs.Prelude.{Bool, true, false, ◌&&◌, List, [], ◌∷◌, ◌++◌, ℕ, ◌^◌, eqb, ℤ, pos, negsuc, ◌*ℤ◌}
 use Prim.Native.String.{String}
 use Rattle.std.specs.Float.{binary64}
@@ -8,6 +8,7 @@ use Rattle.whole.specs.Integer.{equal}
 use Rattle.whole.specs.Table.{table, at}
 use Rattle.nearest.specs.Answers.{nearest_float}
 use Rattle.nearest.specs.Bits.{value_of}
+use Rattle.judges.specs.Values.{not_returned}
 use Rattle.kept.specs.Returned.{reduced}
 use Rattle.account.specs.Answers.{job_figures, job_locals}
 use Rattle.account.specs.Classes.{class_row_of}
@@ -33,15 +34,15 @@ pub record Job : Type 0 where
   pub classes : List ℕ
 
 pub data Row : Type 0 where
-  -- P, W, M, G, the number of zones kept and the local numerators of a job
-  sums : Job → ℤ → ℤ → ℤ → ℤ → ℤ → List ℤ → Row
+  -- P, W, M, G, the number of zones kept, that of values not returned and the local numerators of a job
+  sums : Job → ℤ → ℤ → ℤ → ℤ → ℤ → ℤ → List ℤ → Row
   -- I and c of a job
   pair : Job → Printed → Printed → Row
   -- W, P, G, I and c of a class
   class : Job → ℕ → ℤ → ℤ → ℤ → Printed → Printed → Row
   -- the zones of a job in hot-list order
   hot : Job → List ℕ → Row
-  -- the join table of a job's weights, under these categories
+  -- the join table of a job's weights that count, under these categories
   joins : Job → List ℕ → List ℤ → Row
   -- the classes of a job are those that these places and bands give
   banded : Job → List ℤ → List ℕ → Row
@@ -72,10 +73,10 @@ shows (number z) Weightless = false
 shows (bits n) Weightless = false
 
 unfoldable pub right : Row → Bool
-right (sums job p w m g kept locals) =
+right (sums job p w m g kept missing locals) =
     let worked = job_figures job.zones job.values job.weights in
-    same equal (p ∷ w ∷ m ∷ g ∷ kept ∷ locals)
-    (at worked 3 ∷ at worked 2 ∷ at worked 1 ∷ at worked 4 ∷ at worked 5 ∷ job_locals job.zones job.values job.weights)
+    same equal (p ∷ w ∷ m ∷ g ∷ kept ∷ missing ∷ locals)
+    (at worked 3 ∷ at worked 2 ∷ at worked 1 ∷ at worked 4 ∷ at worked 5 ∷ at worked 6 ∷ job_locals job.zones job.values job.weights)
 right (pair job moran geary) =
     let worked = job_pair job.zones job.values job.weights in
     shows moran worked.moran && shows geary worked.geary
@@ -129,6 +130,17 @@ reported = record {
   classes = 0 ∷ 1 ∷ 0 ∷ 0 ∷ 1 ∷ 0 ∷ 2 ∷ 0 ∷ 0 ∷ 2 ∷ 0 ∷ 0 ∷ 0 ∷ 0 ∷ 0 ∷ 0 ∷ [];
 }
 
+-- case (a)'s line behind two zones more: zone 1 has not returned its value, and zone 0 touches nobody besides. 0-1 of weight 2, 1-2 of
+-- weight 3, 2-3 and 3-4 of weight 1
+abbrev pub unreturned : Job
+unreturned = record {
+  zones = 5;
+  values = pos 9 ∷ not_returned ∷ pos 1 ∷ pos 2 ∷ pos 6 ∷ [];
+  weights =
+      0 ∷ 2 ∷ 0 ∷ 0 ∷ 0 ∷ 2 ∷ 0 ∷ 3 ∷ 0 ∷ 0 ∷ 0 ∷ 3 ∷ 0 ∷ 1 ∷ 0 ∷ 0 ∷ 0 ∷ 1 ∷ 0 ∷ 1 ∷ 0 ∷ 0 ∷ 0 ∷ 1 ∷ 0 ∷ [];
+  classes = table (λ k. 0) 25;
+}
+
 -- so many entries of 0
 abbrev pub zeros : ℕ → List ℤ
 zeros n = table (λ k. pos 0) n
@@ -136,9 +148,9 @@ zeros n = table (λ k. pos 0) n
 -- ---- the table
 unfoldable pub published : List Case
 published =
-    ("(a)", sums line_of_three (negsuc 17) (pos 4) (pos 42) (pos 34) (pos 3) (pos 18 ∷ negsuc 8 ∷ negsuc 26 ∷ []))
+    ("(a)", sums line_of_three (negsuc 17) (pos 4) (pos 42) (pos 34) (pos 3) (pos 0) (pos 18 ∷ negsuc 8 ∷ negsuc 26 ∷ []))
     ∷ ("(b)", pair two_joined (number (negsuc 0)) (number (pos 1)))
-    ∷ ("(c), by A.6", sums reported (pos 8) (pos 8) (pos 8) (pos 8) (pos 3) (pos 12 ∷ pos 4 ∷ negsuc 7 ∷ pos 0 ∷ []))
+    ∷ ("(c), by A.6", sums reported (pos 8) (pos 8) (pos 8) (pos 8) (pos 3) (pos 0) (pos 12 ∷ pos 4 ∷ negsuc 7 ∷ pos 0 ∷ []))
     ∷ ("the report's I and c", pair reported (bits 0x3FC0000000000000) (bits 0x3FD8000000000000))
     ∷ ("the report's unclassed pairs", class reported 0 (pos 0) (pos 0) (pos 0) none none)
     ∷ ("(d), class 1, by A.6", class reported 1 (pos 6) (pos 24) (pos 0) (bits 0x3FE0000000000000) (bits 0x0000000000000000))
@@ -151,4 +163,8 @@ published =
     ∷ ("(h), a tie", ratio (pos 9007199254740995) (pos 1) (number (pos 9007199254740996)))
     ∷ ("(i)", ratio (negsuc 0) (pos 3) (bits 0xBFD5555555555555))
     ∷ ("(j)", ratio (pos 1) (pos 10) (bits 0x3FB999999999999A))
+    ∷ ("A.7, a value not returned",
+      sums unreturned (negsuc 17) (pos 4) (pos 42) (pos 34) (pos 3) (pos 1) (pos 0 ∷ pos 0 ∷ pos 18 ∷ negsuc 8 ∷ negsuc 26 ∷ []))
+    ∷ ("its hot list", hot unreturned (2 ∷ 3 ∷ 4 ∷ 0 ∷ 1 ∷ []))
+    ∷ ("its joins", joins unreturned (0 ∷ 1 ∷ 0 ∷ 0 ∷ 1 ∷ []) ((pos 2 ∷ pos 1 ∷ zeros 6) ++ (pos 1 ∷ zeros 7) ++ zeros 48))
     ∷ []

@@ -1,5 +1,5 @@
--- A territory in which every zone touches another: its report leaves nothing out, and is the one of document 01 alone. Assumes nothing.
-use mathlib.Core.Path.{◌≡◌, refl, ap, ◌∙◌}
+-- A territory in which every value is returned and every zone touches another: its report leaves nothing out, and is the one of document 01 alone. Assumes nothing.
+use mathlib.Core.Path.{◌≡◌, refl, sym, ap, ◌∙◌}
 use mathlib.Core.Bool.{false, cond}
 use mathlib.Core.List.{List, [], ◌++◌}
 use Prim.Native.Nat.{ℕ, suc, ◌*◌, ◌<◌}
@@ -10,17 +10,18 @@ use Rattle.whole.specs.Order.{lacks, ordered}
 use Rattle.whole.specs.Table.{table, at, pair_at, each}
 use Rattle.whole.proofs.Stores.{each_same}
 use Rattle.kept.specs.Kept.{keeps, kept_count}
+use Rattle.kept.specs.Returned.{reduced}
 use Rattle.kept.proofs.KeptZones.{keeps_all, same_values, same_pairs}
 use Rattle.shuffles.specs.Shuffles.{shuffle_count}
 use Rattle.account.specs.Measures.{spread_of}
 use Rattle.account.specs.Refusals.{job_spread}
-use Rattle.account.specs.Answers.{zones_local, job_locals}
+use Rattle.account.specs.Answers.{zones_local, job_kept, job_locals}
 use Rattle.account.specs.Classes.{zones_class_row}
 use Rattle.account.specs.Rank.{zones_rank}
 use Rattle.account.specs.Steps.{zones_locals}
 use Rattle.account.specs.declared.ClassRow.{ClassRow}
 use Rattle.account.proofs.Accepted.{rank_accepted}
-use Rattle.account.proofs.AllKept.{all_kept, all_spread, all_locals, all_class_row, all_rank}
+use Rattle.account.proofs.AllKept.{nothing_reduced, all_kept, all_spread, all_locals, all_class_row, all_rank}
 use Rattle.hot_list.specs.HotList.{hotter, hot_list}
 use Rattle.hot_list.proofs.HotTheorems.{hot_list_length, hot_list_each, hot_list_of_all}
 use Rattle.places.specs.Bands.{band_classes}
@@ -36,12 +37,23 @@ use Rattle.report.specs.DocumentOne.{base_text}
 use Rattle.report.proofs.Classing.{band_classes_length}
 use Rattle.report.proofs.Listed.{class_text}
 
-module _ (n : ℕ) (values : List ℤ) (weights : List ℕ) (all : kept_count n weights ≡ n) (values_fit : length values ≡ n)
+module _ (n : ℕ) (values : List ℤ) (weights : List ℕ) (all : kept_count n (reduced n values weights) ≡ n) (values_fit : length values ≡ n)
     (weights_fit : length weights ≡ n * n) where
+  abbrev counting : List ℕ
+  counting = reduced n values weights
+
+  -- the weights that count are those lent
+  as_lent : counting ≡ weights
+  as_lent = nothing_reduced n values weights all values_fit weights_fit
+
+  every : kept_count n weights ≡ n
+  every = ap (kept_count n) (sym as_lent) ∙ all
+
   -- the lines of the whole job
   whole_same : job_lines n values weights ≡ whole_lines n (at values) (pair_at weights n)
   unfolding job_lines
-  whole_same = rw (same_values n weights all values values_fit, same_pairs n weights all weights weights_fit, all) refl
+  whole_same =
+      rw (as_lent, same_values n weights every values values_fit, same_pairs n weights every weights weights_fit, every) refl
 
   -- those of its zones: each has one, in the order of the numerators alone
   abbrev own : List ℤ
@@ -53,10 +65,10 @@ module _ (n : ℕ) (values : List ℤ) (weights : List ℕ) (all : kept_count n 
   none_out : local_lines n values weights ≡ each (local_line own M) (hot_list n values weights)
   unfolding local_lines
   none_out =
-      each_same (λ zone. cond (keeps n weights zone) (local_line own M zone) []) (local_line own M) 0 (hot_list n values weights)
+      each_same (λ zone. cond (keeps n counting zone) (local_line own M zone) []) (local_line own M) 0 (hot_list n values weights)
       (λ k h.
       let below = (hot_list_each n values weights).into k (omega (arith, hot_list_length n values weights)) in
-      ap (λ b. cond b (local_line own M (get_or (hot_list n values weights) k 0)) []) (keeps_all n weights all _ below))
+      ap (λ b. cond b (local_line own M (get_or (hot_list n values weights) k 0)) []) (keeps_all n counting all _ below))
 
   numerators_same : own ≡ table (zones_local n values weights) n
   unfolding zones_locals
@@ -113,13 +125,21 @@ parts_same c p q r s = rw (p, q, r, s) refl
 
 -- of a job whose shuffles are whole rows, none of which lacks a zone number
 pub all_kept_text :
-    (n : ℕ) (job : Job) → kept_count n job.weights ≡ n → length job.values ≡ n → length job.weights ≡ n * n →
+    (n : ℕ) (job : Job) → job_kept n job.values job.weights ≡ n → length job.values ≡ n → length job.weights ≡ n * n →
     length job.shuffles ≡ shuffle_count n (length job.shuffles) * n →
     ((r : ℕ) → r < shuffle_count n (length job.shuffles) → lacks (pair_at job.shuffles n r) n ≡ false) →
     job_text n job ≡ base_text n job
-unfolding job_text base_text
+unfolding job_text base_text job_kept
 all_kept_text n job all v w long full =
-    parts_same (where_given job.categories (pair_lines n job.categories job.weights))
+    ap
+    (λ counting.
+    job_lines n job.values job.weights
+    ++ (local_lines n job.values job.weights
+    ++ (where_given job.categories (pair_lines n job.categories counting)
+    ++ (where_given job.bands (class_lines n job.values job.weights job.places job.bands)
+    ++ where_given job.shuffles (rank_line n job.values job.weights job.shuffles)))))
+    (nothing_reduced n job.values job.weights all v w)
+    ∙ parts_same (where_given job.categories (pair_lines n job.categories job.weights))
     (whole_same n job.values job.weights all v w)
     (locals_same n job.values job.weights all v w)
     (ap (where_given job.bands) (classes_same n job.values job.weights all v w job.places job.bands))
@@ -127,7 +147,7 @@ all_kept_text n job all v w long full =
 
 -- of an accepted image
 pub all_kept_report :
-    (image : List ℕ) → image_refusal image ≡ 0 → kept_count (count image) (job_of image).weights ≡ count image →
+    (image : List ℕ) → image_refusal image ≡ 0 → job_kept (count image) (job_of image).values (job_of image).weights ≡ count image →
     image_text image ≡ base_text (count image) (job_of image)
 unfolding image_text given_in
 all_kept_report image e all =

@@ -20,6 +20,7 @@ use Rattle.refusals.specs.declared.Refusal.{Refusal}
 use Rattle.nearest.specs.Answers.{nearest_bits}
 use Rattle.pages.specs.Lines.{line, numbers, bits}
 use Rattle.kept.specs.Kept.{keeps, kept_count, kept_values, kept_pairs}
+use Rattle.kept.specs.Returned.{reduced}
 use Rattle.account.specs.Measures.{total_of, deviation_of, spread_of, weight_of, cross_of, squares_of}
 use Rattle.account.specs.Answers.{listed, class_row, zones_figures, job_kept, job_figures, job_row, job_locals}
 use Rattle.account.specs.Classes.{class_sums}
@@ -59,6 +60,10 @@ first_only test text (x ∷ items) (suc many) h =
 
 -- ---- the zones kept, in hot-list order
 module _ (n : ℕ) (values : List ℤ) (weights : List ℕ) where
+  -- the weights that count
+  abbrev counting : List ℕ
+  counting = reduced n values weights
+
   abbrev M : ℤ
   M = job_spread n values weights
 
@@ -86,35 +91,38 @@ module _ (n : ℕ) (values : List ℤ) (weights : List ℕ) where
       omega (arith, job_locals_length n values weights)
 
   all_lines :
-      each (zone_line locals figures M) (take (job_kept n values weights) (in_order n weights locals)) ≡ local_lines n values weights
+      each (zone_line locals figures M) (take (job_kept n values weights) (in_order n values weights locals)) ≡ local_lines n values weights
   unfolding local_lines hot_list
   all_lines =
       sym
-      (first_only (keeps n weights) (zone_line locals figures M) (hot_list n values weights) (job_kept n values weights)
+      (first_only (keeps n counting) (zone_line locals figures M) (hot_list n values weights) (job_kept n values weights)
       (λ p h. hot_list_kept_first n values weights p (omega (arith, hot_list_length n values weights))))
-      ∙ each_same (λ zone. cond (keeps n weights zone) (zone_line locals figures M zone) [])
-      (λ zone. cond (keeps n weights zone) (local_line locals M zone) [])
+      ∙ each_same (λ zone. cond (keeps n counting zone) (zone_line locals figures M zone) [])
+      (λ zone. cond (keeps n counting zone) (local_line locals M zone) [])
       0 (hot_list n values weights)
-      (λ k h. ap (λ l. cond (keeps n weights (get_or (hot_list n values weights) k 0)) l []) (one_zone _ (below k h)))
+      (λ k h. ap (λ l. cond (keeps n counting (get_or (hot_list n values weights) k 0)) l []) (one_zone _ (below k h)))
 
   -- as the lists, the spread and the number of zones kept that were handed out hold them
   pub zones_are :
       {held : List ℤ} {floats : List ℕ} {spread : ℤ} {many : ℕ} → held ≡ locals → floats ≡ figures → spread ≡ M →
       many ≡ job_kept n values weights →
-      each (zone_line held floats spread) (take many (in_order (length held) weights held)) ≡ local_lines n values weights
+      each (zone_line held floats spread) (take many (in_order (length held) values weights held)) ≡ local_lines n values weights
   zones_are g h f k = rw (f, g, h, k, job_locals_length n values weights) all_lines
 
 -- ---- the sums that the account answers
 module _ (n : ℕ) (values : List ℤ) (weights : List ℕ) (sound : Sound n values weights) where
+  abbrev by_counting : List ℕ
+  by_counting = reduced n values weights
+
   -- the zones kept
   abbrev m : ℕ
-  m = kept_count n weights
+  m = kept_count n by_counting
 
   abbrev x : ℕ → ℤ
-  x = at (kept_values n weights values)
+  x = at (kept_values n by_counting values)
 
   abbrev w : ℕ → ℕ → ℕ
-  w = pair_at (kept_pairs n weights weights) m
+  w = pair_at (kept_pairs n by_counting by_counting) m
 
   taken : account_refusal n values weights (job_locals n values weights) ≡ 0
   taken = sound.taken (job_locals n values weights) (job_locals_length n values weights)
@@ -235,13 +243,13 @@ five_parts a b c d e =
 pub job_text_is :
     (n : ℕ) (job : Job) →
     (((job_lines n job.values job.weights ++ local_lines n job.values job.weights)
-    ++ where_given job.categories (pair_lines n job.categories job.weights))
+    ++ where_given job.categories (pair_lines n job.categories (reduced n job.values job.weights)))
     ++ where_given job.bands (class_lines n job.values job.weights job.places job.bands))
     ++ where_given job.shuffles (rank_line n job.values job.weights job.shuffles)
     ≡ job_text n job
 unfolding job_text
 job_text_is n job =
     five_parts (job_lines n job.values job.weights) (local_lines n job.values job.weights)
-    (where_given job.categories (pair_lines n job.categories job.weights))
+    (where_given job.categories (pair_lines n job.categories (reduced n job.values job.weights)))
     (where_given job.bands (class_lines n job.values job.weights job.places job.bands))
     (where_given job.shuffles (rank_line n job.values job.weights job.shuffles))

@@ -8,4 +8,5 @@ pub mod ReadJob
 pub mod Printing
 pub mod FirstBytes
 pub mod AllKept
+pub mod AllReturned
 pub mod Theorems

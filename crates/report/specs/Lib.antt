@@ -2,4 +2,5 @@
 pub mod Lines
 pub mod Text
 pub mod DocumentOne
+pub mod RequestSix
 pub mod Steps

@@ -6,7 +6,7 @@ use Rattle.std.proofs.lemmas.Result.{err_from_is_err_and}
 use Rattle.refusals.proofs.Refusals.{not_refused, left_by, worked_by}
 use Rattle.account.specs.Answers.{figures_of, account_figures, account_locals}
 use Rattle.account.specs.Refusals.{account_refusal}
-use Rattle.account.proofs.Theorems.{accounted_kept}
+use Rattle.account.proofs.Theorems.{accounted_kept, accounted_missing}
 use Rattle.exports.specs.Jobs.{account_number, locals_after, sums_after}
 use Rattle.exports.proofs.Numbers.{own, own_fits, own_zones, account_sizes, account_below}
 use Rattle.exports.proofs.jobs.account_into.Goals as goal
@@ -14,7 +14,7 @@ use Rattle.exports.proofs.jobs.account_into.Goals.{In_ok-judge_lent}
 
 module _ (c : In_ok-judge_lent) where
   -- the sizes are good, those of the list of sums among them
-  fit : own c.args.n c.args.values.now c.args.weights.now (length c.args.sums.now) 6 ≡ 0
+  fit : own c.args.n c.args.values.now c.args.weights.now (length c.args.sums.now) 7 ≡ 0
   fit = sym c.in_ok-judge_lent.ensures
 
   -- so that the account's number is the call's
@@ -48,10 +48,14 @@ put_sums-requires c =
     let a = c.args in
     let good = fit ((goal.at.put_sums-requires c).In_ok-judge_lent) in
     let told = c.in_ok-figures.ensures in
-    let kept =
-    accounted_kept a.n a.values.now a.weights.now a.locals.now (sym told.number) _ c.in_ok-figures.figures told.figures refl in record {
-      kept_bound = omega (arith, kept, own_zones a.n a.values.now a.weights.now _ 6 good);
-      sums_len = own_fits a.n a.values.now a.weights.now _ 6 good;
+    let zones = own_zones a.n a.values.now a.weights.now _ 7 good in
+    let figures = c.in_ok-figures.figures in
+    let kept = accounted_kept a.n a.values.now a.weights.now a.locals.now (sym told.number) _ figures told.figures refl in
+    let missing = accounted_missing a.n a.values.now a.weights.now a.locals.now (sym told.number) _ figures told.figures refl in
+    record {
+      kept_bound = omega (arith, kept, zones);
+      missing_bound = omega (arith, missing, zones);
+      sums_len = own_fits a.n a.values.now a.weights.now _ 7 good;
     }
 
 pub returns : goal.returns

@@ -20,6 +20,6 @@ returns c =
     let zones =
     put_as c.put_hot_list.ensures
     (ap (λ m. each (zone_line z.locals.now z.figures.now m)
-    (take a.whole.sums.kept (in_order (length z.locals.now) z.weights.now z.locals.now)))
+    (take a.whole.sums.kept (in_order (length z.locals.now) z.values.now z.weights.now z.locals.now)))
     spread_read) in
     put_then (put_then c.put_sums-place.ensures c.put_ratios-end.ensures) zones

@@ -21,20 +21,20 @@ use Rattle.report.proofs.working.put_hot_list.Goals as goal
 use Rattle.report.proofs.working.put_hot_list.Goals.{After-order, Start}
 
 -- the first zones of the order, so many, where the order stands at the front of an array
-module _ (n : ℕ) (weights : List ℕ) (locals : List ℤ) (many : ℕ) (few : many ≤ n) where
+module _ (n : ℕ) (values : List ℤ) (weights : List ℕ) (locals : List ℤ) (many : ℕ) (few : many ≤ n) where
   abbrev shown : List ℕ
-  shown = take many (in_order n weights locals)
+  shown = take many (in_order n values weights locals)
 
   shown_length : length shown ≡ many
-  shown_length = length-take-le many (in_order n weights locals) (omega (arith, few, in_order_length n weights locals))
+  shown_length = length-take-le many (in_order n values weights locals) (omega (arith, few, in_order_length n values weights locals))
 
   below : (k : ℕ) → k < many → get_or shown k 0 < n
-  below k h = rw (get_or-take many (in_order n weights locals) k 0 h) (in_order_below n weights locals k (omega (arith, h, few)))
+  below k h = rw (get_or-take many (in_order n values weights locals) k 0 h) (in_order_below n values weights locals k (omega (arith, h, few)))
 
-  module _ (zones rest : List ℕ) (e : zones ≡ in_order n weights locals) where
+  module _ (zones rest : List ℕ) (e : zones ≡ in_order n values weights locals) where
     front_is : take many (zones ++ rest) ≡ shown
     front_is =
-        take-append-le many zones rest (omega (arith, few, ap length e, in_order_length n weights locals)) ∙ ap (take many) e
+        take-append-le many zones rest (omega (arith, few, ap length e, in_order_length n values weights locals)) ∙ ap (take many) e
 
     front_length : length (take many (zones ++ rest)) ≡ many
     front_length = ap length front_is ∙ shown_length
@@ -63,6 +63,9 @@ module _ (c : After-order) where
   abbrev n : ℕ
   n = length of_zones.locals.now
 
+  abbrev values : List ℤ
+  values = of_zones.values.now
+
   abbrev weights : List ℕ
   weights = of_zones.weights.now
 
@@ -72,18 +75,26 @@ module _ (c : After-order) where
   abbrev zones : List ℕ
   zones = c.order.new.zones
 
-  zones_left : zones ≡ in_order n weights locals
-  unfolding order_left
-  zones_left =
+  -- nothing is refused
+  taken : order_refusal n (length values) (length weights) (length locals) (length (take n (rooms_left c))) ≡ 0
+  taken =
       let z = of_zones.zoned in
-      c.order.ensures.lent
-      ∙ worked_when_taken _ _ _
-      (order_taken n _ _ _ z.least z.most z.weights_fit refl (length-take-le _ _ z.most))
+      order_taken n _ _ _ _
+      (record {
+        two = z.least;
+        most = z.most;
+        values_fit = z.values_fit;
+        weights_fit = z.weights_fit;
+        locals_fit = refl;
+        zones_fit = length-take-le _ _ z.most;
+      })
+
+  zones_left : zones ≡ in_order n values weights locals
+  unfolding order_left
+  zones_left = c.order.ensures.lent ∙ worked_when_taken _ _ _ taken
 
   ordered : IsOk c.order.result
-  ordered =
-      let z = of_zones.zoned in
-      unrefused _ (c.order.ensures.number ∙ order_taken n _ _ _ z.least z.most z.weights_fit refl (length-take-le _ _ z.most))
+  ordered = unrefused _ (c.order.ensures.number ∙ taken)
 
 pub unwrap-requires : goal.unwrap-requires
 unwrap-requires c = ordered ((goal.at.unwrap-requires c).After-order)
@@ -91,14 +102,14 @@ unwrap-requires c = ordered ((goal.at.unwrap-requires c).After-order)
 pub put_zones-requires-clause-listed : goal.put_zones-requires-clause-listed
 put_zones-requires-clause-listed c =
     let after_order = (goal.at.put_zones-requires-clause-listed c).After-order in
-    there (n after_order) (weights after_order) (locals after_order) _ c.requires.few (zones after_order) _ (zones_left after_order) refl
+    there (n after_order) (values after_order) (weights after_order) (locals after_order) _ c.requires.few (zones after_order) _ (zones_left after_order) refl
 
 pub returns : goal.returns
 returns c =
     let after_order = (goal.at.returns c).After-order in
     let few = c.requires.few in
     put_as
-    (put_most c.put_zones.ensures (narrow (n after_order) (weights after_order) (locals after_order) _ few (zones after_order) _
+    (put_most c.put_zones.ensures (narrow (n after_order) (values after_order) (weights after_order) (locals after_order) _ few (zones after_order) _
     (zones_left after_order) (of_zones after_order).zoned.most))
-    (lines (n after_order) (weights after_order) (locals after_order) _ few (zones after_order) _ (zones_left after_order) _ _ _
+    (lines (n after_order) (values after_order) (weights after_order) (locals after_order) _ few (zones after_order) _ (zones_left after_order) _ _ _
     (to_z-of_z w64 c.args.spread (s after_order).ranges.spread))

@@ -109,6 +109,7 @@ invariant_of-zones c =
       zoned = record {
         least = omega (arith, (sound b).two, locals_fit);
         most = omega (arith, (sound b).zones, locals_fit);
+        values_fit = (sound b).values_fit ∙ sym locals_fit;
         weights_fit = (sound b).weights_fit ∙ ap (λ m. m * m) (sym locals_fit);
         figures_fit = ap length (said u).of_zones ∙ figures_length (n b) (values b) (weights b) ∙ ap length (sym (said u).in_locals);
       };

@@ -15,5 +15,5 @@ pub returns : goal.returns
 returns c =
     let some : length c.args.categories.now ≡ 0 → ⊥ = search rules in
     put_as c.put_table.ensures
-    (joined_lines _ _ _ _ (table_left _ _ _ _ _ c.join_table.ensures.lent (c.requires.joinable some))
+    (joined_lines _ _ _ _ (table_left _ _ _ _ _ _ c.join_table.ensures.lent (c.requires.joinable some))
     ∙ sym (given c.args.categories.now _ some))
