@@ -4,13 +4,14 @@ A case is a name, a number and an image. The number is that of the refusal, 0 wh
 known.
 
 By request A.6 a zone that touches nobody, with no join from it or to it, is left out. What it has is judged all the same; only 7 looks at
-the kept zones alone.
+the kept zones alone. By request A.7 the joins of a zone whose value is not returned do not count, so that it is left out, and with it
+every zone that has no other joins; all joins are judged as they are listed, but 6 looks at those that count.
 """
 import copy
 import itertools
 from dataclasses import replace
 
-from job_image import SECTIONS, Job, encode
+from job_image import NOT_RETURNED, SECTIONS, Job, encode
 
 LONGEST = 44908  # the bytes of the longest image
 FAR, BAND = 30000, 2 ** 32 - 1  # the largest coordinate, and the largest band
@@ -26,11 +27,27 @@ REPORT = bytes.fromhex("""
 
 
 def touching(joins):
-    """The zones that are kept, rising: those with a join from them or to them."""
+    """The zones with a join from them or to them, rising."""
     return sorted({zone for join in joins for zone in join[:2]})
 
 
-# ---- by hand: the smallest faults and what stands against what, each with the number that document 01 and request A.6 give it
+def marks_of(job):
+    """The zones whose values are not returned, rising."""
+    return [zone for zone, value in enumerate(job.values) if value == NOT_RETURNED]
+
+
+def counting(job):
+    """The joins that count: those of two zones whose values are returned."""
+    returned = {zone for zone, value in enumerate(job.values) if value != NOT_RETURNED}
+    return [join for join in job.joins if returned.issuperset(join[:2])]
+
+
+def kept_of(job):
+    """The zones that are kept, rising."""
+    return touching(counting(job))
+
+
+# ---- by hand: the smallest faults and what stands against what, each with the number that document 01 and requests A.6 and A.7 give it
 
 def small():
     """A job of three zones that breaks no rule, to be changed in a place or two."""
@@ -49,12 +66,13 @@ def up_to(section, count):
     return image(counts={section: count}, cut=-2 * (len(parts) - 1) or None, **parts)
 
 
-EQUAL, NONE = [4, 4, 4], []  # equal values; no joins
+EQUAL, NONE, MARK_LAST = [4, 4, 4], [], [5, -2, NOT_RETURNED]  # equal values; no joins; values of which the last is not returned
 
 
 def limits():
     """Each rule of the items at its limit and beyond it."""
-    for value, number in ((100000, 0), (-100000, 0), (100001, 3), (-100001, 3), (2 ** 31 - 1, 3), (-2 ** 31, 3)):
+    for value, number in ((100000, 0), (-100000, 0), (100001, 3), (-100001, 3), (2 ** 31 - 1, 3), (NOT_RETURNED, 0),
+                          *((NOT_RETURNED + 2 ** bit, 3) for bit in range(31))):
         yield f'value {value}', number, image(values=[5, -2, value])
     for category, number in ((7, 0), (8, 8), (255, 8)):
         yield f'category {category}', number, image(categories=[category, 0, 1])
@@ -143,6 +161,19 @@ def clashes():
     yield 'one byte', 14, b'\3'
 
 
+def faults_of_last():
+    """What a zone left out is judged by like any other, it being the last of three: word, number and the other parts."""
+    yield 'category 8', 8, {'categories': [0, 7, 8]}
+    yield 'far', 10, {'places': [(0, 0), (4, 0), (FAR + 1, 0)]}
+    yield 'at one place', 11, {'places': [(0, 0), (4, 0), (0, 0)]}
+    yield 'not named', 13, {'shuffles': [(0, 1, 0)]}
+    yield 'named twice', 13, {'shuffles': [(2, 1, 2)]}
+    yield 'categories of the kept', 15, {'categories': [0, 7]}
+    yield 'places of the kept', 15, {'places': [(0, 0), (4, 0)]}
+    yield 'a shuffle of the kept', 14, {'shuffles': [(1, 0)]}
+    yield 'whole', 0, {}
+
+
 def left_out_by_hand():
     """A zone that touches nobody: 7 looks at the two others alone, every other number at all three; one join is enough to be kept."""
     last = [(0, 1, 1), (1, 0, 2)]  # the last of the three zones is left out
@@ -154,13 +185,46 @@ def left_out_by_hand():
             ('all', [4, 4, 9], NONE, 6), ('last, 100000', [4, 5, 100000], last, 0), ('last, 100001', [4, 5, 100001], last, 3),
             ('first, -100001', [-100001, 4, 4], [(1, 2, 1)], 3), ('last, kept beyond', [4, -100001, 5], last, 3)):
         yield f'left out: {word}', number, image(values=values, joins=joins)
-    for word, number, parts in (
-            ('category 8', 8, {'categories': [0, 7, 8]}), ('far', 10, {'places': [(0, 0), (4, 0), (FAR + 1, 0)]}),
-            ('at one place', 11, {'places': [(0, 0), (4, 0), (0, 0)]}), ('not named', 13, {'shuffles': [(0, 1, 0)]}),
-            ('named twice', 13, {'shuffles': [(2, 1, 2)]}), ('categories of the kept', 15, {'categories': [0, 7]}),
-            ('places of the kept', 15, {'places': [(0, 0), (4, 0)]}), ('a shuffle of the kept', 14, {'shuffles': [(1, 0)]}),
-            ('kept equal, a byte more', 17, {'values': [4, 4, 9], 'more': b'\0'}), ('whole', 0, {})):
+    yield 'left out: last, kept equal, a byte more', 17, image(values=[4, 4, 9], joins=last, more=b'\0')
+    for word, number, parts in faults_of_last():
         yield f'left out: last, {word}', number, image(joins=last, **parts)
+
+
+def not_returned_by_hand():
+    """Values not returned of the small job's three zones: 3 passes over them, 7 looks at the others, and then the end: 17, 6, 7."""
+    mark, none = NOT_RETURNED, [NOT_RETURNED] * 3
+    for word, values, number in (
+            ('first', [mark, -2, 7], 0), ('middle', [5, mark, 7], 0), ('two', [mark, 5, mark], 6), ('other two', [5, mark, mark], 6),
+            ('all', none, 6), ('last, kept equal', [4, 4, mark], 7), ('first, kept equal', [mark, 4, 4], 7),
+            ('middle, kept equal', [4, mark, 4], 7), ('and the next number', [mark, mark + 1, 7], 3),
+            ('behind the next number', [mark + 1, 5, mark], 3), ('all but 100001', [mark, mark, 100001], 3)):
+        yield f'not returned: {word}', number, image(values=values)
+    yield 'not returned: all, in a cut section', 14, image(values=none, cut=13)
+    yield 'not returned: all, shuffle before 6', 13, image(values=none, shuffles=[(0, 1, 2), (2, 2, 2)])
+    yield 'not returned: all, more bytes before 6', 17, image(values=none, more=b'\0')
+    yield 'not returned: kept equal, more bytes before 7', 17, image(values=[4, 4, mark], more=b'\0')
+    for word, number, parts in faults_of_last():
+        yield f'not returned: last, {word}', number, image(values=MARK_LAST, **parts)
+
+
+def joins_not_returned():
+    """Joins of a zone whose value is not returned: judged as listed, and then without weight; a neighbour of no other leaves with it."""
+    first = (0, 1, 1)
+    for word, joins, number in (
+            ('only from it', [(2, 0, 9)], 6), ('only to it', [(0, 2, 9)], 6), ('only from and to it', [(0, 2, 1), (1, 2, 1), (2, 0, 1)], 6),
+            ('one besides', [(0, 2, 1), (1, 0, 1), (2, 1, 1)], 0), ('weight 10 from it', [first, (2, 0, 10)], 4),
+            ('weight 10 to it', [(0, 2, 10), (1, 0, 1)], 4), ('weight 0 from it', [first, (2, 1, 0)], 4),
+            ('weight 0 to it', [(1, 2, 0)], 4), ('to itself', [first, (2, 2, 1)], 5), ('only to itself', [(2, 2, 9)], 5),
+            ('twice', [first, (2, 0, 1), (2, 0, 1)], 16), ('to falls', [first, (2, 1, 1), (2, 0, 1)], 16),
+            ('to n', [first, (2, 3, 1)], 16), ('none', NONE, 6)):
+        yield f'not returned: last, {word}', number, image(values=MARK_LAST, joins=joins)
+    apart, mark = [first, (3, 2, 1)], NOT_RETURNED
+    for word, values, joins, number in (
+            ('leaves', [4, 9, 5, mark], apart, 0), ('leaves, kept equal', [4, 4, 5, mark], apart, 7),
+            ('leaves, 100001', [4, 9, 100001, mark], apart, 3), ('stays', [4, 4, 5, mark], [*apart[:1], (2, 0, 1), (3, 2, 1)], 0),
+            ('leaves, first', [mark, 5, 4, 9], apart, 0), ('all leave', [4, mark, 9, mark], apart, 6),
+            ('all leave one', [4, mark, 5, 9], [first, (1, 2, 3), (3, 1, 9)], 6)):
+        yield f'not returned: neighbour {word}', number, encode(Job(values, joins=joins))
 
 
 def by_hand():
@@ -172,6 +236,8 @@ def by_hand():
     yield from places_alone()
     yield from clashes()
     yield from left_out_by_hand()
+    yield from not_returned_by_hand()
+    yield from joins_not_returned()
 
 
 def every_cut(word, made):
@@ -198,7 +264,7 @@ def drawn_values(rng, n):
 
 def with_spread(job):
     """The job; where its kept values are all equal, with another one."""
-    kept = touching(job.joins)
+    kept = kept_of(job)
     value = job.values[kept[-1]]
     equal = all(job.values[zone] == value for zone in kept)
     return replace(job, values=with_item(job.values, kept[-1], value + (1 if value < 1 else -1))) if equal else job
@@ -247,9 +313,38 @@ def job_with_all(rng, n, kept):
                            drawn_shuffles(rng, n, rng.choice((1, 2, 3, 20 if n < 16 else 5)))))
 
 
+def with_marks(job, zones):
+    """The job with the values of some zones not returned."""
+    return replace(job, values=[NOT_RETURNED if zone in zones else value for zone, value in enumerate(job.values)])
+
+
+def choices_of_marks(rng, job):
+    """Ways to mark values as not returned so that a join of the job still counts, by a word: one zone, several, all but the ends of that
+    join, all neighbours of a zone, which leaves with them, and the zones that touch nobody. A way that marks no zone is no way."""
+    ends, touched, around = rng.choice(job.joins)[:2], touching(job.joins), {}
+    for start, end, _ in job.joins:
+        around.setdefault(start, set()).add(end)
+        around.setdefault(end, set()).add(start)
+    free = [zone for zone in range(len(job.values)) if zone not in ends]
+    enclosed = [zones for zones in around.values() if zones.isdisjoint(ends)]
+    ways = {'one': rng.sample(free, min(1, len(free))), 'several': rng.sample(free, rng.randint(min(2, len(free)), len(free))),
+            'but-two': free, 'neighbours': rng.choice(enclosed or [[]]), 'alone': [zone for zone in free if zone not in touched]}
+    return {word: sorted(zones) for word, zones in ways.items() if zones}
+
+
+def with_drawn_marks(rng, job):
+    """A job that breaks no rule, with some values not returned, so that it still breaks none; a job of two zones stays as it is."""
+    return with_spread(with_marks(job, rng.choice([*choices_of_marks(rng, job).values()] or [[]])))
+
+
+def marked_at_times(rng, job):
+    """The job, in one case of four with some values not returned."""
+    return with_drawn_marks(rng, job) if rng.random() < 0.25 else job
+
+
 def drawn_job(rng, n):
     """A job that breaks no rule, with and without each part that need not be there."""
-    job = job_with_all(rng, n, drawn_kept(rng, n))
+    job = marked_at_times(rng, job_with_all(rng, n, drawn_kept(rng, n)))
     for sections in (['categories'], ['places', 'bands'], ['bands'], ['shuffles']):
         if rng.random() < 0.25:
             job = replace(job, **{section: [] for section in sections})
@@ -258,20 +353,18 @@ def drawn_job(rng, n):
 
 # what is done to a job; where it lacks what is to be changed, nothing is
 
-def set_at(items, place, entry):
-    """Puts an entry at a place."""
-    if place < len(items):
-        items[place] = entry
+TOO_LARGE = 100001, -100001, 2 ** 31 - 1, NOT_RETURNED + 1  # values that are beyond 100,000 in size
 
 
 def set_any(rng, items, entry):
     """Puts an entry at any place."""
-    set_at(items, rng.randrange(max(1, len(items))), entry)
+    if items:
+        items[rng.randrange(len(items))] = entry
 
 
 def bad_value(rng, job):
     """3."""
-    set_any(rng, job.values, rng.choice((100001, -100001, 2 ** 31 - 1, -2 ** 31)))
+    set_any(rng, job.values, rng.choice(TOO_LARGE))
 
 
 def bad_category(rng, job):
@@ -308,11 +401,17 @@ def no_joins(rng, job):
     job.joins.clear()
 
 
+def no_values(rng, job):
+    """6, 7 or nothing: some values not returned, or all."""
+    for zone in rng.sample(range(len(job.values)), rng.randint(1, len(job.values))):
+        job.values[zone] = NOT_RETURNED
+
+
 def equal_values(rng, job):
-    """7: all values, or those of the kept zones alone."""
+    """7, or 6 where that value is not returned: all values, or those of the kept zones alone."""
     value = rng.choice(job.values)
-    for zone in rng.choice((range(len(job.values)), touching(job.joins))):
-        set_at(job.values, zone, value)
+    for zone in rng.choice((range(len(job.values)), kept_of(job))):
+        job.values[zone] = value
 
 
 def bad_join(rng, job):
@@ -331,7 +430,7 @@ def joins_turned(rng, job):
 
 
 FAULTS = [bad_value, bad_category, bad_place, bad_place, one_place, one_place, bad_band, bad_band, bad_shuffle, bad_shuffle, no_joins,
-          equal_values, *[bad_join, joins_turned] * 3]
+          no_values, no_values, equal_values, *[bad_join, joins_turned] * 3]
 
 
 def damaged_image(rng, job):
@@ -357,19 +456,21 @@ def drawn(rng, count, among):
 
 
 def equal_but(rng, job, zone):
-    """The job's values, the kept ones made equal, that of a zone left out another; further ones left out are equal or as they were."""
-    kept, value = touching(job.joins), rng.choice(job.values)
+    """The job's values, the kept ones made equal, that of a zone left out another; further ones left out are equal or as they were. What is
+    not returned stays so."""
+    kept = kept_of(job)
+    value = job.values[rng.choice(kept)]
     equal = [value if place in kept or rng.random() < 0.5 else other for place, other in enumerate(job.values)]
-    return with_item(equal, zone, -value or 1)
+    return with_marks(replace(job, values=with_item(equal, zone, -value or 1)), marks_of(job)).values
 
 
 def faults_left_out(rng, job):
     """Faults of a job of all parts at a zone that is left out, and kept values that are equal: word, number and the other parts."""
-    kept, rows = touching(job.joins), job.shuffles
+    kept, rows = kept_of(job), job.shuffles
     zone = rng.choice([zone for zone in range(len(job.values)) if zone not in kept])
     other, row = rng.choice(kept), list(rng.choice(rows))
     yield 'equal', 7, {'values': equal_but(rng, job, zone)}
-    yield 'value', 3, {'values': with_item(job.values, zone, rng.choice((100001, -100001, 2 ** 31 - 1, -2 ** 31)))}
+    yield 'value', 3, {'values': with_item(job.values, zone, rng.choice(TOO_LARGE))}
     yield 'category', 8, {'categories': with_item(job.categories, zone, rng.choice((8, 255)))}
     yield 'far', 10, {'places': with_item(job.places, zone, rng.choice(((FAR + 1, 0), (0, -FAR - 1))))}
     yield 'place', 11, {'places': with_item(job.places, zone, job.places[other])}
@@ -380,15 +481,60 @@ def faults_left_out(rng, job):
     yield 'shuffle-of-kept', 14, {'shuffles': [tuple(kept)]}
 
 
+def with_faults(name, job, faults):
+    """A job that breaks no rule as it is, and with faults whose numbers are known."""
+    yield name, 0, encode(job)
+    for word, number, parts in faults:
+        yield f'{name}-{word}', number, encode(replace(job, **parts))
+
+
 def left_out(rng, count, among):
-    """Jobs of so many zones by chance, each kept in another way, as it is and with faults whose numbers are known."""
+    """Jobs of so many zones by chance, each kept in another way, as they are and with faults."""
     for k in range(count):
         n = rng.choice(among)
         kept = rng.choice([kept for kept in choices_of_kept(rng, n).values() if len(kept) < n])
         job = job_with_all(rng, n, kept)
-        yield f'left-out-{n}-{k}', 0, encode(job)
-        for word, number, parts in faults_left_out(rng, job):
-            yield f'left-out-{n}-{k}-{word}', number, encode(replace(job, **parts))
+        yield from with_faults(f'left-out-{n}-{k}', job, faults_left_out(rng, job))
+
+
+def one_end_of_each(rng, joins):
+    """Zones of which each join has one or both: without their values no join counts."""
+    zones = set()
+    for join in rng.sample(joins, len(joins)):
+        if zones.isdisjoint(join[:2]):
+            zones.add(rng.choice(join[:2]))
+    return zones
+
+
+def faults_at_marks(rng, job):
+    """Faults at a zone whose value is not returned, in joins that do not count, and marks that leave none that counts: word, number and the
+    other parts."""
+    n, marks, counts = len(job.values), marks_of(job), {*counting(job)}
+    place = rng.choice([place for place, join in enumerate(job.joins) if join not in counts])
+    start, end, weight = join = job.joins[place]
+    yield 'weight', 4, {'joins': with_item(job.joins, place, (start, end, rng.choice((0, 10, 255))))}
+    yield 'itself', 5, {'joins': with_item(job.joins, place, (*[start if start in marks else end] * 2, weight))}
+    yield 'twice', 16, {'joins': with_item(job.joins, abs(place - 1), join)}
+    yield 'ends', 16, {'joins': with_item(job.joins, place, rng.choice(((start, n, weight), (n, end, weight))))}
+    yield 'beside', 3, {'values': with_item(job.values, rng.choice(kept_of(job)), NOT_RETURNED + 1)}
+    yield 'no-value', 6, {'values': [NOT_RETURNED] * n}
+    yield 'no-join', 6, {'values': with_marks(job, one_end_of_each(rng, job.joins)).values}
+
+
+def marked_job(rng, n):
+    """A job of three zones or more that breaks no rule, with all parts, in which some joins do not count."""
+    while True:
+        job = with_drawn_marks(rng, job_with_all(rng, n, drawn_kept(rng, n)))
+        if len(counting(job)) < len(job.joins):
+            return job
+
+
+def marked(rng, count, among):
+    """Jobs of so many zones by chance, each with other values not returned, as they are and with faults."""
+    for k in range(count):
+        n = rng.choice(among)
+        job = marked_job(rng, n)
+        yield from with_faults(f'marked-{n}-{k}', job, itertools.chain(faults_left_out(rng, job), faults_at_marks(rng, job)))
 
 
 def every_byte(made):

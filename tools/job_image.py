@@ -6,6 +6,7 @@ from dataclasses import dataclass, field
 FORMS = {'values': 'i', 'categories': 'B', 'joins': '3B', 'places': '2i', 'bands': 'I', 'shuffles': '{n}B'}  # of one item
 SECTIONS = list(FORMS)
 LISTS = ('values', 'categories', 'bands')  # whose items are single numbers; those of the others are rows
+NOT_RETURNED = -2 ** 31  # stands for a value not returned, by request A.7
 
 
 @dataclass

@@ -7,7 +7,7 @@
 
 A text has one thing a line; `#` begins a comment, and blank lines are skipped:
 
-    values 1 1 3 3        one for each zone, from zone 0 on
+    values 1 1 - 3        one for each zone, from zone 0 on; `-` is a value not returned, which the image has as -2147483648
     categories 0 0 1 1    the same
     join 0 1 3            from zone 0 to zone 1 with weight 3; the other direction is a join of its own
     place 0 0             across, then up; a line for each zone, from zone 0 on
@@ -27,7 +27,7 @@ import re
 import sys
 
 from image_cases import REPORT, drawn_job, largest_job, some_bytes, up_to
-from job_image import LISTS, SECTIONS, Job, decode, encode, sections_of
+from job_image import LISTS, NOT_RETURNED, SECTIONS, Job, decode, encode, sections_of
 
 SAMPLES = pathlib.Path(__file__).resolve().parent.parent / 'samples'
 WORDS = dict(zip(['values', 'categories', 'join', 'place', 'bands', 'shuffle'], SECTIONS))  # a line's first word, and its section
@@ -45,7 +45,9 @@ class BadText(Exception):
 # ---- from a text to an image
 
 def number(word, written):
-    """A number of a line; it must fit its bytes."""
+    """A number of a line, which must fit its bytes; among values `-` is one too."""
+    if (word, written) == ('values', '-'):
+        return NOT_RETURNED
     least, most = FITS[word]
     if not re.fullmatch('-?[0-9]+', written):
         raise BadText(f"'{written}' is not a whole number")
@@ -97,11 +99,16 @@ def image_of(text):
 
 # ---- from an image to a text
 
+def spelled(word, entry):
+    """A number as it is written behind a word."""
+    return '-' if (word, entry) == ('values', NOT_RETURNED) else str(entry)
+
+
 def lines_of(word, items):
     """The lines of a section."""
     if word in LISTS:
         items = [sum(items[place:place + A_LINE], ()) for place in range(0, len(items), A_LINE)]
-    lines = [' '.join([word, *map(str, item)]) for item in items]
+    lines = [' '.join([word, *(spelled(word, entry) for entry in item)]) for item in items]
     if word == 'join' and any(a[:2] > b[:2] for a, b in zip(items, items[1:])):
         lines.append('# the joins of the image are not sorted; an image made of this text has them sorted')
     return lines
@@ -133,6 +140,10 @@ BAD = [  # a text, and how the message about it must begin
     ('values 1 2.5\n', "line 1: '2.5' is not a whole number"),
     ('values 1 2\n\n# a comment\ncategories 0 one\n', "line 4: 'one' is not a whole number"),
     ('values 2147483648\n', 'line 1: 2147483648 does not fit'),
+    ('values 1 -\nvalues 2 -2147483649\n', 'line 2: -2147483649 does not fit'),
+    ('values 1 --\n', "line 1: '--' is not a whole number"),
+    ('values 1 -\ncategories 0 -\n', "line 2: '-' is not a whole number"),
+    ('place 0 -\n', "line 1: '-' is not a whole number"),
     ('values 1 2\njoin 0 1 256 # too much\n', 'line 2: 256 does not fit'),
     ('values 1 2\njoin -1 1 2\n', 'line 2: -1 does not fit'),
     ('join 0 1\n', 'line 1: `join` has from, to and weight, and here are 2 numbers'),
@@ -148,7 +159,7 @@ join 2 1 4   # sorted by the tool
 join 0 1 3
 bands 5 \t 9
 values 1
-values -2 3
+values -2 -  # not returned
 place 0 0
 place 1 -1
 
@@ -182,24 +193,30 @@ def check_samples():
 
 def check_drawn():
     """Drawn jobs there and back, and damaged images whose joins are sorted."""
-    rng, count = random.Random(SEED), 0
+    rng, count, marked = random.Random(SEED), 0, 0
     for k in range(400):
-        must_return(f'drawn {k}', encode(drawn_job(rng, rng.choice((2, 3, 5, 16, 33, 64)))))
+        job = drawn_job(rng, rng.choice((2, 3, 5, 16, 33, 64)))
+        must_return(f'drawn {k}', encode(job))
+        marked += NOT_RETURNED in job.values
+    must(marked >= 50, f'only {marked} drawn images have values not returned')
     must_return('the largest', encode(largest_job(rng)))
     must_return('no zones', bytes(12))
+    must_return('the ends of the numbers', encode(Job([NOT_RETURNED, NOT_RETURNED + 1, 2 ** 31 - 1], [0, 255, 0], [(0, 255, 255)],
+                                                      [(-2 ** 31, 2 ** 31 - 1)], [0, 2 ** 32 - 1], [(0, 255, 0)])))
     for k, image in enumerate(some_bytes(rng, REPORT, 400)):
         text, is_all = text_of(image)
         if is_all and 'not sorted' not in text:
             must_return(f'damaged {k}', image)
             count += 1
     must(count >= 100, f'only {count} damaged images came back')
-    return 402 + count
+    return 403 + count
 
 
 def check_free():
     """A text as a person may write it."""
-    job = Job([1, -2, 3], [], [(0, 1, 3), (2, 1, 4)], [(0, 0), (1, -1), (2, 2)], [5, 9], [(1, 0, 2)])
+    job = Job([1, -2, NOT_RETURNED], [], [(0, 1, 3), (2, 1, 4)], [(0, 0), (1, -1), (2, 2)], [5, 9], [(1, 0, 2)])
     must(decode(image_of(FREE)) == job, 'a text with comments and joins in any order gives another job')
+    must(text_of(encode(job))[0].startswith('values 1 -2 -\n'), 'a value not returned is not written as `-`')
 
 
 def check_bad():

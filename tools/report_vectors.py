@@ -7,12 +7,13 @@
                                                above 1.5
 
 OTHER is meant to be tools/independent_report.c, compiled with gcc -O2. What is looked at in a text: the form and the order of its lines,
-its n, S and M as those of the zones that touch another, the numerators and divisors by the numbers of its first lines, a local line for
-each of these zones and no other, in hot-list order, that local numerators add up to P, classes to the joins line, categories to W and the
-rank to the number of shuffles, and that each float is the nearest to its ratio, in exact fractions. Where zones are left out, the text
-must be that of the job of the kept zones alone, but for the zone numbers. An image whose number was found by hand must be refused with
-that number, and that of a job that breaks no rule must be accepted; any other must be accepted, or refused with a number that the reader
-can give.
+its W as that of the joins that count, its n, S and M as those of the zones that these touch, the numerators and divisors by the numbers of
+its first lines, a local line for each of these zones and no other, in hot-list order, that local numerators add up to P, classes to the
+joins line, categories to W and the rank to the number of shuffles, and that each float is the nearest to its ratio, in exact fractions.
+Where zones are left out, the text must be that of the job of the kept zones alone, with the joins among them, but for the zone numbers;
+where none is kept, the number must be 6, and where the kept values are equal, 7. An image whose number was found by hand must be refused
+with that number, and that of a job that breaks no rule must be accepted; any other must be accepted, or refused with a number that the
+reader can give.
 """
 import collections
 import functools
@@ -30,10 +31,11 @@ import time
 from dataclasses import replace
 from fractions import Fraction
 
-from image_cases import (BAND, FAR, LONGEST, REPORT, any_bytes, by_hand, choices_of_kept, drawn, drawn_job, drawn_joins, drawn_kept,
-                         drawn_places, drawn_shuffles, drawn_values, every_byte, every_cut, image, job_with_all, largest, largest_job,
-                         left_out, some_bytes, touching, with_spread)
-from job_image import Job, decode, encode, flat
+from image_cases import (BAND, FAR, LONGEST, MARK_LAST, REPORT, any_bytes, by_hand, choices_of_kept, choices_of_marks, counting, drawn,
+                         drawn_job, drawn_joins, drawn_kept, drawn_places, drawn_shuffles, drawn_values, every_byte, every_cut, image,
+                         job_with_all, kept_of, largest, largest_job, left_out, marked, marked_at_times, marks_of, some_bytes, touching,
+                         with_drawn_marks, with_marks, with_spread)
+from job_image import NOT_RETURNED, Job, decode, encode, flat, sections_of
 from nearest_float import nearest_bits
 
 SAMPLES = pathlib.Path(__file__).resolve().parent.parent / 'samples'
@@ -64,8 +66,13 @@ DOWN, UP = 'a float halfway, rounded down', 'rounded up'
 NO_ZONE, ONE, SEVERAL, FIRST, LAST, BUT_TWO = ('no zone left out', 'one left out', 'several', 'the first', 'the last', 'all but two')
 ROW, COLUMN = 'a kept zone with weight in its row only', 'in its column only'
 OUT_PAIR, OUT_CLASS, OUT_RANK = 'zones left out and pair lines', 'and class lines', 'and a rank of less, equal and greater'
+RETURNED, MARK, MARKS, UNTOUCHED = 'all values returned', 'one not returned', 'several not returned', 'one of a zone without joins'
+LEAVES, FROM, TO = 'a neighbour that leaves with such a zone', 'a join from such a zone to a kept one', 'to such a zone'
+LOST_PAIR, LOST_CLASS, LOST_RANK = ('joins that do not count, with pair lines', 'with class lines',
+                                    'with a rank of less, equal and greater')
 REACHED = [PAIR, CLASS, RANK, WEIGHTLESS, NEGATIVE_P, NEGATIVE_L, TIES, NOUGHT, DOWN, UP, EIGHT, BEYOND, THREE, TWO, MANY, LONG, NO_ZONE,
-           ONE, SEVERAL, FIRST, LAST, BUT_TWO, ROW, COLUMN, OUT_PAIR, OUT_CLASS, OUT_RANK]
+           ONE, SEVERAL, FIRST, LAST, BUT_TWO, ROW, COLUMN, OUT_PAIR, OUT_CLASS, OUT_RANK, RETURNED, MARK, MARKS, UNTOUCHED, LEAVES, FROM,
+           TO, LOST_PAIR, LOST_CLASS, LOST_RANK]
 
 
 def must(holds, told):
@@ -128,7 +135,8 @@ def banded(rng):
         squares = [min(BAND, max(1, square + rng.choice((-1, 0, 0, 1)))) for square in squares]
         bands = sorted(set(rng.sample(squares, min(len(squares), rng.randint(0, 8)))))
         joins = drawn_joins(rng, drawn_kept(rng, n))
-        yield f'banded-{n}-{k}', with_spread(Job(drawn_values(rng, n), rng.choice(([], [1] * n)), joins, places, bands, []))
+        job = with_spread(Job(drawn_values(rng, n), rng.choice(([], [1] * n)), joins, places, bands, []))
+        yield f'banded-{n}-{k}', marked_at_times(rng, job)
 
 
 def far_apart(rng):
@@ -143,12 +151,13 @@ def ranked(rng):
     """Few different values, so that many shuffles have the same P."""
     for k, n in itertools.product(range(50), (2, 3, 5, 9)):
         joins = drawn_joins(rng, drawn_kept(rng, n))
-        yield f'ranked-{n}-{k}', with_spread(Job(rng.choices((0, 1, 2), k=n), [], joins, [], [], drawn_shuffles(rng, n, 40)))
+        job = with_spread(Job(rng.choices((0, 1, 2), k=n), [], joins, [], [], drawn_shuffles(rng, n, 40)))
+        yield f'ranked-{n}-{k}', marked_at_times(rng, job)
 
 
 def few_kept(rng):
     """Zones left out in each way, with all parts."""
-    for k, n in itertools.product(range(6), (3, 4, 5, 9, 33, 64)):
+    for k, n in itertools.product(range(4), (3, 4, 5, 9, 33, 64)):
         for word, kept in choices_of_kept(rng, n).items():
             yield f'kept-{n}-{word}-{k}', job_with_all(rng, n, kept)
 
@@ -162,6 +171,17 @@ def full(rng):
         yield f'full-but-one-of-{section}', replace(job, **{section: getattr(job, section)[:-1]})
     for section in ('categories', 'bands', 'shuffles'):
         yield f'full-but-{section}', replace(job, **{section: []})
+
+
+def not_returned(rng):
+    """Values not returned in each way, with all parts; and in jobs at the limits with all joins, and in full ones."""
+    for k, n in itertools.product(range(4), (3, 4, 5, 9, 33, 64)):
+        job = job_with_all(rng, n, drawn_kept(rng, n))
+        for word, zones in choices_of_marks(rng, job).items():
+            yield f'not-returned-{n}-{word}-{k}', with_spread(with_marks(job, zones))
+    for name, job in itertools.chain(at_limits(rng), full(rng)):
+        if len(job.values) > 2 and not name.endswith('some'):
+            yield f'not-returned-{name}', with_drawn_marks(rng, job)
 
 
 def two_squares(total):
@@ -208,7 +228,7 @@ def halfway(rng):
 
 def whole(rng):
     """Drawn jobs that break no rule."""
-    for k in range(1500):
+    for k in range(1200):
         yield f'whole-{k}', drawn_job(rng, rng.choice((2, 2, 3, 4, 6, 9, 14)))
     for k in range(60):
         yield f'whole-large-{k}', drawn_job(rng, rng.choice((31, 32, 33, 63, 64)))
@@ -222,19 +242,24 @@ def unknown(word, images):
 
 
 def of_images(rng):
-    """Those of image_cases.py: by hand, with bytes changed, cut, by chance, drawn and damaged, with zones left out, and the largest."""
+    """Those of image_cases.py: by hand, with bytes changed, cut, by chance, drawn and damaged, with zones left out and values not returned,
+    and the largest."""
     yield from by_hand()
     yield from unknown('report-byte', rng.sample([*every_byte(REPORT)], 1200))
     yield from unknown('least-byte', rng.sample([*every_byte(encode(Job([0, 1], joins=[(0, 1, 1)])))], 400))
     yield from unknown('report-bytes', some_bytes(rng, REPORT, 300))
-    yield from unknown('small-bytes', some_bytes(rng, image(), 300))
+    yield from unknown('small-bytes', some_bytes(rng, image(), 200))
+    yield from unknown('not-returned-bytes', some_bytes(rng, image(values=MARK_LAST), 200))
     yield from every_cut('report', REPORT)
     yield from every_cut('small', image())
+    yield from every_cut('not-returned', image(values=MARK_LAST))
     yield from unknown('any', any_bytes(rng, 300))
-    yield from drawn(rng, 500, (2, 3, 3, 5, 5, 7))
+    yield from drawn(rng, 400, (2, 3, 3, 5, 5, 7))
     yield from drawn(rng, 40, (16, 33, 63, 64))
-    yield from left_out(rng, 60, (3, 4, 6, 9))
-    yield from left_out(rng, 4, (33, 64))
+    yield from left_out(rng, 40, (3, 4, 6, 9))
+    yield from left_out(rng, 3, (33, 64))
+    yield from marked(rng, 24, (3, 4, 6, 9))
+    yield from marked(rng, 2, (33, 64))
     yield from largest(rng)
 
 
@@ -252,7 +277,7 @@ def beyond(rng):
 def cases():
     """The cases that are compared; the jobs of our own break no rule."""
     rng = random.Random(SEED)
-    for kind in (at_limits, rings, two_zones, banded, far_apart, ranked, few_kept, full, halfway, whole):
+    for kind in (at_limits, rings, two_zones, banded, far_apart, ranked, few_kept, full, not_returned, halfway, whole):
         for name, job in kind(rng):
             yield name, 0, encode(job)
     yield from of_images(rng)
@@ -289,7 +314,7 @@ def look_at_job(lines, job, kept):
     """The lines of the whole job, n, S and M being those of the kept zones; answers n, M, W, P and G."""
     (n, total, m), (w, p, g) = numbers(lines['zones'][0]), numbers(lines['joins'][0])
     values = [job.values[zone] for zone in kept]
-    must((n, total) == (len(kept), sum(values)) and w == sum(weight for _, _, weight in job.joins), 'another n, S or W')
+    must((n, total) == (len(kept), sum(values)) and w == sum(weight for _, _, weight in counting(job)), 'another n, S or W')
     must(m == n * sum(value * value for value in values) - total * total, 'M is not n times the squares less S squared')
     must(lines['moran'][0] == [str(p), str(w * m), float_of(p, w * m)], 'moran is not P over W M')
     over, under = (n - 1) * n * g, 2 * w * m
@@ -331,17 +356,26 @@ def look_at_classes(lines, n, m, sums):
 def shape(job, kept, lines):
     """What the zones that are kept and left out are like."""
     left = [zone for zone in range(len(job.values)) if zone not in kept]
-    starts, ends = ({join[side] for join in job.joins} for side in (0, 1))
+    starts, ends = ({join[side] for join in counting(job)} for side in (0, 1))
     return {NO_ZONE: not left, ONE: len(left) == 1, SEVERAL: len(left) > 1, FIRST: 0 in left, LAST: len(job.values) - 1 in left,
             BUT_TWO: left and len(kept) == 2, ROW: starts - ends, COLUMN: ends - starts, OUT_PAIR: left and lines['pair'],
             OUT_CLASS: left and lines['class'], OUT_RANK: left and lines['rank'] and '0' not in lines['rank'][0]}
+
+
+def shape_of_marks(job, kept, lines):
+    """What the zones whose values are not returned are like, and the joins that do not count."""
+    marks, joined = set(marks_of(job)), set(touching(job.joins))
+    lost = [join[:2] for join in {*job.joins} - {*counting(job)}]
+    return {RETURNED: not marks, MARK: len(marks) == 1, MARKS: len(marks) > 1, UNTOUCHED: marks - joined, LEAVES: joined - marks - {*kept},
+            FROM: any(end in kept for _, end in lost), TO: any(start in kept for start, _ in lost), LOST_PAIR: lost and lines['pair'],
+            LOST_CLASS: lost and lines['class'], LOST_RANK: lost and lines['rank'] and '0' not in lines['rank'][0]}
 
 
 def look(text, data):
     """Looks at the text of an accepted image; answers what it has."""
     job = decode(data)
     must(encode(job) == data, 'accepted, and not a whole image')
-    lines, kept = lines_by_word(text, job), touching(job.joins)
+    lines, kept = lines_by_word(text, job), kept_of(job)
     n, m, w, p, g = look_at_job(lines, job, kept)
     local = look_at_locals(lines, kept, m, p)
     look_at_pairs(lines, w)
@@ -352,7 +386,7 @@ def look(text, data):
     has = {PAIR: lines['pair'], CLASS: weights, RANK: rank, WEIGHTLESS: 0 in weights, NEGATIVE_P: p < 0, NEGATIVE_L: min(local) < 0,
            TIES: len(set(local)) < n, NOUGHT: p == 0, DOWN: 1 in parts, UP: 3 in parts, EIGHT: len(weights) == 9,
            BEYOND: weights and weights[0] > 0, THREE: rank and min(rank[0]) > 0, TWO: len(job.values) == 2, MANY: n == 64,
-           LONG: len(data) == LONGEST, **shape(job, kept, lines)}
+           LONG: len(data) == LONGEST, **shape(job, kept, lines), **shape_of_marks(job, kept, lines)}
     return [word for word in REACHED if has[word]]
 
 
@@ -392,23 +426,35 @@ def must_be_equal(name, program, found, other, wanted):
         sys.exit(f'{name}, line {line}\n{short(program)}: {pair[0]}\n{short(other)}: {pair[1]}')
 
 
+def look_at_end(number, data):
+    """Looks at an image that is refused with 6 or 7, all of it having been judged: no zone is kept, or the kept values are equal."""
+    job = decode(data)
+    kept = kept_of(job)
+    must(encode(job) == data, 'refused by its end, and not a whole image')
+    must(number == (7 if kept else 6) and len({job.values[zone] for zone in kept}) < 2, 'another number by the joins that count')
+
+
 def look_at(case, text):
     """Looks at what was written on an image; answers the number of the refusal or 0, and what an accepted one has."""
     name, wanted, data = case
     number = REFUSALS.get(text, 0)
     try:
         must(wanted in (None, number), f'must be refused with {wanted}' if wanted else 'must be accepted')
+        if number in (6, 7):
+            look_at_end(number, data)
         return number, [] if number else look(text, data)
     except SystemExit as wrong:
         sys.exit(f'{name}: {wrong}\n{text}')
 
 
 def kept_alone(job, kept):
-    """The job of the kept zones alone, numbered from 0: their values, categories, joins and places, and what shuffles name of them."""
+    """The job of the kept zones alone, numbered from 0: their values, categories and places, the joins that count, and what shuffles name
+    of them."""
     place_of = {zone: place for place, zone in enumerate(kept)}
     values, categories, places = ([items[zone] for zone in kept] if items else [] for items in (job.values, job.categories, job.places))
-    return Job(values, categories, [(place_of[start], place_of[end], weight) for start, end, weight in job.joins], places, job.bands,
-               [tuple(place_of[zone] for zone in row if zone in place_of) for row in job.shuffles])
+    joins = [(place_of[start], place_of[end], weight) for start, end, weight in counting(job)]
+    shuffles = [tuple(place_of[zone] for zone in row if zone in place_of) for row in job.shuffles]
+    return Job(values, categories, joins, places, job.bands, shuffles)
 
 
 def with_numbers_of(kept, text):
@@ -419,7 +465,7 @@ def with_numbers_of(kept, text):
 def compare_kept_alone(program, name, data, text):
     """What a program writes where zones are left out, and where they were never there; answers whether there are such zones."""
     job = decode(data)
-    kept = touching(job.joins)
+    kept = kept_of(job)
     if len(kept) == len(job.values):
         return False
     with tempfile.TemporaryFile() as given:
@@ -453,10 +499,16 @@ def compare_pieces(programs):
     return len(tried)
 
 
+def has_marks(data):
+    """Whether a value is not returned, as far as the image has values."""
+    _, _, values, _ = next(sections_of(data))
+    return (NOT_RETURNED,) in values
+
+
 def compare_all(program, other, made):
-    """Both programs on every image; how many have each number, how many accepted ones have what must be reached, and how many zones left
-    out."""
-    numbers_given, reached, with_left_out = collections.Counter(), collections.Counter(), 0
+    """Both programs on every image; how many have each number, and of these how many values not returned; how many accepted ones have what
+    must be reached, and how many zones left out."""
+    numbers_given, numbers_marked, reached, with_left_out = *(collections.Counter() for _ in range(3)), 0
     for case in made:
         name, _, data = case
         with tempfile.TemporaryFile() as given:
@@ -467,24 +519,28 @@ def compare_all(program, other, made):
         text = found.decode('ascii', 'replace')
         number, has = look_at(case, text)
         numbers_given[number] += 1
+        numbers_marked[number] += has_marks(data)
         reached.update(has)
         with_left_out += number == 0 and compare_kept_alone(program, name, data, text)
-    return numbers_given, reached, with_left_out
+    return numbers_given, +numbers_marked, reached, with_left_out
 
 
 def compare(program, other):
     """Compares all images and prints what was compared."""
     begun, made = time.monotonic(), list(cases())
     samples, pieces = compare_samples((program, other)), compare_pieces((program, other))
-    given, reached, with_left_out = compare_all(program, other, made)
-    taken = given.pop(0)
+    given, marked_given, reached, with_left_out = compare_all(program, other, made)
+    taken, marked_taken = given.pop(0), marked_given.pop(0)
     print(f'{taken} accepted, with', ', '.join(f'{word}: {reached[word]}' for word in REACHED))
     print(f'{len(made) - taken} refused,', ', '.join(f'{count} with {number}' for number, count in sorted(given.items())))
     must(set(given) == NUMBERS, 'every number that the reader can give must be reached, and no other')
     must(all(reached[word] for word in REACHED), 'something that must be reached was not')
+    must(set(marked_given) >= NUMBERS - {1}, 'every number but 1 must be reached where values are not returned')
     must(len(made) >= 6000 and taken >= 2000, 'too few images')
     print(f"{samples} samples as they are kept, document 01's report among them; {pieces} inputs in pieces: equal")
     print(f'{with_left_out} accepted with zones left out, each as the job of its kept zones alone')
+    print(f'{marked_taken + sum(marked_given.values())} with values not returned, {marked_taken} of them accepted, {marked_given[6]} refused '
+          f'with 6 and {marked_given[7]} with 7')
     known, taken_for_sure = sum(bool(number) for _, number, _ in made), sum(number == 0 for _, number, _ in made)
     print(f'{known} with a number known beforehand, {taken_for_sure} that must be accepted, '
           f'{sum(len(data) > LONGEST + 1 for _, _, data in made)} longer than a program reads')

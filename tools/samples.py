@@ -7,8 +7,9 @@
 
 `report` is document 01's worked report: the job that the document names, in the image put together by hand in image_cases.py, and its
 text as request A.6 changed it. `island` is a job with all parts and of the largest number of zones. `lagoon` is a small one with a
-district that touches nobody, which is left out. `refused` is a job with one plain mistake. The reports of island and lagoon are those of
-independent_report.c, which is compiled here with gcc; that program must write the other two reports as well, byte for byte.
+district that touches nobody, which is left out. `atoll` is one with a value not returned (request A.7), so that this district is left out,
+and with it the one that has no other neighbour. `refused` is a job with one plain mistake. The reports of island, lagoon and atoll are
+those of independent_report.c, which is compiled here with gcc; that program must write the other two reports as well, byte for byte.
 """
 import itertools
 import pathlib
@@ -59,7 +60,7 @@ ISLAND_NOTES = {
     'shuffle': '499 shuffles',
 }
 
-ISLET = 4  # the district of the lagoon that touches nobody
+LEFT_OUT = {'lagoon': {4}, 'atoll': {4, 5}}  # the districts that are left out of a sample's report
 LAGOON = """\
 # eight districts on a lagoon: dwellings that are empty in winter, of a thousand
 # 0 harbour, 1 old town, 2 mill quarter, 3 north shore, 4 the islet, 5 salt works, 6 south shore, 7 lighthouse point
@@ -100,6 +101,46 @@ shuffle 3 0 7 1 4 6 2 5
 shuffle 0 1 2 3 5 6 7 4   # only the islet stands elsewhere: the seven stay as they are
 shuffle 4 1 5 0 3 2 6 7
 shuffle 1 0 2 7 6 5 3 4
+"""
+
+ATOLL = """\
+# seven districts on an atoll: households with a rain tank, of a hundred
+# 0 landing, 1 village, 2 school, 3 north reef, 4 palm point, 5 bird islet, 6 fish ponds
+# district 4, palm point, sent nothing in this round, which is written `-`: its boundaries do not count, and it is left out
+# district 5, bird islet, has no other boundary than that with palm point: it is left out too, though it sent a value
+values 41 36 52 18 - 77 29
+categories 0 0 0 1 1 1 2   # 0 town, 1 reef, 2 ponds; no boundary of two reef districts counts, so there is no line `pair 1 1`
+# boundaries by their grade, both ways, round the atoll; those with palm point are listed all the same
+join 0 1 6
+join 1 0 6
+join 1 2 4
+join 2 1 4
+join 2 3 3
+join 3 2 3
+join 3 4 5
+join 4 3 5
+join 4 5 7
+join 5 4 7
+join 4 6 2
+join 6 4 2
+join 6 0 3
+join 0 6 3
+join 3 6 1   # a boat across the water, one way only
+# the middle of each district, in hundreds of metres across and up
+place 0 -18
+place -12 -14
+place -17 -3
+place -9 13
+place 6 16   # palm point
+place 11 21  # bird islet
+place 16 -5
+bands 150 320 500 900   # squared distances; between 500 and 900 there is only a boundary with palm point, so class 4 has no weight
+# a shuffle names all seven districts; the two left out are struck, and the other five take the values of those that remain, in order
+shuffle 6 5 4 3 2 1 0
+shuffle 0 1 5 2 3 4 6   # only those left out stand elsewhere: the five stay as they are
+shuffle 3 0 4 1 6 5 2
+shuffle 1 0 2 6 4 3 5
+shuffle 2 4 6 0 5 1 3
 """
 
 REFUSED = """\
@@ -242,14 +283,15 @@ def must_be_document_01(image):
 def made():
     """The files by their names; document 01's image and the reports that are known beforehand must come out."""
     texts = {'report': noted(text_of(REPORT)[0], REPORT_NOTES), 'island': noted(text_of(encode(island()))[0], ISLAND_NOTES),
-             'lagoon': LAGOON, 'refused': REFUSED}
+             'lagoon': LAGOON, 'atoll': ATOLL, 'refused': REFUSED}
     images = {name: image_of(text) for name, text in texts.items()}
     must_be_document_01(images['report'])
     printed = reports(images)
     must(printed['report'] == REPORT_01.encode(), "independent_report.c does not write document 01's report as A.6 changed it")
     must(printed['refused'] == b'refused 5\n', 'independent_report.c does not refuse the job with the mistake')
     must_have_all(printed['island'].decode())
-    must_leave_out(ISLET, printed['lagoon'].decode())
+    for name, zones in LEFT_OUT.items():
+        must_leave_out(name, zones, decode(images[name]), printed[name].decode())
     files = {f'{name}.txt': text.encode() for name, text in texts.items()}
     files |= {f'{name}.image': image for name, image in images.items()}
     return files | {f'{name}.report': report for name, report in printed.items()}
@@ -264,13 +306,17 @@ def must_have_all(report):
     must(lines[-1][0] == 'rank' and lines[-1][1] != '0' != lines[-1][3], 'no shuffles on both sides')
 
 
-def must_leave_out(zone, report):
-    """The lagoon's report must be that of seven districts of eight, without a local line of the islet, and have lines of all kinds."""
+def must_leave_out(name, zones, job, report):
+    """A report must be that of the other districts, by their number, their values, the weights among them and the local lines, and have
+    lines of all kinds."""
     lines = [line.split() for line in report.splitlines()]
-    must(lines[0][:2] == ['zones', '7'] and lines[4] == ['expected', '-1', '6'], 'the islet is counted')
-    must({line[1] for line in lines if line[0] == 'local'} == {str(other) for other in range(8) if other != zone}, 'the islet has a line')
-    must({line[0] for line in lines} >= {'pair', 'class', 'rank'}, 'lines of some kind lack on the lagoon')
-    must('0' not in lines[-1], 'no shuffles on each side of the rank')
+    kept = [zone for zone in range(len(job.values)) if zone not in zones]
+    total, weight = sum(job.values[zone] for zone in kept), sum(join[2] for join in job.joins if zones.isdisjoint(join[:2]))
+    must(lines[0][:3] == ['zones', str(len(kept)), str(total)] and lines[1][:2] == ['joins', str(weight)], f'{name}: another n, S or W')
+    must(lines[4] == ['expected', '-1', str(len(kept) - 1)], f'{name}: a district left out is expected')
+    must({line[1] for line in lines if line[0] == 'local'} == {str(zone) for zone in kept}, f'{name}: local lines of other districts')
+    must({line[0] for line in lines} >= {'pair', 'class', 'rank'}, f'{name}: lines of some kind lack')
+    must('0' not in lines[-1], f'{name}: no shuffles on each side of the rank')
 
 
 def make():
