@@ -11,10 +11,10 @@ use lib.ListN.{length, length-append}
 use mir.Syntax.{w32}
 use mir.Val.{SFits}
 use Rattle.whole.specs.Rules.{first_broken, in_turn, outside}
-use Rattle.whole.specs.Search.{any_beyond}
 use Rattle.whole.proofs.Rules.{holds}
 use Rattle.whole.specs.Table.{each}
 use Rattle.words.specs.Words.{word_at, word_bytes}
+use Rattle.judges.specs.Values.{any_value_beyond}
 use Rattle.account.specs.Refusals.{sum_rules}
 use Rattle.places.specs.Places.{places_in_turn}
 use Rattle.image.specs.Joins.{Join, weights_of, joins_of, join_rules}
@@ -29,7 +29,7 @@ use Rattle.whole.proofs.Stores.{each_length}
 use Rattle.image.proofs.Items.{word_kind, signed_at, signed_kind, join_at, join_kind, bytes_back, count_back, after_back}
 use Rattle.image.proofs.JoinOrder.{joins_sound}
 use Rattle.image.proofs.JoinTable.{table_back}
-use Rattle.image.proofs.Limits.{near_fits, places_near}
+use Rattle.image.proofs.Limits.{near_fits, values_fit, places_near}
 use Rattle.image.proofs.Parts.{Parted}
 
 -- ---- a section at the front of some bytes
@@ -119,7 +119,7 @@ module _ (given : Given) (job : Job) (w : Writable given job) where
 
   -- every number has its bytes
   values_have : All (λ x. SFits w32 x) job.values
-  values_have = near_fits 100000 job.values (omega arith) (holds (any_beyond 100000 job.values) 2 0 w.parts.values).0
+  values_have = values_fit job.values (holds (any_value_beyond job.values) 2 0 w.parts.values).0
 
   places_have : All (λ x. SFits w32 x) job.places
   places_have = near_fits 30000 job.places (omega arith) (places_near job.places w.parts.places given.places w.places_fit)

@@ -19,4 +19,5 @@ pub mod BytesBack
 pub mod TakenByAll
 pub mod Numbers
 pub mod Theorems
+pub mod AllReturned
 pub mod Sample

@@ -1,6 +1,6 @@
 -- What the rules on values and places tell of every number of a list. Assumes nothing.
-use mathlib.Core.Path.{◌≡◌, refl, sym, ap, ◌∙◌}
-use mathlib.Core.Bool.{false}
+use mathlib.Core.Path.{◌≡◌, refl, sym, ap, ◌∙◌, subst}
+use mathlib.Core.Bool.{Bool, true, false}
 use mathlib.Core.List.{List, [], ◌∷◌}
 use Prim.Native.Nat.{ℕ, zero, suc, ◌+◌, ◌*◌, ◌/◌, ◌%◌, ◌≤◌, ◌<◌}
 use native.Mathlib.Omega.{arith}
@@ -12,9 +12,12 @@ use Rattle.whole.specs.Integer.{beyond}
 use Rattle.whole.specs.Rules.{first_broken}
 use Rattle.whole.specs.Search.{some, any_beyond}
 use Rattle.whole.specs.Table.{at}
+use Rattle.whole.proofs.Compare.{equal_true}
 use Rattle.whole.proofs.InTurn.{Numbered, turn_each}
 use Rattle.whole.proofs.Rules.{holds, neither}
 use Rattle.whole.proofs.Search.{none_some, none_beyond}
+use Rattle.judges.specs.Values.{not_returned, missing, any_value_beyond}
+use Rattle.kept.proofs.Reduced.{returned_near}
 use Rattle.places.specs.Places.{across, up, at_one_place, any_at_one_place, place_rules_of, places_in_turn}
 use Rattle.image.proofs.ItemKinds.{All, none, more}
 
@@ -31,6 +34,18 @@ small (negsuc n) h = record { sfits = omega arith }
 pub near_fits : (limit : ℕ) (numbers : List ℤ) → limit ≤ 100000 → any_beyond limit numbers ≡ false → All (λ z. SFits w32 z) numbers
 near_fits limit numbers l e =
     all_from (λ z. SFits w32 z) (pos 0) numbers (λ k h. small (at numbers k) (omega (arith, none_beyond limit numbers e k h)))
+
+-- so has the value that marks one not returned, and with it every value where 3 holds
+marked : SFits w32 not_returned
+marked = record { sfits = omega arith }
+
+pub values_fit : (values : List ℤ) → any_value_beyond values ≡ false → All (λ z. SFits w32 z) values
+unfolding missing
+values_fit values e = all_from (λ z. SFits w32 z) (pos 0) values (λ k h. go k h (missing values k) refl)
+  where
+    go : (k : ℕ) → k < length values → (b : Bool) → missing values k ≡ b → SFits w32 (at values k)
+    go k h true m = subst (λ z. SFits w32 z) (sym (equal_true (at values k) not_returned m)) marked
+    go k h false m = small (at values k) (returned_near values e k h m)
 
 -- ---- places that break no rule in turn break none together
 module _ (places : List ℤ) (sound : first_broken (places_in_turn places) ≡ 0) where

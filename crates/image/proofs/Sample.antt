@@ -10,8 +10,10 @@ use Rattle.whole.specs.Search.{some, count, any_beyond, any_above}
 use Rattle.whole.specs.Sum.{sum}
 use Rattle.whole.specs.Table.{table, table_rows, pair_at, each}
 use Rattle.words.specs.Words.{two_at, word_at}
+use Rattle.judges.specs.Values.{missing, any_value_beyond}
 use Rattle.shuffles.specs.Shuffles.{shuffle_count, any_lacking}
 use Rattle.kept.specs.Kept.{passing, keeps, kept_zones, kept_count, kept_values}
+use Rattle.kept.specs.Returned.{reduced}
 use Rattle.account.specs.Measures.{row_of, pairs_of, weight_of, spread_of}
 use Rattle.account.specs.Refusals.{job_spread}
 use Rattle.places.specs.Places.{across, up, at_one_place, place_rules_of, places_in_turn}
@@ -53,6 +55,7 @@ unfolding image_refusal image_rules in_values in_categories in_joins in_places i
     in_turn join_rules places_in_turn place_rules_of across up at_one_place any_misplaced any_empty_band any_not_rising any_lacking
     shuffle_count lacks some any_beyond any_above job_of table table_rows join_weight two_at word_at
     weight_of spread_of pairs_of row_of sum pair_at job_spread keeps passing count kept_zones kept_count kept_values
+    missing any_value_beyond reduced
 report_accepted = refl
 
 pub report_read : job_of report_image ≡ report_job

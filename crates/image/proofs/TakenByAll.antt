@@ -8,8 +8,9 @@ use borrow.Author.Tests.{le-ltb, lt-ltb, eq-eqb}
 use lib.Dec.{eqb, ltb}
 use lib.ListN.{length}
 use Rattle.whole.specs.Rules.{Rule, first_broken, misfits}
-use Rattle.whole.specs.Search.{any_beyond, any_above, any_on_diagonal}
+use Rattle.whole.specs.Search.{any_above, any_on_diagonal}
 use Rattle.whole.proofs.Rules.{holds, neither}
+use Rattle.judges.specs.Values.{any_value_beyond}
 use Rattle.shuffles.specs.Shuffles.{shuffle_count}
 use Rattle.shuffles.proofs.ShuffleList.{rows_counted}
 use Rattle.account.specs.Refusals.{call_rules, job_refusal, account_rules, account_refusal}
@@ -54,9 +55,9 @@ module _ (image : List ℕ) (a : Accepted image) where
   unfolding job_of
   clear = let b = from_joins image in joins_clear n (join_in (items b)) (count b) a.joins.listed
 
-  near : any_beyond 100000 job.values ≡ false
+  near : any_value_beyond job.values ≡ false
   unfolding job_of
-  near = (holds (any_beyond 100000 job.values) 2 0 a.values.listed).0
+  near = (holds (any_value_beyond job.values) 2 0 a.values.listed).0
 
   -- 1 to 7 hold
   job_taken : Called n job.values job.weights []
@@ -95,7 +96,7 @@ module _ (image : List ℕ) (a : Accepted image) where
       (rw (eq-eqb (length job.shuffles) (shuffle_count n (length job.shuffles) * n) whole))
       a.shuffles.listed
 
-  joins_taken : (count (from_categories image) ≡ 0 → ⊥) → join_refusal n job.categories job.weights 64 ≡ 0
+  joins_taken : (count (from_categories image) ≡ 0 → ⊥) → join_refusal n job.values job.categories job.weights 64 ≡ 0
   unfolding join_refusal join_rules job_of given_in
   joins_taken f =
       let long = (within_counts image a).categories ∙ all_of_them n (count (from_categories image)) a.categories.counted f in
@@ -103,8 +104,10 @@ module _ (image : List ℕ) (a : Accepted image) where
       rw (
         le-ltb n 2 c.two,
         le-ltb 64 n c.zones,
+        eq-eqb (length job.values) n values_fit,
         eq-eqb (length job.categories) n long,
         eq-eqb (length job.weights) (n * n) weights_fit,
+        near,
         light,
         clear,
         low,

@@ -10,13 +10,14 @@ use lib.Arith.{digits_div, digits_mod}
 use lib.IntN.{ℤ}
 use lib.ListN.{length, get_or}
 use Rattle.whole.specs.Rules.{first_broken, in_turn, outside}
-use Rattle.whole.specs.Search.{any_beyond, any_above, any_on_diagonal}
+use Rattle.whole.specs.Search.{any_above, any_on_diagonal}
 use Rattle.whole.specs.Table.{table, pair_at}
 use Rattle.whole.proofs.InTurn.{Numbered, turn_each}
 use Rattle.whole.proofs.Lists.{within}
 use Rattle.whole.proofs.Rules.{holds, in_range, both_passed, other_fails, first_fails}
 use Rattle.whole.proofs.Search.{none_some, all_within}
 use Rattle.whole.proofs.TableRows.{rows_at, rows_each}
+use Rattle.judges.specs.Values.{any_value_beyond}
 use Rattle.shuffles.specs.Shuffles.{shuffle_count, shuffle_refusal}
 use Rattle.shuffles.proofs.ShuffleList.{rows_counted}
 use Rattle.account.specs.Refusals.{job_rules, sum_rules, call_rules, job_refusal}
@@ -145,7 +146,7 @@ module _ (n : ℕ) (weights : List ℕ) (there : length weights ≡ n * n)
 -- ---- where 1 to 5 hold, 6 and 7 decide
 pub sums_decide :
     (n : ℕ) (values : List ℤ) (weights : List ℕ) → 2 ≤ n → n ≤ 64 → length values ≡ n → length weights ≡ n * n →
-    any_beyond 100000 values ≡ false → any_above 9 weights ≡ false → any_on_diagonal n weights ≡ false →
+    any_value_beyond values ≡ false → any_above 9 weights ≡ false → any_on_diagonal n weights ≡ false →
     job_refusal n values weights ≡ first_broken (sum_rules n values weights)
 unfolding job_refusal call_rules job_rules
 sums_decide n values weights two zones l m near light clear =

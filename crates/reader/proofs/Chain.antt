@@ -9,10 +9,10 @@ use lib.Dec.{ltb}
 use lib.ListN.{length, take, length-drop}
 use lib.Seq.{length-take-le}
 use Rattle.whole.specs.Rules.{Rule, first_broken, in_turn, outside}
-use Rattle.whole.specs.Search.{any_beyond}
 use Rattle.whole.specs.Table.{table}
 use Rattle.whole.proofs.InTurn.{Numbered, second_decides, first_decides}
 use Rattle.whole.proofs.Rules.{holds, in_range}
+use Rattle.judges.specs.Values.{any_value_beyond}
 use Rattle.account.specs.Refusals.{sum_rules}
 use Rattle.image.specs.Joins.{weights_of, join_rules}
 use Rattle.image.specs.Image.{
@@ -169,7 +169,7 @@ module _ (image : List ℕ) (v : Section) (joins : List (List ℕ)) (values : He
           sections.sound 3 _ 14 _ (from_joins image) (sym e) in
           record {
             two = zones.0;
-            near = ap (any_beyond 100000) of_values ∙ (holds (any_beyond 100000 (values_in image)) 2 0 valued.listed).0;
+            near = ap any_value_beyond of_values ∙ (holds (any_value_beyond (values_in image)) 2 0 valued.listed).0;
             joins =
                 record {
                   zones = zones.1;

@@ -9,9 +9,10 @@ use lib.Seq.{get_or-take}
 use mir.Syntax.{w32}
 use mir.Val.{to_z}
 use Rattle.whole.specs.Rules.{first_broken}
-use Rattle.whole.specs.Search.{any_beyond, any_above}
+use Rattle.whole.specs.Search.{any_above}
 use Rattle.whole.proofs.Table.{table_cong, table_length}
 use Rattle.words.specs.Words.{word_at}
+use Rattle.judges.specs.Values.{any_value_beyond}
 use Rattle.shuffles.specs.Shuffles.{shuffle_refusal}
 use Rattle.places.specs.Places.{places_in_turn}
 use Rattle.places.specs.Bands.{any_misplaced}
@@ -39,8 +40,8 @@ signed_words_front k m l h = table_cong _ _ k (pos 0) (λ i p. ap (to_z w32) (wo
 
 -- ---- what a section's judge asks of its items
 module _ (b : List ℕ) where
-  pub values_held : any_beyond 100000 (signed_words (count b) (take (4 * count b) (items b))) ≡ any_beyond 100000 (values_in b)
-  values_held = ap (any_beyond 100000) (signed_words_front (count b) (4 * count b) (items b) (omega arith))
+  pub values_held : any_value_beyond (signed_words (count b) (take (4 * count b) (items b))) ≡ any_value_beyond (values_in b)
+  values_held = ap any_value_beyond (signed_words_front (count b) (4 * count b) (items b) (omega arith))
 
   pub categories_held : 1 * count b ≤ length (items b) → any_above 7 (take (1 * count b) (items b)) ≡ any_above 7 (categories_in b)
   categories_held h =

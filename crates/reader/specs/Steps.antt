@@ -1,8 +1,8 @@
 -- What the private functions of the reader promise each other. Assumes nothing.
 use Rattle.std.specs.Prelude.{◌≡◌, false, not, ◌&&◌, List, [], ◌∷◌, ℕ, ◌+◌, ◌*◌, ◌≤◌, ◌<◌, eqb, ltb, length, take, get_or}
 use Rattle.whole.specs.Rules.{Rule, first_broken, in_turn, outside}
-use Rattle.whole.specs.Search.{any_beyond}
 use Rattle.whole.specs.Table.{table}
+use Rattle.judges.specs.Values.{any_value_beyond}
 use Rattle.image.specs.Joins.{Join, join_rules, weights_of}
 use Rattle.image.specs.Image.{Job, count, items, signed_words, words, join_in, job_of}
 use Rattle.image.specs.Reader.{counts_in}
@@ -45,7 +45,7 @@ pub record Joins (b : List ℕ) (joins : List (List ℕ)) : Type 0 where
 -- values and joins that can be summed, since they break no rule
 pub record Summable (n : ℕ) (values : List ℕ) (triples : List (List ℕ)) : Type 0 where
   pub two : 2 ≤ n
-  pub near : any_beyond 100000 (signed_words n values) ≡ false
+  pub near : any_value_beyond (signed_words n values) ≡ false
   pub joins : Joinable n triples
 
 -- the counts of six sections, and the job that they hold

@@ -8,9 +8,9 @@ use borrow.Author.Tests.{ltb-false}
 use lib.ListN.{length, take}
 use lib.Seq.{length-take-le}
 use Rattle.whole.specs.Rules.{first_broken}
-use Rattle.whole.specs.Search.{any_beyond}
 use Rattle.whole.proofs.Lists.{few}
 use Rattle.whole.proofs.Rules.{holds}
+use Rattle.judges.specs.Values.{any_value_beyond}
 use Rattle.account.specs.Refusals.{job_refusal, sum_rules}
 use Rattle.image.specs.Joins.{joins_of}
 use Rattle.image.specs.Reader.{Buffers}
@@ -52,7 +52,7 @@ sums_last given lent sized e =
     let p = parted given job e in
     let there = weights_there given lent sized in
     sums_decide n job.values job.weights sized.two sized.zones (values_there given lent sized) there
-    (holds (any_beyond 100000 job.values) 2 0 p.values).0 (weights_light n job.weights there p.weights)
+    (holds (any_value_beyond job.values) 2 0 p.values).0 (weights_light n job.weights there p.weights)
     (weights_clear n job.weights there p.weights)
 
 -- a job in the buffers whose parts break no rule is one that is written

@@ -8,9 +8,9 @@ use lib.IntN.{ℤ}
 use lib.ListN.{length}
 use Rattle.refusals.specs.Refusals.{number_of}
 use Rattle.whole.specs.Rules.{first_broken}
-use Rattle.whole.specs.Search.{any_beyond}
 use Rattle.whole.specs.Table.{table}
 use Rattle.whole.proofs.Table.{table_length}
+use Rattle.judges.specs.Values.{any_value_beyond}
 use Rattle.account.specs.Refusals.{sum_rules, job_refusal}
 use Rattle.image.specs.Image.{signed_words}
 use Rattle.image.specs.Joins.{weights_of}
@@ -22,7 +22,7 @@ use Rattle.reader.proofs.judging.judge_sums.Goals as goal
 -- what the job's judge answers of copies that are the values and the weights
 judged :
     (n : ℕ) (values given : List ℤ) (joins : List (List ℕ)) (weights : List ℕ) → let l = table (join_at joins) (length joins) in 2 ≤ n →
-    any_beyond 100000 values ≡ false → Joinable n joins → length values ≡ n → given ≡ values → weights ≡ weights_of n l →
+    any_value_beyond values ≡ false → Joinable n joins → length values ≡ n → given ≡ values → weights ≡ weights_of n l →
     job_refusal n given weights ≡ first_broken (sum_rules n values (weights_of n l))
 judged n values given joins weights two near good long v w =
     let l = table (join_at joins) (length joins) in
