@@ -11,7 +11,7 @@ use mir.ValLaws.{to_z-of_z}
 use Rattle.std.specs.Result.{IsOk}
 use Rattle.whole.specs.Table.{each}
 use Rattle.whole.proofs.Rules.{worked_when_taken}
-use Rattle.hot_list.specs.HotList.{in_order, order_left}
+use Rattle.hot_list.specs.HotList.{in_order, order_refusal, order_left}
 use Rattle.hot_list.proofs.Ordered.{order_taken, in_order_length, in_order_below}
 use Rattle.report.specs.Steps.{Listed, zone_line}
 use Rattle.report.specs.declared.lines.Zones.{Zones}
@@ -75,9 +75,9 @@ module _ (c : After-order) where
   abbrev zones : List ℕ
   zones = c.order.new.zones
 
-  -- nothing is refused
-  taken : order_refusal n (length values) (length weights) (length locals) (length (take n (rooms_left c))) ≡ 0
-  taken =
+  -- with a place for each zone nothing is refused
+  taken : (places : ℕ) → places ≡ n → order_refusal n (length values) (length weights) (length locals) places ≡ 0
+  taken places p =
       let z = of_zones.zoned in
       order_taken n _ _ _ _
       (record {
@@ -86,15 +86,15 @@ module _ (c : After-order) where
         values_fit = z.values_fit;
         weights_fit = z.weights_fit;
         locals_fit = refl;
-        zones_fit = length-take-le _ _ z.most;
+        zones_fit = p;
       })
 
   zones_left : zones ≡ in_order n values weights locals
   unfolding order_left
-  zones_left = c.order.ensures.lent ∙ worked_when_taken _ _ _ taken
+  zones_left = c.order.ensures.lent ∙ worked_when_taken _ _ _ (taken _ (length-take-le _ _ of_zones.zoned.most))
 
   ordered : IsOk c.order.result
-  ordered = unrefused _ (c.order.ensures.number ∙ taken)
+  ordered = unrefused _ (c.order.ensures.number ∙ taken _ (length-take-le _ _ of_zones.zoned.most))
 
 pub unwrap-requires : goal.unwrap-requires
 unwrap-requires c = ordered ((goal.at.unwrap-requires c).After-order)
