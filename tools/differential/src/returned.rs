@@ -36,7 +36,8 @@ impl<'a> Returned<'a> {
                 *x = 0;
                 self.missing += 1;
                 weights[zone * n..][..n].fill(0);
-                weights.iter_mut().skip(zone).step_by(n).for_each(|w| *w = 0);
+                let column = weights.iter_mut().skip(zone).step_by(n);
+                column.for_each(|w| *w = 0);
             }
         }
     }

@@ -76,10 +76,7 @@ pub const NAMES: [(&str, &str); 40] = [
         "rank: zones not returned, and those left alone, take part in shuffles",
     ),
     ("transposed", "join table: rows and columns exchanged"),
-    (
-        "joins-as-lent",
-        "join table: the weights count as lent",
-    ),
+    ("joins-as-lent", "join table: the weights count as lent"),
     (
         "table-six",
         "join table: 6 where nothing is left of the weights",
@@ -340,8 +337,9 @@ fn shuffle_among(job: &Job, zones: &[usize], shuffles: &[u8], counts: &mut [u64]
     counts.fill(0);
     for row in shuffles.chunks_exact(job.n) {
         let numbers = row.iter().map(|&number| usize::from(number));
+        let numbers = numbers.filter(|number| zones.contains(number));
         let mut taken = job.x.clone();
-        for (&zone, from) in zones.iter().zip(numbers.filter(|zone| zones.contains(zone))) {
+        for (&zone, from) in zones.iter().zip(numbers) {
             taken[zone] = job.x[from];
         }
         counts[(p(&taken).cmp(&p(&job.x)) as i8 + 1) as usize] += 1;

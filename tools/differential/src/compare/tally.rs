@@ -64,7 +64,11 @@ impl Tally {
         *numbers.entry(number).or_default() += 1;
         let counts = self.kinds.entry(call).or_default();
         for ((count, &is), (_, of)) in counts.iter_mut().zip(kinds).zip(KINDS) {
-            let of = if call == JOIN_TABLE && [6, 7].contains(&of) { 0 } else { of };
+            let of = if call == JOIN_TABLE && [6, 7].contains(&of) {
+                0
+            } else {
+                of
+            };
             *count += u64::from(is && number == of);
         }
     }
