@@ -230,13 +230,7 @@ pub fn rank(n: usize, values: &[i32], weights: &[u8], shuffles: &[u8]) -> Result
 /// # Errors
 ///
 /// 1 2 3 4 5 8: the least that applies; `table` is then as it was.
-pub fn join_table(
-    n: usize,
-    values: &[i32],
-    categories: &[u8],
-    weights: &[u8],
-    table: &mut [i64; JOIN_TABLE],
-) -> Result<(), Refusal> {
+pub fn join_table(n: usize, values: &[i32], categories: &[u8], weights: &[u8], table: &mut [i64; JOIN_TABLE]) -> Result<(), Refusal> {
     // As in `account`.
     Refusal::of(unsafe {
         raw::dca_join_table(
