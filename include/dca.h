@@ -2,8 +2,8 @@
  * The district clustering account, for C and C++.
  *
  * What this is: the calls of the proved library, as the archive libexports.a has them (`rt lib` in crates/exports). Each call is proved, in
- * crates/exports/src, to answer and to store what the definitions of document 01 say, as request A.6 of document 02 changed them. This
- * header and what follows from a promise broken by the caller are not part of the proof.
+ * crates/exports/src, to answer and to store what the definitions of document 01 say, as requests A.6 and A.7 of document 02 changed them.
+ * This header and what follows from a promise broken by the caller are not part of the proof.
  *
  * Lists: each list is a pointer and then a length, which is the number of entries, not of bytes. An `out` list is written by the call,
  * every other list is only read.
@@ -13,10 +13,15 @@
  * fail in any other way: there is no precondition besides the duties below. A call gives the least number that applies to what it
  * was lent, and once 1 or 2 applies nothing further is judged; dca_read, dca_write and dca_report judge by place, as said there.
  *
- * Zones left out: a zone whose row and column hold no weight touches nobody and is left out. S, d, M, P and G are taken over the zones
- * kept, and the n of d, of Geary's c and of the expected value is their number. A zone that only gets weight, or only gives it, is kept.
- * Lengths, the counts of an image and every refusal but 7 count all zones: a bad value is refused with 3 also at a zone left out. The join
- * table, the networks and the bands leave out nothing.
+ * Values not returned: the value DCA_NOT_RETURNED marks a zone that sent none. It is never refused with 3. All weights of such a zone, those
+ * of its row and of its column, count as 0 in every figure, the join table too; but 4 and 5, and 16 of a join, judge them as they are lent,
+ * and an image keeps the mark and the joins. 6 is given where nothing is left of the weights.
+ *
+ * Zones left out: a zone whose row and column then hold no weight touches nobody and is left out; so is a zone not returned, and a zone that
+ * touches no others. S, d, M, P and G are taken over the zones kept, and the n of d, of Geary's c and of the expected value is their number.
+ * A zone that only gets weight, or only gives it, is kept. Lengths, the counts of an image and every refusal but 6 and 7 count all zones: a
+ * bad value is refused with 3 also at a zone left out, and a bad weight with 4 or 5 also at one not returned. The join table, the networks
+ * and the bands leave out nothing.
  *
  * Floats that a call leaves as they were, all of a refused call and the pair of a class without weight, are kept to the bit: a NaN, quiet
  * or signalling, keeps its sign and its payload.
@@ -44,7 +49,8 @@ extern "C" {
 /* The sizes of document 01. */
 #define DCA_ZONES_LEAST 2
 #define DCA_ZONES_MOST 64
-#define DCA_VALUE_MOST 100000               /* a value is from -this to this */
+#define DCA_VALUE_MOST 100000               /* a value is from -this to this, */
+#define DCA_NOT_RETURNED INT32_MIN          /* or this, -2147483648: not returned */
 #define DCA_WEIGHT_MOST 9                   /* a weight is 0 to this, and 0 on the diagonal */
 #define DCA_CATEGORY_MOST 7                 /* a category is 0 to this */
 #define DCA_CLASS_MOST 8                    /* a class is 0 to this, 0 being unclassed */
@@ -55,7 +61,7 @@ extern "C" {
 #define DCA_RATIO_MOST INT64_C(6000000000000000000) /* p and q of dca_nearest are from -this to this, q above 0 */
 
 /* The lengths of lists whose length is fixed. */
-#define DCA_SUMS 6                          /* S M W P G, zones kept */
+#define DCA_SUMS 7                          /* S M W P G, zones kept, values not returned */
 #define DCA_CLASSES 9
 #define DCA_CLASS_ROWS 27                   /* W P G of each class */
 #define DCA_GLOBALS 2                       /* Moran, Geary */
@@ -75,15 +81,15 @@ extern "C" {
 #define DCA_IMAGE_MOST 44908                /* bytes of the longest image */
 #define DCA_REPORT_TEXT 16384               /* bytes lent for a report */
 
-/* The causes of refusal, in document 01's words; 7 as request A.6 has it. */
+/* The causes of refusal, in document 01's words; 7 as request A.6 has it, 3 and 6 as request A.7. */
 enum dca_refusal {
     DCA_REFUSED_NOTHING = 0,      /* done */
     DCA_REFUSED_ZONES = 1,        /* n, or r x c, outside 2 to 64 */
     DCA_REFUSED_LENGTH = 2,       /* a lent slice not of its exact length (the image, the output of a writer and the band list have none) */
-    DCA_REFUSED_VALUE = 3,        /* a value beyond 100,000 in size */
+    DCA_REFUSED_VALUE = 3,        /* a value beyond 100,000 in size, other than DCA_NOT_RETURNED */
     DCA_REFUSED_WEIGHT = 4,       /* a weight above 9, or 0 in an image join */
     DCA_REFUSED_DIAGONAL = 5,     /* a weight on the diagonal */
-    DCA_REFUSED_NO_WEIGHT = 6,    /* W is 0 */
+    DCA_REFUSED_NO_WEIGHT = 6,    /* W is 0: no weight is left between zones whose values are returned */
     DCA_REFUSED_NO_SPREAD = 7,    /* M of the zones kept is 0 */
     DCA_REFUSED_CATEGORY = 8,     /* a category above 7 */
     DCA_REFUSED_CLASS = 9,        /* a class above 8 */
@@ -103,10 +109,10 @@ enum dca_refusal {
 /*
  * The account of a job.
  *   n             zones, 2 to 64
- *   values        n: the value of each zone, -100,000 to 100,000
+ *   values        n: the value of each zone, -100,000 to 100,000 or DCA_NOT_RETURNED
  *   weights       n * n: w(i,j) at n * i + j, 0 to 9, 0 on the diagonal
  *   locals  out   n: the local numerator L(i) of each zone, 0 at a zone left out
- *   sums    out   6: S M W P G, then the number of zones kept
+ *   sums    out   7: S M W P G, then the number of zones kept, then the number of values not returned
  * Refusals: 1 2 3 4 5 6 7.
  */
 uint8_t dca_account(size_t n,
@@ -185,13 +191,14 @@ uint8_t dca_rank(size_t n,
                  uint64_t *counts, size_t counts_len);
 
 /*
- * The join table of a job.
- *   n, weights    as dca_account; W may be 0
- *   categories    n: the category of each zone, 0 to 7
- *   table   out   64: T(r,s), the weight from category r to category s, at 8 * r + s
- * Refusals: 1 2 4 5 8.
+ * The join table of a job. The values only say which zones are not returned, so that their weights count as 0.
+ *   n, values, weights   as dca_account, but the values may be equal, and W may be 0
+ *   categories           n: the category of each zone, 0 to 7
+ *   table   out          64: T(r,s), the weight from category r to category s, at 8 * r + s
+ * Refusals: 1 2 3 4 5 8.
  */
 uint8_t dca_join_table(size_t n,
+                       const int32_t *values, size_t values_len,
                        const uint8_t *categories, size_t categories_len,
                        const uint8_t *weights, size_t weights_len,
                        int64_t *table, size_t table_len);
@@ -236,8 +243,8 @@ uint8_t dca_grid_queen(size_t rows, size_t columns, uint8_t *weights, size_t wei
  *   values      out   64       categories  out   64       weights   out   4,096
  *   places      out   128      bands       out   8        shuffles  out   31,936
  *   counts      out   6: values (n), categories, joins, places (zones, not coordinates), bands, shuffles (rows)
- * Refusals: 2 first, then by place in the image: 1 3 4 5 6 7 8 10 11 12 13 14 15 16 17. What it stores and counts are all zones; only 7
- * looks at the zones kept alone.
+ * Refusals: 2 first, then by place in the image: 1 3 4 5 6 7 8 10 11 12 13 14 15 16 17. What it stores and counts are all zones and all
+ * joins, a value not returned by its mark; only 6 looks at the weights left alone, and only 7 at the zones kept.
  */
 uint8_t dca_read(const uint8_t *image, size_t image_len,
                  int32_t *values, size_t values_len,
@@ -255,7 +262,8 @@ uint8_t dca_read(const uint8_t *image, size_t image_len,
  *   out     out  any length from the image's up, 44,908 is always enough; only the image's length of it is filled
  *   length  out  1: the image's length in bytes
  * Refusals: 2 where counts has not 5 entries, then 1, then 2, then by place in the image: 3 4 5 8 10 11 12 13 15, then 6 7 19. The image
- * has all zones; only 7 looks at the zones kept alone.
+ * has all zones, a value not returned by its mark, and a join for each weight that is lent; only 6 looks at the weights left alone, and only
+ * 7 at the zones kept.
  */
 uint8_t dca_write(const int32_t *values, size_t values_len,
                   const uint8_t *categories, size_t categories_len,
@@ -269,7 +277,7 @@ uint8_t dca_write(const int32_t *values, size_t values_len,
 
 /*
  * The report of an image as text. The text is ASCII, each line ends with a newline, and no 0 byte closes it. Its lines `zones` and
- * `expected` count the zones kept, and a zone left out has no line `local`.
+ * `expected` count the zones kept, and a zone left out has no line `local`. It does not say how many values are not returned.
  *   image         any length
  *   text    out   16,384: the text is at the front, the rest is kept
  *   length  out   1: the bytes of the text

@@ -7,7 +7,8 @@
  * A thousand inputs of each call, most of them damaged. Each list lies in a heap block of exactly the lent length, made for that one
  * call, so that valgrind sees a read or a write one past. Looked at after each call: the number is one that the call may give, 1 and 2 are
  * given exactly where they apply, a report is refused as the reader refuses its image, lists that are only read are as they were, and so is
- * every lent byte where the call is refused; an account counts the zones kept and has 0 at the others. Ends with 1 at the first fault.
+ * every lent byte where the call is refused; an account counts the zones kept and the values not returned, and has 0 at zones left out; a
+ * join table has the weights between zones that are returned. Ends with 1 at the first fault.
  */
 #include <inttypes.h>
 #include <stdint.h>
@@ -38,7 +39,7 @@ static const struct {
     {"dca_nearest", BIT(0) | BIT(2) | BIT(18)},
     {"dca_hot_list", UP_TO_7},
     {"dca_rank", UP_TO_7 | BIT(13)},
-    {"dca_join_table", BIT(0) | BIT(1) | BIT(2) | BIT(4) | BIT(5) | BIT(8)},
+    {"dca_join_table", BIT(0) | BIT(1) | BIT(2) | BIT(3) | BIT(4) | BIT(5) | BIT(8)},
     {"dca_gabriel", PLACED},
     {"dca_bands", PLACED | BIT(12)},
     {"dca_grid_rook", BIT(0) | BIT(1) | BIT(2)},
@@ -218,7 +219,16 @@ static void leave_out(void)
                 job.weights[n * zone + other] = job.weights[n * other + zone] = 0;
 }
 
-/* In half of the jobs some zones are left out. The first two are kept and have different values. */
+/* Some zones behind the first two send no value. */
+static void miss_values(void)
+{
+    size_t some = 1 + below(6);
+    for (size_t zone = 2; zone < job.n; zone++)
+        if (one_in(some))
+            job.values[zone] = DCA_NOT_RETURNED;
+}
+
+/* In half of the jobs some zones are left out, in half some are not returned. The first two are kept and have different values. */
 static void draw_job(void)
 {
     size_t n = job.n = one_in(6) ? 64 : 2 + below(one_in(3) ? 63 : 10);
@@ -236,6 +246,8 @@ static void draw_job(void)
     job.weights[1] = 9;
     if (one_in(2))
         leave_out();
+    if (one_in(2))
+        miss_values();
     job.bands_len = 1 + below(8);
     for (size_t b = 0; b < job.bands_len; b++)
         job.bands[b] = (uint32_t)(b * 500000000 + 1 + below(500000000));
@@ -244,11 +256,14 @@ static void draw_job(void)
         shuffle_row(job.shuffles + r * n);
 }
 
+static int is_returned(size_t zone) { return job.values[zone] != DCA_NOT_RETURNED; }
+
+/* Whether a weight counts, that of the row or that of the column, so that the zone is kept. */
 static int touches_somebody(size_t zone)
 {
     size_t n = job.n;
-    for (size_t other = 0; other < n; other++)
-        if (job.weights[n * zone + other] > 0 || job.weights[n * other + zone] > 0)
+    for (size_t other = 0; other < n && is_returned(zone); other++)
+        if (is_returned(other) && (job.weights[n * zone + other] > 0 || job.weights[n * other + zone] > 0))
             return 1;
     return 0;
 }
@@ -261,23 +276,33 @@ static void make_equal(int all)
             job.values[zone] = job.values[0];
 }
 
+/* No zone sends a value, or none that touches the first. */
+static void miss_around_first(int all)
+{
+    size_t n = job.n;
+    for (size_t zone = 0; zone < n; zone++)
+        if (all || job.weights[zone] > 0 || job.weights[n * zone] > 0)
+            job.values[zone] = DCA_NOT_RETURNED;
+}
+
 /* Breaks one rule of the job's contents. */
 static void spoil(void)
 {
-    static const int32_t wild[] = {100001, -100001, INT32_MAX, INT32_MIN};
+    static const int32_t wild[] = {100001, -100001, INT32_MAX, DCA_NOT_RETURNED + 1};
     size_t n = job.n;
-    switch (below(12)) {
+    switch (below(13)) {
     case 0: job.values[below(n)] = wild[below(4)]; break;
     case 1: job.weights[below(n * n)] = (uint8_t)(10 + below(246)); break;
     case 2: job.weights[below(n) * (n + 1)] = (uint8_t)(1 + below(one_in(4) ? 255 : 9)); break;
     case 3: memset(job.weights, 0, n * n); break;
     case 4: make_equal(one_in(2)); break;
-    case 5: job.categories[below(n)] = (uint8_t)(8 + below(248)); break;
-    case 6: job.classes[below(n * n)] = (uint8_t)(9 + below(247)); break;
-    case 7: job.places[below(2 * n)] = one_in(2) ? 30001 : wild[below(4)]; break;
-    case 8: memcpy(job.places + 2 * (n - 1), job.places, 2 * sizeof job.places[0]); break;
-    case 9: job.bands[below(job.bands_len)] = 0; break;
-    case 10: if (job.bands_len > 1) job.bands[job.bands_len - 1] = job.bands[0]; break;
+    case 5: miss_around_first(one_in(2)); break;
+    case 6: job.categories[below(n)] = (uint8_t)(8 + below(248)); break;
+    case 7: job.classes[below(n * n)] = (uint8_t)(9 + below(247)); break;
+    case 8: job.places[below(2 * n)] = one_in(2) ? 30001 : wild[below(4)]; break;
+    case 9: memcpy(job.places + 2 * (n - 1), job.places, 2 * sizeof job.places[0]); break;
+    case 10: job.bands[below(job.bands_len)] = 0; break;
+    case 11: if (job.bands_len > 1) job.bands[job.bands_len - 1] = job.bands[0]; break;
     default: if (job.rows > 0) job.shuffles[below(job.rows * n)] = (uint8_t)draw(); break;
     }
 }
@@ -305,11 +330,12 @@ static size_t start(void)
 
 /* ---- The calls ---- */
 
-/* The zones kept are counted, and those left out have no local numerator. */
+/* The zones kept are counted and the values not returned, and zones left out have no local numerator. */
 static void look_at_kept(const int64_t *locals, const int64_t *sums)
 {
-    int64_t kept = 0;
+    int64_t kept = 0, missing = 0;
     for (size_t zone = 0; zone < job.n; zone++) {
+        missing += !is_returned(zone);
         if (touches_somebody(zone))
             kept++;
         else if (locals[zone] != 0)
@@ -317,6 +343,21 @@ static void look_at_kept(const int64_t *locals, const int64_t *sums)
     }
     if (sums[5] != kept)
         fault(ACCOUNT, "not the number of zones kept");
+    if (sums[6] != missing)
+        fault(ACCOUNT, "not the number of values not returned");
+}
+
+/* The entries add up to the weights that count. */
+static void look_at_table(const int64_t *table)
+{
+    int64_t left = 0;
+    for (size_t k = 0; k < job.n * job.n; k++)
+        if (is_returned(k / job.n) && is_returned(k % job.n))
+            left += job.weights[k];
+    for (size_t entry = 0; entry < DCA_JOIN_TABLE; entry++)
+        left -= table[entry];
+    if (left != 0)
+        fault(JOIN_TABLE, "not the weights between zones that are returned");
 }
 
 static void try_account(void)
@@ -402,8 +443,12 @@ static void try_rank(void)
 static void try_join_table(void)
 {
     size_t n = start();
-    struct list *categories = IN(job.n, job.categories), *weights = IN(job.n * job.n, job.weights), *table = OUT(64, int64_t);
-    look(JOIN_TABLE, dca_join_table(n, GIVE(categories, uint8_t), GIVE(weights, uint8_t), GIVE(table, int64_t)), first_number(n));
+    struct list *values = IN(job.n, job.values), *categories = IN(job.n, job.categories), *weights = IN(job.n * job.n, job.weights);
+    struct list *table = OUT(DCA_JOIN_TABLE, int64_t);
+    uint8_t number = dca_join_table(n, GIVE(values, int32_t), GIVE(categories, uint8_t), GIVE(weights, uint8_t), GIVE(table, int64_t));
+    look(JOIN_TABLE, number, first_number(n));
+    if (number == 0)
+        look_at_table((const int64_t *)(const void *)table->at);
     take_back();
 }
 

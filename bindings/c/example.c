@@ -1,5 +1,6 @@
 /*
- * An example for an office: the worked job of document 01, through every kind of call. Its last zone touches nobody and is left out.
+ * An example for an office: the worked job of document 01, through every kind of call. Its last zone touches nobody and is left out. Then
+ * its first zone sends no value.
  *
  *   gcc -O2 -std=c99 -I include bindings/c/example.c crates/exports/out/libexports.a -o example && ./example
  *
@@ -62,12 +63,17 @@ static void print_float(double figure)
     printf("%.6f (%016" PRIX64 ")", figure, bits);
 }
 
+static void print_sums(const char *of, const int64_t sums[DCA_SUMS])
+{
+    printf("%s: S %" PRId64 ", M %" PRId64 ", W %" PRId64 ", P %" PRId64 ", G %" PRId64, of, sums[0], sums[1], sums[2], sums[3], sums[4]);
+    printf(", zones kept %" PRId64 " of %d, not returned %" PRId64 "\n", sums[5], N, sums[6]);
+}
+
 static void show_account(void)
 {
     int64_t locals[N], sums[DCA_SUMS];
     done("dca_account", dca_account(N, LIST(values), LIST(weights), LIST(locals), LIST(sums)));
-    printf("account: S %" PRId64 ", M %" PRId64 ", W %" PRId64 ", P %" PRId64 ", G %" PRId64 ", zones kept %" PRId64 " of %d\n",
-           sums[0], sums[1], sums[2], sums[3], sums[4], sums[5], N);
+    print_sums("account", sums);
     for (int zone = 0; zone < N; zone++)
         printf("  zone %d: L %" PRId64 "\n", zone, locals[zone]);
 }
@@ -117,11 +123,22 @@ static void show_float_report(void)
 static void show_join_table(void)
 {
     int64_t table[DCA_JOIN_TABLE];
-    done("dca_join_table", dca_join_table(N, LIST(categories), LIST(weights), LIST(table)));
+    done("dca_join_table", dca_join_table(N, LIST(values), LIST(categories), LIST(weights), LIST(table)));
     printf("join table:\n");
     for (int r = 0; r < CATEGORIES_USED; r++)
         for (int s = 0; s < CATEGORIES_USED; s++)
             printf("  from category %d to %d: %" PRId64 "\n", r, s, table[8 * r + s]);
+}
+
+/* The first zone sends no value: its weights, 3 each way, count as 0. */
+static void show_not_returned(void)
+{
+    const int32_t fewer[N] = {DCA_NOT_RETURNED, 1, 3, 3};
+    int64_t locals[N], sums[DCA_SUMS], table[DCA_JOIN_TABLE];
+    done("dca_account", dca_account(N, LIST(fewer), LIST(weights), LIST(locals), LIST(sums)));
+    print_sums("the same without the value of zone 0", sums);
+    done("dca_join_table", dca_join_table(N, LIST(fewer), LIST(categories), LIST(weights), LIST(table)));
+    printf("  from category 0 to 0: %" PRId64 "\n", table[0]);
 }
 
 static void show_rank(void)
@@ -201,7 +218,7 @@ static void show_refused_report(const uint8_t *image, size_t image_len)
 static void show_refused_job(void)
 {
     const int32_t equal[N] = {5, 5, 5, 5};
-    int64_t locals[N] = {-1, -1, -1, -1}, sums[DCA_SUMS] = {-1, -1, -1, -1, -1, -1};
+    int64_t locals[N] = {-1, -1, -1, -1}, sums[DCA_SUMS] = {-1, -1, -1, -1, -1, -1, -1};
     uint8_t refusal = dca_account(N, LIST(equal), LIST(weights), LIST(locals), LIST(sums));
     printf("a job of equal values: refused %d%s\n", refusal, refusal == DCA_REFUSED_NO_SPREAD ? " (M of the zones kept is 0)" : "");
     int kept = 1;
@@ -223,6 +240,7 @@ int main(void)
     show_networks();
     size_t image_len = show_image(image);
     show_report(image, image_len);
+    show_not_returned();
     show_refused_report(image, image_len - 1);
     show_refused_job();
     return 0;

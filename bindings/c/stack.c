@@ -3,9 +3,9 @@
  *
  *   gcc -O2 -std=c99 -pthread -I include bindings/c/stack.c crates/exports/out/libexports.a -o stack && ./stack samples/island.image
  *
- * The image should use everything: 64 zones, categories, places, bands, shuffles. Each call is made on its job, and again when the last
- * zone touches nobody and is left out. Ends with 1 where a call takes 256 KiB or more.
- * The frames are fixed and no call calls itself, so that what two such runs take is about what any run takes.
+ * The image should use everything: 64 zones, categories, places, bands, shuffles. Each call is made on its job, again when the last zone
+ * touches nobody and is left out, and again when the first sends no value besides. Ends with 1 where a call takes 256 KiB or more.
+ * The frames are fixed and no call calls itself, so that what three such runs take is about what any run takes.
  */
 #define _POSIX_C_SOURCE 200809L
 #include <pthread.h>
@@ -52,7 +52,7 @@ static int call_float_report(void)
 static int call_nearest(void) { return dca_nearest(-1, 3, nearest, 1); }
 static int call_hot_list(void) { return dca_hot_list(n, values, n, weights, n * n, zones, n); }
 static int call_rank(void) { return dca_rank(n, values, n, weights, n * n, shuffles, (size_t)six[5] * n, counts, 3); }
-static int call_join_table(void) { return dca_join_table(n, categories, n, weights, n * n, table, 64); }
+static int call_join_table(void) { return dca_join_table(n, values, n, categories, n, weights, n * n, table, 64); }
 static int call_gabriel(void) { return dca_gabriel(n, places, 2 * n, network, n * n); }
 static int call_grid(void) { return dca_grid_queen(8, 8, network, 4096); }
 
@@ -115,15 +115,28 @@ static void measure(void)
     }
 }
 
-/* Takes all weight from the last zone, and makes the image anew. */
-static void leave_out_last(void)
+/* Makes the image anew. */
+static void write_image(void)
 {
-    for (size_t zone = 0; zone < n; zone++)
-        weights[n * (n - 1) + zone] = weights[n * zone + n - 1] = 0;
     if (call_write() != 0)
         exit(2);
     image_len = (size_t)length[0];
     memcpy(image, out, image_len);
+}
+
+/* Takes all weight from the last zone. */
+static void leave_out_last(void)
+{
+    for (size_t zone = 0; zone < n; zone++)
+        weights[n * (n - 1) + zone] = weights[n * zone + n - 1] = 0;
+    write_image();
+}
+
+/* The first zone sends no value. */
+static void miss_first(void)
+{
+    values[0] = DCA_NOT_RETURNED;
+    write_image();
 }
 
 int main(int words, char **word)
@@ -139,6 +152,9 @@ int main(int words, char **word)
     measure();
     leave_out_last();
     printf("its last zone left out\n");
+    measure();
+    miss_first();
+    printf("its first zone not returned besides\n");
     measure();
     return 0;
 }

@@ -1,5 +1,5 @@
 //! The worked job of document 01, through every kind of call: prints what bindings/c/example.c prints. Its last zone touches nobody
-//! and is left out.
+//! and is left out. Then its first zone sends no value.
 
 use dca::{Buffers, Given, Refusal};
 
@@ -23,13 +23,16 @@ fn float(figure: f64) -> String {
     format!("{figure:.6} ({:016X})", figure.to_bits())
 }
 
+fn print_sums(of: &str, sums: dca::Sums) {
+    println!(
+        "{of}: S {}, M {}, W {}, P {}, G {}, zones kept {} of {N}, not returned {}",
+        sums.total, sums.spread, sums.weight, sums.cross, sums.squares, sums.kept, sums.missing
+    );
+}
+
 fn show_account() -> Result<(), Refusal> {
     let mut locals = [0; N];
-    let sums = dca::account(N, &VALUES, &WEIGHTS, &mut locals)?;
-    println!(
-        "account: S {}, M {}, W {}, P {}, G {}, zones kept {} of {N}",
-        sums.total, sums.spread, sums.weight, sums.cross, sums.squares, sums.kept
-    );
+    print_sums("account", dca::account(N, &VALUES, &WEIGHTS, &mut locals)?);
     for (zone, local) in locals.iter().enumerate() {
         println!("  zone {zone}: L {local}");
     }
@@ -65,13 +68,24 @@ fn show_float_report() -> Result<(), Refusal> {
 
 fn show_join_table() -> Result<(), Refusal> {
     let mut table = [0; dca::JOIN_TABLE];
-    dca::join_table(N, &CATEGORIES, &WEIGHTS, &mut table)?;
+    dca::join_table(N, &VALUES, &CATEGORIES, &WEIGHTS, &mut table)?;
     println!("join table:");
     for r in 0..CATEGORIES_USED {
         for s in 0..CATEGORIES_USED {
             println!("  from category {r} to {s}: {}", table[8 * r + s]);
         }
     }
+    Ok(())
+}
+
+/// The first zone sends no value: its weights, 3 each way, count as 0.
+fn show_not_returned() -> Result<(), Refusal> {
+    let fewer = [dca::NOT_RETURNED, 1, 3, 3];
+    let (mut locals, mut table) = ([0; N], [0; dca::JOIN_TABLE]);
+    let sums = dca::account(N, &fewer, &WEIGHTS, &mut locals)?;
+    print_sums("the same without the value of zone 0", sums);
+    dca::join_table(N, &fewer, &CATEGORIES, &WEIGHTS, &mut table)?;
+    println!("  from category 0 to 0: {}", table[0]);
     Ok(())
 }
 
@@ -170,6 +184,7 @@ fn main() -> Result<(), Refusal> {
     show_networks()?;
     let image = show_image()?;
     show_report(&image)?;
+    show_not_returned()?;
     show_refused_report(&image[..image.len() - 1]);
     show_refused_job();
     Ok(())

@@ -2,8 +2,8 @@
 
 use crate::{raw, Refusal, CLASSES, CLASS_ROWS, JOIN_TABLE};
 
-/// S, M, W, P, G and the number of zones kept.
-const SUMS: usize = 6;
+/// S, M, W, P, G, the number of zones kept and the number of values not returned.
+const SUMS: usize = 7;
 
 /// The sums of a job, taken over the zones that are kept.
 #[derive(Debug, Clone, Copy, PartialEq, Eq)]
@@ -20,6 +20,8 @@ pub struct Sums {
     pub squares: i64,
     /// How many zones are kept.
     pub kept: usize,
+    /// How many values are [`crate::NOT_RETURNED`].
+    pub missing: usize,
 }
 
 /// Moran's I and Geary's c of a job or of a class, each the float nearest to the exact ratio.
@@ -48,8 +50,8 @@ pub struct Counts {
 
 /// The account of a job: its sums, and the local numerators L(i) in `locals`, 0 at a zone left out.
 ///
-/// `n` is 2 to 64; `values` has n entries, -100,000 to 100,000; `weights` has n × n entries, w(i,j) at n × i + j, 0 to 9 and 0 on the
-/// diagonal; `locals` has n entries.
+/// `n` is 2 to 64; `values` has n entries, -100,000 to 100,000 or [`crate::NOT_RETURNED`]; `weights` has n × n entries, w(i,j) at
+/// n × i + j, 0 to 9 and 0 on the diagonal; `locals` has n entries.
 ///
 /// # Errors
 ///
@@ -70,14 +72,15 @@ pub fn account(n: usize, values: &[i32], weights: &[u8], locals: &mut [i64]) -> 
             sums.len(),
         )
     })?;
-    let [total, spread, weight, cross, squares, kept] = sums;
+    let [total, spread, weight, cross, squares, kept, missing] = sums;
     Ok(Sums {
         total,
         spread,
         weight,
         cross,
         squares,
-        kept: kept as usize, // at most 64
+        kept: kept as usize, // at most 64, as the next
+        missing: missing as usize,
     })
 }
 
@@ -219,18 +222,21 @@ pub fn rank(n: usize, values: &[i32], weights: &[u8], shuffles: &[u8]) -> Result
     Ok(Counts { less, equal, greater })
 }
 
-/// The join table: T(r,s), the weight from category r to category s, at 8 × r + s of `table`.
+/// The join table: T(r,s), the weight from category r to category s, at 8 × r + s of `table`. Weights of a zone whose value is not returned
+/// count as 0.
 ///
-/// `n` and `weights` as [`account`], W may be 0; `categories` has n entries, 0 to 7.
+/// `n`, `values` and `weights` as [`account`], but the values may be equal and W may be 0; `categories` has n entries, 0 to 7.
 ///
 /// # Errors
 ///
-/// 1 2 4 5 8: the least that applies; `table` is then as it was.
-pub fn join_table(n: usize, categories: &[u8], weights: &[u8], table: &mut [i64; JOIN_TABLE]) -> Result<(), Refusal> {
+/// 1 2 3 4 5 8: the least that applies; `table` is then as it was.
+pub fn join_table(n: usize, values: &[i32], categories: &[u8], weights: &[u8], table: &mut [i64; JOIN_TABLE]) -> Result<(), Refusal> {
     // As in `account`.
     Refusal::of(unsafe {
         raw::dca_join_table(
             n,
+            values.as_ptr(),
+            values.len(),
             categories.as_ptr(),
             categories.len(),
             weights.as_ptr(),

@@ -5,6 +5,7 @@ use crate::{raw, Refusal, REPORT_TEXT};
 /// The six buffers that an image is read into and written from. About 37 KB: put it in a `Box` where the stack is small.
 #[derive(Debug, Clone, PartialEq, Eq)]
 pub struct Buffers {
+    /// A value not returned is [`crate::NOT_RETURNED`], here as in an image.
     pub values: [i32; 64],
     pub categories: [u8; 64],
     /// w(i,j) at n × i + j: the first n × n are used.
@@ -79,6 +80,7 @@ impl From<Sections> for Given {
 }
 
 /// Reads the job of an image into the buffers. Entries that the job does not use keep what they held; a weight with no join becomes 0.
+/// Marks of values not returned are stored as they are, and so are all joins of the image; only 6 and 7 leave zones out.
 ///
 /// # Errors
 ///
@@ -119,7 +121,8 @@ pub fn read(image: &[u8], to: &mut Buffers) -> Result<Sections, Refusal> {
 }
 
 /// Writes the image of the job in the buffers to the front of `out` and returns its length, at most [`crate::IMAGE_MOST`]; the rest of
-/// `out` keeps what it held. Entries that the job does not use are not judged.
+/// `out` keeps what it held. Entries that the job does not use are not judged. The image has the marks of values not returned and the joins
+/// of their zones, so that an image read and written is the same to the byte.
 ///
 /// # Errors
 ///

@@ -5,9 +5,14 @@
 //! was, floats to the bit. No value and no length makes a call fail in any other way. The library allocates nothing and has no global
 //! state, and a call takes less than 256 KiB of stack.
 //!
-//! A zone whose row and column hold no weight touches nobody and is left out: sums, mean and spread are those of the zones kept, with
-//! their number in the place of n. A zone that only gets weight, or only gives it, is kept. Lengths, the counts of an image and every
-//! refusal but 7 count all zones. The join table, the networks and the bands leave out nothing.
+//! The value [`NOT_RETURNED`] marks a zone that sent none. All weights of such a zone, those of its row and of its column, count as 0 in
+//! every figure, the join table too; but 4 and 5 judge them as they are lent, and an image keeps the mark and the joins. 6 is given where
+//! nothing is left of the weights.
+//!
+//! A zone whose row and column then hold no weight touches nobody and is left out; so is a zone not returned, and a zone that touches no
+//! others. Sums, mean and spread are those of the zones kept, with their number in the place of n. A zone that only gets weight, or only
+//! gives it, is kept. Lengths, the counts of an image and every refusal but 6 and 7 count all zones. The join table, the networks and the
+//! bands leave out nothing.
 //!
 //! ```
 //! use dca::{account, nearest, Refusal};
@@ -16,7 +21,8 @@
 //! let weights = [0, 1, 0, 1, 0, 1, 0, 1, 0]; // a line of three zones
 //! let mut locals = [0; 3];
 //! let sums = account(3, &values, &weights, &mut locals)?;
-//! assert_eq!((sums.spread, sums.weight, sums.cross, sums.squares, sums.kept), (42, 4, -18, 34, 3));
+//! assert_eq!((sums.spread, sums.weight, sums.cross, sums.squares), (42, 4, -18, 34));
+//! assert_eq!((sums.kept, sums.missing), (3, 0));
 //! assert_eq!(locals, [18, -9, -27]);
 //!
 //! let moran = nearest(sums.cross, sums.weight * sums.spread)?;
@@ -41,6 +47,8 @@ pub use job_image::{read, report, write, Buffers, Given, Sections};
 pub use networks::{bands, gabriel, grid, Move};
 pub use refusal::Refusal;
 
+/// Marks the value of a zone that sent none; every other value is -100,000 to 100,000.
+pub const NOT_RETURNED: i32 = i32::MIN;
 /// The most zones of a job; the least are 2.
 pub const ZONES_MOST: usize = 64;
 /// The most shuffles of a rank and of an image.

@@ -50,6 +50,7 @@ extern "C" {
 
     pub fn dca_join_table(
         n: usize,
+        values: *const i32, values_len: usize,
         categories: *const u8, categories_len: usize,
         weights: *const u8, weights_len: usize,
         table: *mut i64, table_len: usize,

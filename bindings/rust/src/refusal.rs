@@ -35,13 +35,13 @@ impl Refusal {
     pub const ZONES: Refusal = Refusal(1);
     /// A lent slice not of its exact length.
     pub const LENGTH: Refusal = Refusal(2);
-    /// A value beyond 100,000 in size.
+    /// A value beyond 100,000 in size that is not [`crate::NOT_RETURNED`].
     pub const VALUE: Refusal = Refusal(3);
     /// A weight above 9, or 0 in an image join.
     pub const WEIGHT: Refusal = Refusal(4);
     /// A weight on the diagonal.
     pub const DIAGONAL: Refusal = Refusal(5);
-    /// W is 0.
+    /// W is 0: no weight is left between zones whose values are returned.
     pub const NO_WEIGHT: Refusal = Refusal(6);
     /// M of the zones kept is 0.
     pub const NO_SPREAD: Refusal = Refusal(7);

@@ -1,4 +1,5 @@
-//! Document 01's figures at the edges, as request A.6 changed them, its refusals, and that a refused call leaves what it was lent as it was.
+//! Document 01's figures at the edges, as request A.6 changed them, values not returned, the refusals, and that a refused call leaves what it
+//! was lent as it was.
 
 use dca::{Buffers, Counts, Given, Move, Refusal, Sections};
 
@@ -75,9 +76,10 @@ fn figure_a_the_line() {
     let mut locals = [0; 3];
     let sums = dca::account(3, &[1, 2, 6], &LINE, &mut locals).unwrap();
     assert_eq!(
-        (sums.total, sums.spread, sums.weight, sums.cross, sums.squares, sums.kept),
-        (9, 42, 4, -18, 34, 3)
+        (sums.total, sums.spread, sums.weight, sums.cross, sums.squares),
+        (9, 42, 4, -18, 34)
     );
+    assert_eq!((sums.kept, sums.missing), (3, 0));
     assert_eq!(locals, [18, -9, -27]);
 }
 
@@ -106,7 +108,7 @@ fn figures_c_to_f_the_worked_report() {
     assert_eq!(pairs[..4], [None, Some((0.5, 0.0)), Some((-1.0, 1.5)), None]);
     assert_eq!(floats.map(f64::to_bits), [1.5, 0.5, -1.0, 0.0].map(f64::to_bits));
     let mut table = [-1; dca::JOIN_TABLE];
-    dca::join_table(4, &[0, 0, 1, 1], &WEIGHTS, &mut table).unwrap();
+    dca::join_table(4, &VALUES, &[0, 0, 1, 1], &WEIGHTS, &mut table).unwrap();
     assert_eq!((table[0], table[1], table[8], table[9]), (6, 1, 1, 0));
     let mut zones = [9; 4];
     dca::hot_list(4, &VALUES, &WEIGHTS, &mut zones).unwrap();
@@ -137,7 +139,7 @@ fn zones_left_out() {
     for first in [1, 100_000, -100_000] {
         let values = [first, 1, 2, 6];
         let sums = dca::account(4, &values, &weights, &mut locals).unwrap();
-        assert_eq!((sums.total, sums.spread, sums.cross, sums.kept), (9, 42, -18, 3));
+        assert_eq!((sums.total, sums.spread, sums.cross, sums.kept, sums.missing), (9, 42, -18, 3, 0));
         assert_eq!(locals, [0, 18, -9, -27]);
         dca::hot_list(4, &values, &weights, &mut zones).unwrap();
         assert_eq!(zones, [1, 2, 3, 0]);
@@ -158,6 +160,80 @@ fn zones_that_touch_one_way() {
     assert_eq!((sums.cross, sums.squares, sums.kept, locals), (-72, 52, 3, [-90, 18, 0]));
     let sums = dca::account(3, &[1, 2, 6], &[0, 1, 0, 1, 0, 0, 2, 0, 0], &mut locals).unwrap();
     assert_eq!((sums.cross, sums.squares, sums.kept, locals), (-72, 52, 3, [18, 18, -108]));
+}
+
+/// The line of three, a zone that sends nothing though it has weight, and one that touches this one alone: figures of the line.
+#[test]
+fn values_not_returned() {
+    let (mut locals, mut zones, mut table) = ([-7; 5], [9; 5], [-7; dca::JOIN_TABLE]);
+    #[rustfmt::skip]
+    let weights = [0, 1, 0, 0, 0, 1, 0, 1, 0, 0, 0, 1, 0, 5, 0, 0, 0, 5, 0, 9, 0, 0, 0, 9, 0];
+    let values = [1, 2, 6, dca::NOT_RETURNED, -100_000];
+    let sums = dca::account(5, &values, &weights, &mut locals).unwrap();
+    assert_eq!(
+        (sums.total, sums.spread, sums.weight, sums.cross, sums.squares),
+        (9, 42, 4, -18, 34)
+    );
+    assert_eq!((sums.kept, sums.missing, locals), (3, 1, [18, -9, -27, 0, 0]));
+    dca::hot_list(5, &values, &weights, &mut zones).unwrap();
+    assert_eq!(zones, [0, 1, 2, 3, 4]);
+    // The kept numbers of the row are 2 1 0: the line turned round.
+    let counts = dca::rank(5, &values, &weights, &[3, 2, 4, 1, 0]).unwrap();
+    assert_eq!((counts.less, counts.equal, counts.greater), (0, 1, 0));
+    dca::join_table(5, &values, &[0, 1, 0, 2, 2], &weights, &mut table).unwrap();
+    assert_eq!((table[1], table[8], table.iter().sum::<i64>()), (2, 2, 4));
+}
+
+/// 6 looks at what is left of the weights, 7 at the values kept, 3 at every other value; 4 and 5 at the weights as they are lent.
+#[test]
+fn refusals_beside_values_not_returned() {
+    let none = dca::NOT_RETURNED;
+    for (values, number) in [
+        ([1, none, 6], 6),
+        ([none, none, none], 6),
+        ([5, 5, none], 7),
+        ([1, none + 1, none], 3),
+        ([1, -100_001, none], 3),
+    ] {
+        assert_eq!(refused(3, &values, &LINE), number);
+    }
+    for (place, weight, number) in [(2, 10, 4), (6, 255, 4), (8, 1, 5)] {
+        let mut weights = LINE;
+        weights[place] = weight;
+        assert_eq!(refused(3, &[1, 2, none], &weights), number);
+    }
+    let mut table = [-7; dca::JOIN_TABLE];
+    dca::join_table(3, &[none; 3], &[0, 1, 2], &LINE, &mut table).unwrap();
+    assert_eq!(table, [0; dca::JOIN_TABLE]);
+    for (values, refusal) in [(&[1, 100_001, none][..], Refusal::VALUE), (&[1, 2], Refusal::LENGTH)] {
+        assert_eq!(dca::join_table(3, values, &[0, 1, 8], &LINE, &mut table), Err(refusal));
+    }
+    assert_eq!(table, [0; dca::JOIN_TABLE]);
+}
+
+/// The worked image with its first value not returned: mark and joins come back, and the same bytes are written; the report is of what is
+/// left, zones 1 and 2.
+#[test]
+fn an_image_of_values_not_returned() {
+    let mut image = worked_image();
+    image[2..6].copy_from_slice(&dca::NOT_RETURNED.to_le_bytes());
+    let mut back = Buffers::new();
+    let sections = dca::read(&image, &mut back).unwrap();
+    assert_eq!(
+        (back.values[0], &back.weights[..16], sections.joins),
+        (dca::NOT_RETURNED, &WEIGHTS[..], 4)
+    );
+    let mut again = vec![0; image.len()];
+    assert_eq!(dca::write(&back, sections.into(), &mut again), Ok(92));
+    assert_eq!(again, image);
+    let mut text = [b'#'; dca::REPORT_TEXT];
+    let text = dca::report(&image, &mut text).unwrap();
+    assert!(text.starts_with(b"zones 2 4 4\njoins 2 -8 8\n"));
+    // Without the value of zone 1 nothing is left.
+    image[6..10].copy_from_slice(&dca::NOT_RETURNED.to_le_bytes());
+    assert_eq!(dca::read(&image, &mut back), Err(Refusal::NO_WEIGHT));
+    back.values[1] = dca::NOT_RETURNED;
+    assert_eq!(dca::write(&back, sections.into(), &mut again), Err(Refusal::NO_WEIGHT));
 }
 
 #[test]
@@ -193,7 +269,7 @@ fn values_and_weights_at_the_edges() {
     let mut locals = [0; 2];
     assert!(dca::account(2, &[100_000, -100_000], &[0, 9, 9, 0], &mut locals).is_ok());
     assert_eq!(refused(2, &[100_001, 0], &[0, 9, 9, 0]), 3);
-    assert_eq!(refused(2, &[i32::MIN, 0], &[0, 9, 9, 0]), 3);
+    assert_eq!(refused(2, &[i32::MIN + 1, 0], &[0, 9, 9, 0]), 3);
     assert_eq!(refused(2, &[1, 0], &[0, 10, 9, 0]), 4);
     assert_eq!(refused(2, &[1, 0], &[1, 9, 9, 0]), 5);
     assert_eq!(refused(2, &[1, 0], &[0; 4]), 6);
@@ -219,7 +295,10 @@ fn refusals_of_the_other_lists() {
     assert_eq!(dca::float_report(4, &VALUES, &WEIGHTS, &classes, &mut nans), Err(Refusal::CLASS));
     assert_eq!(nans.map(f64::to_bits), bits);
     let mut table = [-7; 64];
-    assert_eq!(dca::join_table(4, &[0, 0, 1, 8], &WEIGHTS, &mut table), Err(Refusal::CATEGORY));
+    assert_eq!(
+        dca::join_table(4, &VALUES, &[0, 0, 1, 8], &WEIGHTS, &mut table),
+        Err(Refusal::CATEGORY)
+    );
     assert_eq!(table, [-7; 64]);
     assert_eq!(dca::rank(4, &VALUES, &WEIGHTS, &[0, 1, 2, 2]), Err(Refusal::SHUFFLE));
     assert_eq!(dca::rank(4, &VALUES, &WEIGHTS, &[0, 1, 2]), Err(Refusal::LENGTH));

@@ -50,7 +50,7 @@ macro_rules! every_call {
             nearest = dca_nearest [p: i64, q: i64] [] [out: f64];
             hot_list = dca_hot_list [n: usize] [values: i32, weights: u8] [zones: u8];
             rank = dca_rank [n: usize] [values: i32, weights: u8, shuffles: u8] [counts: u64];
-            join_table = dca_join_table [n: usize] [categories: u8, weights: u8] [table: i64];
+            join_table = dca_join_table [n: usize] [values: i32, categories: u8, weights: u8] [table: i64];
             gabriel = dca_gabriel [n: usize] [places: i32] [weights: u8];
             bands = dca_bands [n: usize] [places: i32, bands: u32] [classes: u8];
             grid_rook = dca_grid_rook [rows: usize, columns: usize] [] [weights: u8];
@@ -62,6 +62,17 @@ macro_rules! every_call {
                 [values: i32, categories: u8, weights: u8, places: i32, bands: u32, shuffles: u8, counts: u64]
                 [out: u8, length: u64];
             report = dca_report [] [image: u8] [text: u8, length: u64];
+        }
+    };
+}
+
+/// The join table as it was before request A.7, when it took no values.
+#[cfg(before)]
+macro_rules! join_table_without_values {
+    ($make:ident $($front:literal)?) => {
+        $make! {
+            $($front;)?
+            join_table = dca_join_table [n: usize] [categories: u8, weights: u8] [table: i64];
         }
     };
 }
@@ -84,6 +95,17 @@ mod copies {
                 }
 
                 every_call!(over_slices);
+
+                /// What an archive from before request A.7 has in the place of the call above; else it is not called.
+                #[allow(dead_code)]
+                pub mod without_values {
+                    #[allow(clashing_extern_declarations)]
+                    mod raw {
+                        join_table_without_values!(declare $front);
+                    }
+
+                    join_table_without_values!(over_slices);
+                }
             })*
         };
     }
@@ -103,7 +125,7 @@ mod copies {
 /// All the calls, as one place has them.
 #[derive(Clone, Copy)]
 pub struct Calls {
-    /// How many sums its account stores: an earlier archive may have fewer.
+    /// How many sums its account stores.
     pub sums: usize,
     pub account: cases::Account,
     pub class_account: cases::ClassAccount,
@@ -147,18 +169,67 @@ macro_rules! calls_of {
 
 pub const PROVED: Calls = calls_of!(proved);
 pub const INDEPENDENT: Calls = calls_of!(differential);
+
 /// Where functions begin at multiples of a number: now and before.
-pub type Placed = (usize, [Calls; 2]);
+pub struct Placed {
+    pub at: usize,
+    pub now: Calls,
+    /// With the arguments that the calls have now.
+    before: Calls,
+    /// With those that it had before request A.7; the values that it is lent are dropped.
+    join_table_without_values: cases::JoinTable,
+}
+
+impl Placed {
+    /// The earlier calls, each with the arguments of its archive. How many sums the account stores tells of what request the archive is.
+    pub fn before(&self) -> Calls {
+        let sums = sums_of(self.before.account);
+        let join_table = if sums < SUMS {
+            self.join_table_without_values
+        } else {
+            self.before.join_table
+        };
+        Calls {
+            sums,
+            join_table,
+            ..self.before
+        }
+    }
+}
+
+/// The length of sums that an account does not refuse: 5, after request A.6 6, after request A.7 7.
+fn sums_of(account: cases::Account) -> usize {
+    let takes = |&sums: &usize| {
+        let (mut locals, mut sums) = ([0; 2], vec![0; sums]);
+        account(2, &[0, 1], &[0, 1, 1, 0], &mut locals, &mut sums) == 0
+    };
+    let sums = (5..=SUMS).find(takes);
+    sums.expect("the earlier account is one of requests up to A.7")
+}
+
+#[cfg(before)]
+macro_rules! placed {
+    ($at:literal $now:ident $before:ident) => {
+        Placed {
+            at: $at,
+            now: calls_of!($now),
+            before: calls_of!($before),
+            join_table_without_values: |n, _, categories, weights, table| {
+                $before::without_values::join_table(n, categories, weights, table)
+            },
+        }
+    };
+}
 
 /// A pair for each placement, if build.rs was told of an earlier archive.
 #[cfg(before)]
 pub const NOW_AND_BEFORE: &[Placed] = {
     use copies::{before128, before16, before32, before64, now128, now16, now32, now64};
     &[
-        (16, [calls_of!(now16), calls_of!(before16)]),
-        (32, [calls_of!(now32), calls_of!(before32)]),
-        (64, [calls_of!(now64), calls_of!(before64)]),
-        (128, [calls_of!(now128), calls_of!(before128)]),
+        placed!(16 now16 before16),
+        placed!(32 now32 before32),
+        placed!(64 now64 before64),
+        placed!(128 now128 before128),
     ]
 };
 #[cfg(not(before))]
@@ -178,7 +249,7 @@ pub mod cases {
     pub type Nearest = fn(i64, i64, &mut [f64]) -> u8;
     pub type HotList = fn(usize, &[i32], &[u8], &mut [u8]) -> u8;
     pub type Rank = fn(usize, &[i32], &[u8], &[u8], &mut [u64]) -> u8;
-    pub type JoinTable = fn(usize, &[u8], &[u8], &mut [i64]) -> u8;
+    pub type JoinTable = fn(usize, &[i32], &[u8], &[u8], &mut [i64]) -> u8;
     pub type Gabriel = fn(usize, &[i32], &mut [u8]) -> u8;
     pub type Bands = fn(usize, &[i32], &[u32], &mut [u8]) -> u8;
     pub type Grid = fn(usize, usize, &mut [u8]) -> u8;
@@ -251,7 +322,7 @@ pub mod cases {
         JoinTable,
         input,
         [input.n],
-        [input.categories, input.weights],
+        [input.values, input.categories, input.weights],
         [table = [0; 64]]
     );
     case!(

@@ -1,6 +1,6 @@
 //! The job that is measured: request A.4's, with everything that an image can hold.
 
-use differential::{BANDS, SHUFFLES};
+use differential::{BANDS, NOT_RETURNED, SHUFFLES};
 
 pub struct Input {
     pub n: usize,
@@ -63,6 +63,16 @@ fn ninths(places: &[i32]) -> Vec<u32> {
 impl Input {
     pub fn new(n: usize, rows: usize) -> Self {
         Self::leaving_out(&[], n, rows)
+    }
+
+    /// The same job, of which these zones send no value.
+    pub fn not_returning(zones: &[usize], n: usize, rows: usize) -> Self {
+        let mut input = Self::new(n, rows);
+        for &zone in zones {
+            input.values[zone] = NOT_RETURNED;
+        }
+        input.write();
+        input
     }
 
     /// The same job, of which these zones touch nobody.

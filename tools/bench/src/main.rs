@@ -3,19 +3,18 @@
 //!     cargo run --release -- [--goals] [--rounds N]
 //!
 //! Prints four markdown tables: proved against independent, with the goals, how the proved calls' cost grows, and what they cost where
-//! zones are left out. With `--goals` it ends with status 1 where a ratio is above its goal by more than 0.15, since a machine is never
+//! zones are left out or not returned. With `--goals` it ends with status 1 where a ratio is above its goal by more than 0.15, since a machine is never
 //! quiet.
 //! DCA_LIB_DIR names the folder of the archive libexports.a, if it is not crates/exports/out. DCA_BEFORE_DIR names the folder of an
 //! earlier libexports.a: then the calls are measured beside those of that archive instead, and one table is printed, now against before.
 //! Both are paths from the root. build.rs links the earlier archive under other names, so that the program is built anew for it.
-//! DCA_BEFORE_SUMS is how many sums dca_account of the earlier archive stores, if not 6; before request A.6 they were 5.
+//! The earlier archive may be one from before request A.7 or A.6: its account and its join table are called as they were then.
 
 mod calls;
 mod input;
 
 use calls::cases::{self, Case};
 use calls::{proved, Calls, Placed};
-use differential::SUMS;
 use input::{Input, Refused};
 use std::process::ExitCode;
 use std::time::{Duration, Instant};
@@ -25,7 +24,7 @@ const ROUNDS: usize = 200;
 const BATCH: Duration = Duration::from_micros(1500);
 /// Beside an earlier archive a round is short, so that in most of them neither call is interrupted.
 const SHORT_BATCH: Duration = Duration::from_micros(300);
-/// The zones that touch nobody in the last table, the first and the last among them.
+/// The zones that touch nobody, or send no value, in the last table, the first and the last among them.
 const LEFT_OUT: [usize; 5] = [0, 9, 26, 40, 63];
 /// By how much a ratio may exceed its goal before the program complains.
 const MARGIN: f64 = 0.15;
@@ -235,18 +234,10 @@ fn earlier_row(name: &str, rounds: usize, placed: &mut [Beside]) {
     );
 }
 
-/// How many sums the account of the earlier archive stores; nothing where the variable says no number.
-fn earlier_sums() -> Option<usize> {
-    match std::env::var("DCA_BEFORE_SUMS") {
-        Ok(text) => text.parse().ok(),
-        Err(_) => Some(SUMS),
-    }
-}
-
-/// Measures each call beside that of an earlier archive, whose account stores so many sums.
-fn beside_earlier(rounds: usize, placements: &[Placed], sums: usize) {
+/// Measures each call beside that of an earlier archive.
+fn beside_earlier(rounds: usize, placements: &[Placed]) {
     let inputs = &Inputs::new();
-    let at: Vec<String> = placements.iter().map(|(at, _)| at.to_string()).collect();
+    let at: Vec<String> = placements.iter().map(|p| p.at.to_string()).collect();
     println!("The archive and an earlier one by turns, {rounds} rounds with functions at multiples of {}: the medians of the times, and of the ratios of the rounds.", at.join(", "));
     println!();
     println!(
@@ -255,9 +246,9 @@ fn beside_earlier(rounds: usize, placements: &[Placed], sums: usize) {
     );
     println!("|---|{}", "---:|".repeat(at.len() + 4));
     let mut lines: Vec<(&str, Vec<Beside>)> = Vec::new();
-    for (_, [now, before]) in placements {
-        let before = Calls { sums, ..*before };
-        for (line, ((name, _, now), (_, _, before))) in both(inputs, now, &before).enumerate() {
+    for placed in placements {
+        let lines_here = both(inputs, &placed.now, &placed.before());
+        for (line, ((name, _, now), (_, _, before))) in lines_here.enumerate() {
             if line == lines.len() {
                 lines.push((name, Vec::new()));
             }
@@ -327,21 +318,30 @@ fn growth(rounds: usize) {
 
 fn left_out_row(name: &str, rounds: usize, mut cases: Vec<Case>) {
     let least = least(&mut cases, rounds);
-    let (all, fewer) = (least[0], least[1]);
-    println!("| {name} | {all:.2} | {fewer:.2} | {:.2} |", fewer / all);
+    let [all, fewer, missing] = [least[0], least[1], least[2]];
+    println!(
+        "| {name} | {all:.2} | {fewer:.2} | {:.2} | {missing:.2} | {:.2} |",
+        fewer / all,
+        missing / all
+    );
 }
 
-/// The job as it is, and the same job of which five zones touch nobody.
+/// The job as it is, and the same job of which five zones touch nobody, or send no value.
 fn left_out(rounds: usize) {
-    let inputs = [&[][..], &LEFT_OUT].map(|zones| Input::leaving_out(zones, 64, 499));
-    println!("| proved, us, 64 zones | all kept | 5 left out | ratio |");
-    println!("|---|---:|---:|---:|");
+    let inputs = [
+        Input::new(64, 499),
+        Input::leaving_out(&LEFT_OUT, 64, 499),
+        Input::not_returning(&LEFT_OUT, 64, 499),
+    ];
+    println!("| proved, us, 64 zones | all kept | 5 left out | ratio | 5 not returned | ratio |");
+    println!("|---|---:|---:|---:|---:|---:|");
     rows! {
         left_out_row, rounds, inputs,
         "account" account;
         "class account" class_account;
         "float report" float_report;
         "rank, 499 shuffles" rank;
+        "join table" join_table;
         "read" read;
         "write" write;
         "report" report;
@@ -369,11 +369,7 @@ fn main() -> ExitCode {
     };
     println!("Request A.4's job: 64 zones, 499 shuffles, categories, places, 8 bands. Buffers are not cleared between calls.");
     if !calls::NOW_AND_BEFORE.is_empty() {
-        let Some(sums) = earlier_sums() else {
-            eprintln!("DCA_BEFORE_SUMS is not a number");
-            return ExitCode::from(2);
-        };
-        beside_earlier(rounds, calls::NOW_AND_BEFORE, sums);
+        beside_earlier(rounds, calls::NOW_AND_BEFORE);
         return ExitCode::SUCCESS;
     }
     println!("Both built for release; proved and independent in turn, {rounds} rounds, the least time of a call.");

@@ -1,5 +1,6 @@
 //! Part 1: S, M, W, P, G and the local numerators.
 
+use crate::judge::Job;
 use crate::kept::Kept;
 use crate::{judge, SUMS, ZONES};
 
@@ -82,12 +83,13 @@ pub fn account(
     if values.len() != n || weights.len() != n * n || locals.len() != n || sums.len() != SUMS {
         return 2;
     }
-    let kept = match judge::job(n, values, weights) {
-        Ok(kept) => kept,
+    let Job { returned, kept } = match judge::job(n, values, weights) {
+        Ok(job) => job,
         Err(number) => return number,
     };
-    let spread = Spread::of(values, kept);
-    let Sums { w, p, g } = work(values, &spread, weights, locals);
-    sums.copy_from_slice(&[spread.s, spread.m, w, p, g, kept.count() as i64]);
+    let spread = Spread::of(&returned.values, kept);
+    let Sums { w, p, g } = work(&returned.values, &spread, &returned.weights, locals);
+    let counts = [kept.count(), returned.missing].map(|count| count as i64);
+    sums.copy_from_slice(&[spread.s, spread.m, w, p, g, counts[0], counts[1]]);
     0
 }

@@ -1,21 +1,21 @@
 //! Part 3: W, P, G and the local numerators of each class.
 
 use crate::account::Spread;
-use crate::kept::Kept;
+use crate::judge::Job;
 use crate::{judge, CLASSES};
 
-/// The zones kept of a job with classes whose lists have their exact length, or the number that rules 3 to 7 and 9 give it.
-pub(crate) fn judge_classed(
+/// The job with classes whose lists have their exact length, or the number that rules 3 to 7 and 9 give it.
+pub(crate) fn judge_classed<'a>(
     n: usize,
-    values: &[i32],
-    weights: &[u8],
+    values: &'a [i32],
+    weights: &'a [u8],
     classes: &[u8],
-) -> Result<Kept, u8> {
-    let kept = judge::job(n, values, weights)?;
+) -> Result<Job<'a>, u8> {
+    let job = judge::job(n, values, weights)?;
     if judge::greatest(classes) > 8 {
         Err(9)
     } else {
-        Ok(kept)
+        Ok(job)
     }
 }
 
@@ -70,10 +70,11 @@ pub fn class_account(
     {
         return 2;
     }
-    let kept = match judge_classed(n, values, weights, classes) {
-        Ok(kept) => kept,
+    let Job { returned, kept } = match judge_classed(n, values, weights, classes) {
+        Ok(job) => job,
         Err(number) => return number,
     };
+    let (values, weights) = (&returned.values, &returned.weights);
     let spread = Spread::of(values, kept);
     work(values, &spread, weights, classes, rows, class_locals);
     0

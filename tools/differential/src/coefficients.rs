@@ -2,6 +2,7 @@
 
 use crate::account::Spread;
 use crate::classes::{judge_classed, work};
+use crate::judge::Job;
 use crate::nearest::ratio;
 use crate::{judge, CLASSES, ZONES};
 
@@ -46,10 +47,11 @@ pub fn float_report(
     {
         return 2;
     }
-    let kept = match judge_classed(n, values, weights, classes) {
-        Ok(kept) => kept,
+    let Job { returned, kept } = match judge_classed(n, values, weights, classes) {
+        Ok(job) => job,
         Err(number) => return number,
     };
+    let (values, weights) = (&returned.values, &returned.weights);
     let spread = Spread::of(values, kept);
     let mut rows = [0; 3 * CLASSES];
     let mut class_locals = [0; ZONES * CLASSES];

@@ -1,6 +1,7 @@
 //! Part 4: the zones by falling local numerator, equal ones by rising number; then those that are left out.
 
 use crate::account::{self, Spread};
+use crate::judge::Job;
 use crate::kept::Kept;
 use crate::{judge, ZONES};
 use std::cmp::Reverse;
@@ -23,10 +24,11 @@ pub fn hot_list(n: usize, values: &[i32], weights: &[u8], zones: &mut [u8]) -> u
     if values.len() != n || weights.len() != n * n || zones.len() != n {
         return 2;
     }
-    let kept = match judge::job(n, values, weights) {
-        Ok(kept) => kept,
+    let Job { returned, kept } = match judge::job(n, values, weights) {
+        Ok(job) => job,
         Err(number) => return number,
     };
+    let (values, weights) = (&returned.values, &returned.weights);
     let mut locals = [0; ZONES];
     let locals = &mut locals[..n];
     account::work(values, &Spread::of(values, kept), weights, locals);

@@ -1,6 +1,7 @@
 //! Part 10: the reader and the writer of the job image. Both go by place.
 
 use crate::kept::Kept;
+use crate::returned::{Returned, NOT_RETURNED};
 use crate::{judge, BANDS, JOINS, SHUFFLES, ZONES};
 
 /// The entries of a full buffer of shuffles.
@@ -59,12 +60,14 @@ fn judge_joins(n: usize, joins: &[[u8; 3]]) -> Result<(), u8> {
     Ok(())
 }
 
-/// Whether the kept zones, which are the ends of the joins, have one value, so that their M is 0.
-fn ends_are_equal(values: &[[u8; 4]], joins: &[[u8; 3]]) -> bool {
-    let mut ends = joins.iter().flat_map(|&[from, to, _]| [from, to]);
-    let value = |end: u8| values[usize::from(end)];
-    let first = ends.next().map(value);
-    ends.all(|end| Some(value(end)) == first)
+/// 6 and 7. A join counts if the values of both its ends are returned; the ends of these joins are the kept zones.
+fn judge_kept(values: &[[u8; 4]], joins: &[[u8; 3]]) -> Result<(), u8> {
+    let value = |end: u8| i32::from_le_bytes(values[usize::from(end)]);
+    let ends = joins.iter().map(|&[from, to, _]| [from, to].map(value));
+    let mut counted = ends.filter(|ends| !ends.contains(&NOT_RETURNED));
+    let [first, other] = counted.next().ok_or(6)?;
+    let is_first = |ends: [i32; 2]| ends == [first, first];
+    refuse(first == other && counted.all(is_first), 7)
 }
 
 /// Place by place: 10, then 11 against the earlier ones.
@@ -128,8 +131,7 @@ impl<'a> Image<'a> {
         refuse(!judge::rows_are_shuffles(n, shuffles), 13)?;
 
         refuse(!rest.0.is_empty(), 17)?;
-        refuse(joins.is_empty(), 6)?;
-        refuse(ends_are_equal(values, joins), 7)?;
+        judge_kept(values, joins)?;
         Ok(Image {
             bands,
             shuffles,
@@ -283,8 +285,10 @@ impl<'a> Job<'a> {
         let shuffles = &lent.shuffles[..shuffle_count as usize * zones];
         refuse(!judge::rows_are_shuffles(zones, shuffles), 13)?;
 
-        refuse(joins == 0, 6)?;
-        refuse(Kept::of(zones, weights).are_equal(values), 7)?;
+        let returned = Returned::of(values, weights);
+        let kept = Kept::of(zones, &returned.weights);
+        refuse(kept.count() == 0, 6)?;
+        refuse(kept.are_equal(&returned.values), 7)?;
         Ok(Job {
             values,
             categories,

@@ -1,6 +1,7 @@
 //! What several calls refuse alike.
 
 use crate::kept::Kept;
+use crate::returned::{Returned, NOT_RETURNED};
 use crate::ZONES;
 
 /// Whether there may be that many zones.
@@ -8,31 +9,43 @@ pub fn zones_fit(n: usize) -> bool {
     (2..=ZONES).contains(&n)
 }
 
-/// The zones kept of a job whose lists have their exact length, or the number that rules 3 to 7 give it. Only 7 looks at kept zones alone.
-pub fn job(n: usize, values: &[i32], weights: &[u8]) -> Result<Kept, u8> {
-    if values.iter().any(|&x| value_is_beyond(x)) {
-        return Err(3);
-    }
-    let greatest = greatest(weights);
-    if greatest > 9 {
-        return Err(4);
-    }
-    if any_on_diagonal(n, weights) {
-        return Err(5);
-    }
-    if greatest == 0 {
-        return Err(6);
-    }
-    let kept = Kept::of(n, weights);
-    if kept.are_equal(values) {
+/// A job that is not refused: what is returned of it, and the zones kept.
+pub struct Job<'a> {
+    pub returned: Returned<'a>,
+    pub kept: Kept,
+}
+
+/// The job whose lists have their exact length, or the number that rules 3 to 7 give it. 3 to 5 look at the lists as lent, 6 at the
+/// weights that are left without the values not returned, 7 at the values of kept zones.
+pub fn job<'a>(n: usize, values: &'a [i32], weights: &'a [u8]) -> Result<Job<'a>, u8> {
+    values_and_weights(n, values, weights)?;
+    let returned = Returned::of(values, weights);
+    let kept = Kept::of(n, &returned.weights);
+    if kept.count() == 0 {
+        Err(6)
+    } else if kept.are_equal(&returned.values) {
         Err(7)
     } else {
-        Ok(kept)
+        Ok(Job { returned, kept })
     }
 }
 
+/// What rules 3 to 5 say of lists as lent.
+pub fn values_and_weights(n: usize, values: &[i32], weights: &[u8]) -> Result<(), u8> {
+    if values.iter().any(|&x| value_is_beyond(x)) {
+        Err(3)
+    } else if greatest(weights) > 9 {
+        Err(4)
+    } else if any_on_diagonal(n, weights) {
+        Err(5)
+    } else {
+        Ok(())
+    }
+}
+
+/// A value not returned is not beyond.
 pub fn value_is_beyond(x: i32) -> bool {
-    x.unsigned_abs() > 100_000
+    x.unsigned_abs() > 100_000 && x != NOT_RETURNED
 }
 
 pub fn coordinate_is_beyond(x: i32) -> bool {

@@ -3,7 +3,7 @@
 use crate::ZONES;
 
 /// The zones that are kept, a bit for each. A zone is left out if neither its row nor its column holds a weight; it counts neither in n
-/// nor in the mean nor in the spread.
+/// nor in the mean nor in the spread. The weights are those without the values not returned.
 #[derive(Clone, Copy)]
 pub(crate) struct Kept(u64);
 

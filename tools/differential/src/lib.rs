@@ -1,4 +1,5 @@
-//! The calls of the district clustering account once more, written from document 01, request A.6 of document 02 and their readings alone.
+//! The calls of the district clustering account once more, written from document 01, requests A.6 and A.7 of document 02 and their
+//! readings alone.
 //!
 //! Nothing here is shared with the proved library or taken from it. Each function has the arguments of the exported call of
 //! the same name, as slices, and returns the number of the refusal, 0 where there is none; on a refusal every lent list stays
@@ -17,6 +18,7 @@ pub mod nearest;
 pub mod places;
 pub mod rank;
 pub mod report;
+mod returned;
 
 pub use account::account;
 pub use classes::class_account;
@@ -29,11 +31,12 @@ pub use nearest::nearest;
 pub use places::{bands, gabriel};
 pub use rank::rank;
 pub use report::report;
+pub use returned::NOT_RETURNED;
 
 /// The most zones that a job has.
 pub const ZONES: usize = 64;
-/// The sums of an account: S, M, W, P, G and the number of zones kept.
-pub const SUMS: usize = 6;
+/// The sums of an account: S, M, W, P, G, the number of zones kept and the number of values not returned.
+pub const SUMS: usize = 7;
 /// Classes 0 to 8.
 pub const CLASSES: usize = 9;
 /// Categories 0 to 7.

@@ -1,6 +1,7 @@
 //! Part 9: how many shuffles have a lesser, an equal, a greater P than the job.
 
 use crate::account::Spread;
+use crate::judge::Job;
 use crate::{judge, SHUFFLES, ZONES};
 use std::cmp::Ordering;
 
@@ -63,13 +64,14 @@ pub fn rank(n: usize, values: &[i32], weights: &[u8], shuffles: &[u8], counts: &
     {
         return 2;
     }
-    let kept = match judge::job(n, values, weights) {
-        Ok(kept) => kept,
+    let Job { returned, kept } = match judge::job(n, values, weights) {
+        Ok(job) => job,
         Err(number) => return number,
     };
     if !judge::rows_are_shuffles(n, shuffles) {
         return 13;
     }
-    counts.copy_from_slice(&count(&Spread::of(values, kept), weights, shuffles));
+    let spread = Spread::of(&returned.values, kept);
+    counts.copy_from_slice(&count(&spread, &returned.weights, shuffles));
     0
 }

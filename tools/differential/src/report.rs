@@ -5,6 +5,7 @@ use crate::coefficients::{geary, moran, pair};
 use crate::image::Image;
 use crate::kept::Kept;
 use crate::nearest::ratio;
+use crate::returned::Returned;
 use crate::{classes, hot, joins, places, rank, BANDS, CLASSES, TEXT, ZONES};
 
 /// The text as far as it is written.
@@ -72,6 +73,8 @@ fn lines(page: &mut Page, image: &Image) {
     let weights = &mut weights[..n * n];
     image.weights_to(weights);
 
+    let returned = Returned::of(values, weights);
+    let (values, weights) = (&returned.values, &returned.weights);
     let spread = Spread::of(values, Kept::of(n, weights));
     job_lines(page, &spread, values, weights);
     if !image.categories.is_empty() {

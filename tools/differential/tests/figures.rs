@@ -1,4 +1,4 @@
-//! The figures that document 01, request A.6 and their readings print, by the independent calls.
+//! The figures that document 01, request A.6 and their readings print, by the independent calls; and what request A.7 says of them.
 
 use differential as own;
 
@@ -13,11 +13,11 @@ fn job(n: usize, joins: &[(usize, usize, u8)]) -> Vec<u8> {
 #[test]
 fn line_of_three() {
     let weights = job(3, &[(0, 1, 1), (1, 0, 1), (1, 2, 1), (2, 1, 1)]);
-    let (mut locals, mut sums) = ([0; 3], [0; 6]);
+    let (mut locals, mut sums) = ([0; 3], [0; own::SUMS]);
     let number = own::account(3, &[1, 2, 6], &weights, &mut locals, &mut sums);
     assert_eq!(
         (number, locals, sums),
-        (0, [18, -9, -27], [9, 42, 4, -18, 34, 3])
+        (0, [18, -9, -27], [9, 42, 4, -18, 34, 3, 0])
     );
 }
 
@@ -29,9 +29,9 @@ fn forewings() {
         .flat_map(|&(a, b)| [(a - 1, b - 1, 1), (b - 1, a - 1, 1)])
         .collect();
     let values = [207, 202, 220, 207, 197, 220, 204, 197];
-    let (mut locals, mut sums) = ([0; 8], [0; 6]);
+    let (mut locals, mut sums) = ([0; 8], [0; own::SUMS]);
     let number = own::account(8, &values, &job(8, &joins), &mut locals, &mut sums);
-    assert_eq!((number, sums), (0, [1654, 4572, 14, -9416, 1864, 8]));
+    assert_eq!((number, sums), (0, [1654, 4572, 14, -9416, 1864, 8, 0]));
     assert_eq!(locals, [136, -4104, -4028, -200, -156, -2120, -660, 1716]);
 }
 
@@ -40,11 +40,11 @@ fn forewings() {
 fn left_out() {
     let weights = job(4, &[(0, 1, 3), (1, 0, 3), (1, 2, 1), (2, 1, 1)]);
     let values = [1, 1, 3, 3];
-    let (mut locals, mut sums, mut zones) = ([7; 4], [7; 6], [7; 4]);
+    let (mut locals, mut sums, mut zones) = ([7; 4], [7; own::SUMS], [7; 4]);
     let number = own::account(4, &values, &weights, &mut locals, &mut sums);
     assert_eq!(
         (number, locals, sums),
-        (0, [12, 4, -8, 0], [5, 8, 8, 8, 8, 3])
+        (0, [12, 4, -8, 0], [5, 8, 8, 8, 8, 3, 0])
     );
     assert_eq!(own::hot_list(4, &values, &weights, &mut zones), 0);
     assert_eq!(zones, [0, 1, 2, 3]);
@@ -59,7 +59,97 @@ fn left_out() {
         let given = own::account(4, &values, &weights, &mut locals, &mut sums);
         assert_eq!(given, number);
     }
-    assert_eq!((locals, sums), ([12, 4, -8, 0], [5, 8, 8, 8, 8, 3]));
+    assert_eq!((locals, sums), ([12, 4, -8, 0], [5, 8, 8, 8, 8, 3, 0]));
+}
+
+/// The line of three, and two zones more: one that sends nothing, touching the line, and one that touches it alone.
+#[test]
+fn not_returned() {
+    let line = [(0, 1, 1), (1, 0, 1), (1, 2, 1), (2, 1, 1)];
+    let others = [(2, 3, 5), (3, 2, 5), (3, 4, 9)];
+    let weights = job(5, &[&line[..], &others].concat());
+    let values = [1, 2, 6, own::NOT_RETURNED, 100_000];
+    let (mut locals, mut sums, mut zones) = ([7; 5], [7; own::SUMS], [7; 5]);
+    let number = own::account(5, &values, &weights, &mut locals, &mut sums);
+    assert_eq!(
+        (number, locals, sums),
+        (0, [18, -9, -27, 0, 0], [9, 42, 4, -18, 34, 3, 1])
+    );
+    assert_eq!(own::hot_list(5, &values, &weights, &mut zones), 0);
+    assert_eq!(zones, [0, 1, 2, 3, 4]);
+    let mut counts = [7; 3];
+    assert_eq!(
+        own::rank(5, &values, &weights, &[2, 4, 1, 3, 0], &mut counts),
+        0
+    );
+    assert_eq!(counts, [0, 1, 0]);
+    // Only the ends of the line, nobody, equal values, a value next to the mark; the join table takes what others refuse with 6.
+    let none = own::NOT_RETURNED;
+    for (values, number) in [
+        ([1, none, 6, none, 9], 6),
+        ([none; 5], 6),
+        ([4, 4, 4, none, 9], 7),
+        ([1, 2, 6, none + 1, 9], 3),
+    ] {
+        let given = own::account(5, &values, &weights, &mut locals, &mut sums);
+        assert_eq!(given, number);
+    }
+    let mut table = [7; 64];
+    let number = own::join_table(5, &[none; 5], &[0; 5], &weights, &mut table);
+    assert_eq!((number, table), (0, [0; 64]));
+    let number = own::join_table(5, &values, &[0; 5], &weights, &mut table);
+    assert_eq!((number, table[0]), (0, 4));
+}
+
+/// 4 and 5 judge the weights of a zone that sends nothing as they are lent.
+#[test]
+fn weights_not_returned() {
+    let line = [(0, 1, 1), (1, 0, 1)];
+    for (join, number) in [((2, 1, 10), 4), ((0, 2, 255), 4), ((2, 2, 1), 5)] {
+        let weights = job(3, &[&line[..], &[join]].concat());
+        let (mut locals, mut sums) = ([7; 3], [7; own::SUMS]);
+        let values = [1, 2, own::NOT_RETURNED];
+        let given = own::account(3, &values, &weights, &mut locals, &mut sums);
+        assert_eq!((given, locals, sums), (number, [7; 3], [7; own::SUMS]));
+    }
+}
+
+/// An image keeps the mark and its zone's joins.
+#[test]
+fn image_of_values_not_returned() {
+    let mut image = whole_image();
+    image[14..18].copy_from_slice(&own::NOT_RETURNED.to_le_bytes());
+    // The join from 1 to 2 becomes one from 1 to 3, where nothing is returned.
+    assert_eq!(image[32..35], [1, 2, 1]);
+    image[33] = 3;
+    let (mut values, mut categories, mut weights) = ([0; 64], [0; 64], [0; 4096]);
+    let (mut places, mut bands, mut shuffles) = ([0; 128], [0; 8], [0; 31_936]);
+    let mut counts = [0; 6];
+    let number = own::read(
+        &image,
+        &mut values,
+        &mut categories,
+        &mut weights,
+        &mut places,
+        &mut bands,
+        &mut shuffles,
+        &mut counts,
+    );
+    assert_eq!((number, values[3], weights[7]), (0, own::NOT_RETURNED, 1));
+    let (mut again, mut length) = (vec![0; image.len()], [0]);
+    let [n, categories_used, _, placed, banded, rows] = counts;
+    let number = own::write(
+        &values,
+        &categories,
+        &weights,
+        &places,
+        &bands,
+        &shuffles,
+        &[n, categories_used, placed, banded, rows],
+        &mut again,
+        &mut length,
+    );
+    assert_eq!((number, again), (0, image));
 }
 
 #[test]
@@ -113,7 +203,7 @@ fn shuffles_of_park_and_miller() {
         shuffles.extend(row);
     }
     assert_eq!(state, 137_128_920);
-    let (mut locals, mut sums, mut counts) = ([0; 64], [0; 6], [0; 3]);
+    let (mut locals, mut sums, mut counts) = ([0; 64], [0; own::SUMS], [0; 3]);
     assert_eq!(
         own::account(n, &values, &weights, &mut locals, &mut sums),
         0
@@ -126,7 +216,8 @@ fn shuffles_of_park_and_miller() {
             18_144,
             -1_668_068_720_640,
             53_453_138_256,
-            64
+            64,
+            0
         ]
     );
     assert_eq!(own::rank(n, &values, &weights, &shuffles, &mut counts), 0);

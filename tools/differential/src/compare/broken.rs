@@ -5,10 +5,10 @@
 
 use super::left_out::parted;
 use differential as own;
-use differential::{SUMS, ZONES};
+use differential::{NOT_RETURNED, SUMS, ZONES};
 
 /// The names that `--broken` takes, and what is wrong.
-pub const NAMES: [(&str, &str); 26] = [
+pub const NAMES: [(&str, &str); 40] = [
     (
         "last-local",
         "account: the last local numerator is not stored",
@@ -22,10 +22,27 @@ pub const NAMES: [(&str, &str); 26] = [
         "account: a zone with weight in its column alone is left out",
     ),
     ("seven-of-all", "account: 7 looks at all zones"),
+    (
+        "mark-refused",
+        "account: a value not returned is refused with 3",
+    ),
+    (
+        "row-alone",
+        "account: only the row of a zone not returned counts as 0",
+    ),
+    ("mark-in-sum", "account: S takes the values not returned"),
+    (
+        "four-as-left",
+        "account: 4 looks at the weights left without the values not returned",
+    ),
     ("class-eight", "class account: class 8 is folded into 0"),
     (
         "sum-of-all",
         "class account: S takes the values of all zones",
+    ),
+    (
+        "column-alone-missed",
+        "class account: only the column of a zone not returned counts as 0",
     ),
     (
         "weightless",
@@ -35,18 +52,35 @@ pub const NAMES: [(&str, &str); 26] = [
         "geary-of-all",
         "float report: Geary's n is the number of all zones",
     ),
+    (
+        "lonely-kept",
+        "float report: a neighbour left alone is kept",
+    ),
     ("tie-away", "nearest: ties go away from even"),
     ("hot-ties", "hot list: equal zones by falling number"),
     (
         "left-out-as-zero",
         "hot list: a zone left out comes before a kept one with L below 0",
     ),
+    (
+        "five-as-left",
+        "hot list: 5 looks at the weights left without the values not returned",
+    ),
     ("rank-inverse", "rank: the value goes to the zone named"),
     (
         "by-place",
         "rank: a kept zone takes the value of the zone named at its place",
     ),
+    (
+        "lonely-shuffled",
+        "rank: zones not returned, and those left alone, take part in shuffles",
+    ),
     ("transposed", "join table: rows and columns exchanged"),
+    ("joins-as-lent", "join table: the weights count as lent"),
+    (
+        "table-six",
+        "join table: 6 where nothing is left of the weights",
+    ),
     (
         "on-circle",
         "gabriel: a place on the circle counts as outside",
@@ -63,11 +97,17 @@ pub const NAMES: [(&str, &str); 26] = [
     ),
     ("unused-cleared", "read: unused bands are cleared"),
     ("read-seven-of-all", "read: 7 looks at all zones"),
+    ("read-six-as-listed", "read: 6 looks at the joins as listed"),
     (
         "four-first",
         "write: 4 before 5 at a weight of the diagonal",
     ),
     ("write-seven-of-all", "write: 7 looks at all zones"),
+    ("write-six-as-lent", "write: 6 looks at the weights as lent"),
+    (
+        "joins-dropped",
+        "write: the joins of a zone not returned are dropped",
+    ),
     ("lower-case", "report: hexadecimal digits in lower case"),
     (
         "refused-as-text",
@@ -77,32 +117,59 @@ pub const NAMES: [(&str, &str); 26] = [
         "expected-of-all",
         "report: the expected value counts all zones",
     ),
+    (
+        "missing-said",
+        "report: the first line says how many values are not returned",
+    ),
 ];
 
 /// The values and the weights of a job.
-#[derive(Clone, Copy)]
-pub struct Job<'a> {
-    pub n: usize,
-    pub x: &'a [i32],
-    pub w: &'a [u8],
+pub struct Job {
+    n: usize,
+    x: Vec<i32>,
+    w: Vec<u8>,
 }
 
-impl Job<'_> {
+impl Job {
+    /// What is left of a job without the values not returned: 0 stands for them, and for weights of their zones.
+    pub fn left(x: &[i32], w: &[u8]) -> Self {
+        Self::counting(x, w, |from, to| from && to)
+    }
+
+    /// 0 stands for the values not returned, and a weight counts by whether the values of its zones, that of its row first, are returned.
+    pub fn counting(x: &[i32], w: &[u8], counts: fn(bool, bool) -> bool) -> Self {
+        let n = x.len();
+        let returned = |zone: usize| x[zone] != NOT_RETURNED;
+        let counted = |place: usize| counts(returned(place / n), returned(place % n));
+        let weight = |(place, &w)| if counted(place) { w } else { 0 };
+        let value = |&x: &i32| if x == NOT_RETURNED { 0 } else { x };
+        Job {
+            n,
+            x: x.iter().map(value).collect(),
+            w: w.iter().enumerate().map(weight).collect(),
+        }
+    }
+
     /// The local numerators and the sums, 0 where the job is refused.
-    fn worked(self) -> (Vec<i64>, [i64; SUMS]) {
+    fn worked(&self) -> (Vec<i64>, [i64; SUMS]) {
+        self.worked_with(&self.x)
+    }
+
+    /// The same with these values.
+    fn worked_with(&self, x: &[i32]) -> (Vec<i64>, [i64; SUMS]) {
         let (mut locals, mut sums) = (vec![0; self.n], [0; SUMS]);
-        own::account(self.n, self.x, self.w, &mut locals, &mut sums);
+        own::account(self.n, x, &self.w, &mut locals, &mut sums);
         (locals, sums)
     }
 
     /// d as it comes with that number of zones and that S.
-    fn deviations(self, count: usize, s: i64) -> Vec<i64> {
+    fn deviations(&self, count: usize, s: i64) -> Vec<i64> {
         let d = |&x: &i32| count as i64 * i64::from(x) - s;
         self.x.iter().map(d).collect()
     }
 
     /// d(i) times the sum of w(i,j) x d(j), over the pairs that are taken by their place in the weights; P is the sum.
-    fn put_locals(self, d: &[i64], locals: &mut [i64], taken: impl Fn(usize) -> bool) -> i64 {
+    fn put_locals(&self, d: &[i64], locals: &mut [i64], taken: impl Fn(usize) -> bool) -> i64 {
         for (i, place) in locals.iter_mut().enumerate() {
             let row = (i * self.n..).zip(d).filter(|&(pair, _)| taken(pair));
             let near: i64 = row.map(|(pair, d)| i64::from(self.w[pair]) * d).sum();
@@ -123,12 +190,12 @@ pub fn last_local(before: i64, locals: &mut [i64]) {
     locals[locals.len() - 1] = before;
 }
 
-pub fn d_of_all(job: Job, locals: &mut [i64], sums: &mut [i64]) {
+pub fn d_of_all(job: &Job, locals: &mut [i64], sums: &mut [i64]) {
     let d = job.deviations(job.n, sums[0]);
     sums[3] = job.put_locals(&d, locals, |_| true);
 }
 
-pub fn column_alone(job: Job, locals: &mut [i64], sums: &mut [i64]) {
+pub fn column_alone(job: &Job, locals: &mut [i64], sums: &mut [i64]) {
     let gives = |i: &usize| job.w[i * job.n..][..job.n].iter().any(|&w| w > 0);
     let giving: Vec<i32> = (0..job.n).filter(gives).map(|i| job.x[i]).collect();
     let (count, s) = (giving.len(), total(&giving));
@@ -139,15 +206,37 @@ pub fn column_alone(job: Job, locals: &mut [i64], sums: &mut [i64]) {
     sums[5] = count as i64;
 }
 
-pub fn class_eight(job: Job, classes: &[u8], rows: &mut [i64], locals: &mut [i64]) {
-    let fold = |&k: &u8| if k == 8 { 0 } else { k };
-    let folded: Vec<u8> = classes.iter().map(fold).collect();
-    own::class_account(job.n, job.x, job.w, &folded, rows, locals);
+pub fn row_alone(x: &[i32], w: &[u8], locals: &mut [i64], sums: &mut [i64]) {
+    let missing = sums[6];
+    let job = Job::counting(x, w, |from, _| from);
+    own::account(job.n, &job.x, &job.w, locals, sums);
+    sums[6] = missing;
 }
 
-pub fn sum_of_all(job: Job, classes: &[u8], rows: &mut [i64], locals: &mut [i64]) {
-    let (kept, _) = parted(job.n, job.w);
-    let d = job.deviations(kept.len(), total(job.x));
+pub fn mark_in_sum(sums: &mut [i64]) {
+    sums[0] += sums[6] * i64::from(NOT_RETURNED);
+}
+
+pub fn class_eight(job: &Job, classes: &[u8], rows: &mut [i64], locals: &mut [i64]) {
+    let fold = |&k: &u8| if k == 8 { 0 } else { k };
+    let folded: Vec<u8> = classes.iter().map(fold).collect();
+    own::class_account(job.n, &job.x, &job.w, &folded, rows, locals);
+}
+
+pub fn column_alone_missed(
+    x: &[i32],
+    w: &[u8],
+    classes: &[u8],
+    rows: &mut [i64],
+    locals: &mut [i64],
+) {
+    let job = Job::counting(x, w, |_, to| to);
+    own::class_account(job.n, &job.x, &job.w, classes, rows, locals);
+}
+
+pub fn sum_of_all(job: &Job, classes: &[u8], rows: &mut [i64], locals: &mut [i64]) {
+    let (kept, _) = parted(&job.x, &job.w);
+    let d = job.deviations(kept.len(), total(&job.x));
     let classed = rows.chunks_exact_mut(3).zip(locals.chunks_exact_mut(job.n));
     for (k, (row, locals)) in classed.enumerate() {
         row[1] = job.put_locals(&d, locals, |pair| usize::from(classes[pair]) == k);
@@ -162,10 +251,25 @@ pub fn weightless(pairs: &mut [f64], has_pair: &[u8]) {
     }
 }
 
-pub fn geary_of_all(job: Job, globals: &mut [f64]) {
-    let (_, [_, m, weight, _, g, _]) = job.worked();
+pub fn geary_of_all(job: &Job, globals: &mut [f64]) {
+    let (_, [_, m, weight, _, g, ..]) = job.worked();
     let numerator = (job.n as i64 - 1) * job.n as i64 * g;
     own::nearest(numerator, 2 * weight * m, &mut globals[1..]);
+}
+
+/// Moran's I over all zones that are returned and have weight as it is lent.
+pub fn lonely_kept(x: &[i32], w: &[u8], globals: &mut [f64]) {
+    let job = Job::left(x, w);
+    let (weighty, _) = parted(&vec![0; job.n], w);
+    let kept = weighty.iter().filter(|&&zone| x[zone] != NOT_RETURNED);
+    let kept: Vec<i32> = kept.map(|&zone| x[zone]).collect();
+    let (count, s) = (kept.len(), total(&kept));
+    let squares: i64 = kept.iter().map(|&x| i64::from(x).pow(2)).sum();
+    let m = count as i64 * squares - s * s;
+    let d = job.deviations(count, s);
+    let p = job.put_locals(&d, &mut vec![0; job.n], |_| true);
+    let (_, [_, _, weight, ..]) = job.worked();
+    own::nearest(p, weight * m, globals);
 }
 
 pub fn tie_away(p: i64, q: i64, out: &mut [f64]) {
@@ -189,7 +293,7 @@ pub fn tie_away(p: i64, q: i64, out: &mut [f64]) {
     }
 }
 
-pub fn hot_ties(job: Job, zones: &mut [u8]) {
+pub fn hot_ties(job: &Job, zones: &mut [u8]) {
     let (locals, _) = job.worked();
     zones.sort_by_key(|&zone| {
         let zone = usize::from(zone);
@@ -197,12 +301,12 @@ pub fn hot_ties(job: Job, zones: &mut [u8]) {
     });
 }
 
-pub fn left_out_as_zero(job: Job, zones: &mut [u8]) {
+pub fn left_out_as_zero(job: &Job, zones: &mut [u8]) {
     let (locals, _) = job.worked();
     zones.sort_by_key(|&zone| (-locals[usize::from(zone)], zone));
 }
 
-pub fn rank_inverse(job: Job, shuffles: &[u8], counts: &mut [u64]) {
+pub fn rank_inverse(job: &Job, shuffles: &[u8], counts: &mut [u64]) {
     let mut inverse = shuffles.to_vec();
     let rows = shuffles.chunks_exact(job.n);
     for (to, row) in inverse.chunks_exact_mut(job.n).zip(rows) {
@@ -210,17 +314,42 @@ pub fn rank_inverse(job: Job, shuffles: &[u8], counts: &mut [u64]) {
             to[usize::from(zone)] = i;
         }
     }
-    own::rank(job.n, job.x, job.w, &inverse, counts);
+    own::rank(job.n, &job.x, &job.w, &inverse, counts);
 }
 
-/// As before request A.6. Kept zones that become equal have a P of 0, as `worked` gives it.
-pub fn by_place(job: Job, shuffles: &[u8], counts: &mut [u64]) {
-    let p = |x: &[i32]| Job { x, ..job }.worked().1[3];
+/// As before request A.6.
+pub fn by_place(job: &Job, shuffles: &[u8], counts: &mut [u64]) {
+    let all: Vec<usize> = (0..job.n).collect();
+    shuffle_among(job, &all, shuffles, counts);
+}
+
+/// As request A.6 alone has it.
+pub fn lonely_shuffled(x: &[i32], w: &[u8], shuffles: &[u8], counts: &mut [u64]) {
+    let job = Job::left(x, w);
+    let (weighty, _) = parted(&vec![0; job.n], w);
+    shuffle_among(&job, &weighty, shuffles, counts);
+}
+
+/// Ranks the job where a row's numbers of these zones, in their order, go to these zones. Kept zones that become equal have a P of 0, as
+/// `worked` gives it.
+fn shuffle_among(job: &Job, zones: &[usize], shuffles: &[u8], counts: &mut [u64]) {
+    let p = |x: &[i32]| job.worked_with(x).1[3];
     counts.fill(0);
     for row in shuffles.chunks_exact(job.n) {
-        let taken: Vec<i32> = row.iter().map(|&zone| job.x[usize::from(zone)]).collect();
-        counts[(p(&taken).cmp(&p(job.x)) as i8 + 1) as usize] += 1;
+        let numbers = row.iter().map(|&number| usize::from(number));
+        let numbers = numbers.filter(|number| zones.contains(number));
+        let mut taken = job.x.clone();
+        for (&zone, from) in zones.iter().zip(numbers) {
+            taken[zone] = job.x[from];
+        }
+        counts[(p(&taken).cmp(&p(&job.x)) as i8 + 1) as usize] += 1;
     }
+}
+
+/// As before request A.7.
+pub fn joins_as_lent(w: &[u8], categories: &[u8], table: &mut [i64]) {
+    let n = categories.len();
+    own::join_table(n, &vec![0; n], categories, w, table);
 }
 
 pub fn transposed(table: &mut [i64]) {
@@ -252,6 +381,26 @@ pub fn unused_cleared(bands: &mut [u32], counts: &[u64]) {
     bands[counts[4] as usize..].fill(0);
 }
 
+#[allow(clippy::too_many_arguments)]
+pub fn joins_dropped(
+    values: &[i32],
+    categories: &[u8],
+    weights: &[u8],
+    places: &[i32],
+    bands: &[u32],
+    shuffles: &[u8],
+    counts: &[u64],
+    out: &mut [u8],
+    length: &mut [u64],
+) {
+    let n = counts[0] as usize;
+    let mut left = Job::left(&values[..n], &weights[..n * n]).w;
+    left.resize(weights.len(), 0);
+    own::write(
+        values, categories, &left, places, bands, shuffles, counts, out, length,
+    );
+}
+
 pub fn lower_case(text: &mut [u8], length: &[u64]) {
     text[..length[0] as usize].make_ascii_lowercase();
 }
@@ -271,6 +420,18 @@ pub fn expected_of_all(image: &[u8], text: &mut [u8], length: &mut [u64]) {
     store(&said, text, length);
 }
 
+pub fn missing_said(image: &[u8], text: &mut [u8], length: &mut [u64]) {
+    let (values, _) = image[2..].as_chunks();
+    let values = values[..usize::from(image[0])].iter();
+    let missing = values.filter(|&&x| i32::from_le_bytes(x) == NOT_RETURNED);
+    let missing = missing.count();
+    if missing > 0 {
+        let said = String::from_utf8_lossy(&text[..length[0] as usize]).into_owned();
+        let (zones, behind) = said.split_once('\n').expect("the line ends");
+        store(&format!("{zones} {missing}\n{behind}"), text, length);
+    }
+}
+
 // ---- what a call answers
 
 /// 0 instead of 7, unless all the values are equal.
@@ -278,6 +439,43 @@ pub fn seven_of_all<T: PartialEq>(number: u8, values: &[T]) -> u8 {
     let differ = values.windows(2).any(|two| two[0] != two[1]);
     if number == 7 && differ {
         0
+    } else {
+        number
+    }
+}
+
+/// 1 and 2 come before 3.
+pub fn mark_refused(number: u8, x: &[i32]) -> u8 {
+    if ![1, 2].contains(&number) && x.contains(&NOT_RETURNED) {
+        3
+    } else {
+        number
+    }
+}
+
+/// 0 instead of 4, if none of the weights left is too large.
+pub fn four_as_left(number: u8, x: &[i32], w: &[u8]) -> u8 {
+    if number == 4 && Job::left(x, w).w.iter().all(|&w| w <= 9) {
+        0
+    } else {
+        number
+    }
+}
+
+/// 0 instead of 5, if none of the weights left is on the diagonal.
+pub fn five_as_left(number: u8, x: &[i32], w: &[u8]) -> u8 {
+    let is_clear = |w: Vec<u8>| w.iter().step_by(x.len() + 1).all(|&w| w == 0);
+    if number == 5 && is_clear(Job::left(x, w).w) {
+        0
+    } else {
+        number
+    }
+}
+
+/// 6 instead of 0, if no weight is left.
+pub fn table_six(number: u8, x: &[i32], w: &[u8]) -> u8 {
+    if number == 0 && Job::left(x, w).w.iter().all(|&w| w == 0) {
+        6
     } else {
         number
     }
@@ -315,6 +513,19 @@ pub fn read_seven_of_all(number: u8, image: &[u8]) -> u8 {
     }
 }
 
+/// 0 instead of 6, if any join is listed.
+pub fn read_six_as_listed(number: u8, image: &[u8]) -> u8 {
+    let count = |place: usize| usize::from(u16::from_le_bytes([image[place], image[place + 1]]));
+    if number == 6 {
+        let categories = 2 + 4 * count(0);
+        let joins = categories + 2 + count(categories);
+        if count(joins) > 0 {
+            return 0;
+        }
+    }
+    number
+}
+
 pub fn four_first(number: u8, weights: &[u8], counts: &[u64]) -> u8 {
     if number == 5 {
         let n = counts[0] as usize;
@@ -330,6 +541,16 @@ pub fn write_seven_of_all(number: u8, values: &[i32], counts: &[u64]) -> u8 {
     match number {
         7 => seven_of_all(number, &values[..counts[0] as usize]),
         _ => number,
+    }
+}
+
+/// 0 instead of 6, if there is any weight.
+pub fn write_six_as_lent(number: u8, weights: &[u8], counts: &[u64]) -> u8 {
+    let n = counts.first().map_or(0, |&n| n as usize);
+    if number == 6 && weights[..n * n].iter().any(|&w| w > 0) {
+        0
+    } else {
+        number
     }
 }
 

@@ -20,7 +20,7 @@ pub struct Run<'a> {
     pub swapped: Swapped<'a>,
     /// The number that a stored case says.
     pub expected: Option<u8>,
-    /// What a drawn job shows of request A.6.
+    /// What a drawn job shows of requests A.6 and A.7.
     pub kinds: Kinds,
 }
 
@@ -68,9 +68,9 @@ impl Run<'_> {
     }
 }
 
-fn job<'a>(n: usize, values: &'a Lent<i32>, weights: &'a Lent<u8>) -> Job<'a> {
-    let (x, w) = (values.own(), weights.own());
-    Job { n, x, w }
+/// What is left of a job without the values not returned.
+fn left(values: &Lent<i32>, weights: &Lent<u8>) -> Job {
+    Job::left(values.own(), weights.own())
 }
 
 /// For each call a module with two functions: `compare`, and `stored`, which takes the arguments from a stored case. Arguments have the
@@ -147,11 +147,21 @@ calls! {
         independent(own::account)
         stores(
             "last-local": broken::last_local [locals.before()[n - 1], locals.own_mut()],
-            "d-of-all": broken::d_of_all [job(n, values, weights), locals.own_mut(), sums.own_mut()],
-            "column-alone": broken::column_alone [job(n, values, weights), locals.own_mut(), sums.own_mut()]
+            "d-of-all": broken::d_of_all [&left(values, weights), locals.own_mut(), sums.own_mut()],
+            "column-alone": broken::column_alone [&left(values, weights), locals.own_mut(), sums.own_mut()],
+            "row-alone": broken::row_alone [values.own(), weights.own(), locals.own_mut(), sums.own_mut()],
+            "mark-in-sum": broken::mark_in_sum [sums.own_mut()]
         )
-        answers("seven-of-all": broken::seven_of_all [values.own()])
-        faulty("beyond-end": faulty::beyond_end [sums], "count-of-all": faulty::count_of_all [n, sums]);
+        answers(
+            "seven-of-all": broken::seven_of_all [values.own()],
+            "mark-refused": broken::mark_refused [values.own()],
+            "four-as-left": broken::four_as_left [values.own(), weights.own()]
+        )
+        faulty(
+            "beyond-end": faulty::beyond_end [sums],
+            "count-of-all": faulty::count_of_all [n, sums],
+            "missing-as-left-out": faulty::missing_as_left_out [n, sums]
+        );
 
     class_account: dca_class_account
         numbers(n: usize)
@@ -160,10 +170,13 @@ calls! {
         independent(own::class_account)
         stores(
             "class-eight": broken::class_eight [
-                job(n, values, weights), classes.own(), rows.own_mut(), class_locals.own_mut()
+                &left(values, weights), classes.own(), rows.own_mut(), class_locals.own_mut()
             ],
             "sum-of-all": broken::sum_of_all [
-                job(n, values, weights), classes.own(), rows.own_mut(), class_locals.own_mut()
+                &left(values, weights), classes.own(), rows.own_mut(), class_locals.own_mut()
+            ],
+            "column-alone-missed": broken::column_alone_missed [
+                values.own(), weights.own(), classes.own(), rows.own_mut(), class_locals.own_mut()
             ]
         )
         answers()
@@ -176,14 +189,15 @@ calls! {
         independent(own::float_report)
         stores(
             "weightless": broken::weightless [pairs.own_mut(), has_pair.own()],
-            "geary-of-all": broken::geary_of_all [job(n, values, weights), globals.own_mut()]
+            "geary-of-all": broken::geary_of_all [&left(values, weights), globals.own_mut()],
+            "lonely-kept": broken::lonely_kept [values.own(), weights.own(), &mut globals.own_mut()[..1]]
         )
         answers()
         faulty(
             "weightless-zeros": faulty::weightless_zeros [pairs, has_pair],
             "payload-lost": faulty::payload_lost [pairs, has_pair],
             "figures-quieted": faulty::figures_quieted [locals],
-            "minus-zero": faulty::minus_zero [n, weights, locals]
+            "minus-zero": faulty::minus_zero [values, weights, locals]
         );
 
     nearest: dca_nearest
@@ -201,13 +215,13 @@ calls! {
         lends(zones: u8)
         independent(own::hot_list)
         stores(
-            "hot-ties": broken::hot_ties [job(n, values, weights), zones.own_mut()],
-            "left-out-as-zero": broken::left_out_as_zero [job(n, values, weights), zones.own_mut()]
+            "hot-ties": broken::hot_ties [&left(values, weights), zones.own_mut()],
+            "left-out-as-zero": broken::left_out_as_zero [&left(values, weights), zones.own_mut()]
         )
-        answers()
+        answers("five-as-left": broken::five_as_left [values.own(), weights.own()])
         faulty(
             "values-sorted": faulty::values_sorted [values],
-            "left-out-falling": faulty::left_out_falling [n, weights, zones]
+            "left-out-falling": faulty::left_out_falling [values, weights, zones]
         );
 
     rank: dca_rank
@@ -216,19 +230,23 @@ calls! {
         lends(counts: u64)
         independent(own::rank)
         stores(
-            "rank-inverse": broken::rank_inverse [job(n, values, weights), shuffles.own(), counts.own_mut()],
-            "by-place": broken::by_place [job(n, values, weights), shuffles.own(), counts.own_mut()]
+            "rank-inverse": broken::rank_inverse [&left(values, weights), shuffles.own(), counts.own_mut()],
+            "by-place": broken::by_place [&left(values, weights), shuffles.own(), counts.own_mut()],
+            "lonely-shuffled": broken::lonely_shuffled [values.own(), weights.own(), shuffles.own(), counts.own_mut()]
         )
         answers()
-        faulty();
+        faulty("weights-reduced": faulty::weights_reduced [values, weights]);
 
     join_table: dca_join_table
         numbers(n: usize)
-        reads(categories: u8, weights: u8)
+        reads(values: i32, categories: u8, weights: u8)
         lends(table: i64)
         independent(own::join_table)
-        stores("transposed": broken::transposed [table.own_mut()])
-        answers()
+        stores(
+            "transposed": broken::transposed [table.own_mut()],
+            "joins-as-lent": broken::joins_as_lent [weights.own(), categories.own(), table.own_mut()]
+        )
+        answers("table-six": broken::table_six [values.own(), weights.own()])
         faulty("diagonal-as-four": faulty::diagonal_as_four []);
 
     gabriel: dca_gabriel
@@ -282,18 +300,29 @@ calls! {
         lends(values: i32, categories: u8, weights: u8, places: i32, bands: u32, shuffles: u8, counts: u64)
         independent(own::read)
         stores("unused-cleared": broken::unused_cleared [bands.own_mut(), counts.own()])
-        answers("read-seven-of-all": broken::read_seven_of_all [image.own()])
-        faulty("unused-changed": faulty::unused_changed [shuffles, counts]);
+        answers(
+            "read-seven-of-all": broken::read_seven_of_all [image.own()],
+            "read-six-as-listed": broken::read_six_as_listed [image.own()]
+        )
+        faulty(
+            "unused-changed": faulty::unused_changed [shuffles, counts],
+            "mark-as-zero": faulty::mark_as_zero [values, counts],
+            "joins-reduced": faulty::joins_reduced [values, weights, counts]
+        );
 
     write: dca_write
         numbers()
         reads(values: i32, categories: u8, weights: u8, places: i32, bands: u32, shuffles: u8, counts: u64)
         lends(out: u8, length: u64)
         independent(own::write)
-        stores()
+        stores("joins-dropped": broken::joins_dropped [
+            values.own(), categories.own(), weights.own(), places.own(), bands.own(), shuffles.own(), counts.own(),
+            out.own_mut(), length.own_mut()
+        ])
         answers(
             "four-first": broken::four_first [weights.own(), counts.own()],
-            "write-seven-of-all": broken::write_seven_of_all [values.own(), counts.own()]
+            "write-seven-of-all": broken::write_seven_of_all [values.own(), counts.own()],
+            "write-six-as-lent": broken::write_six_as_lent [weights.own(), counts.own()]
         )
         faulty("length-anyway": faulty::length_anyway [length]);
 
@@ -304,7 +333,8 @@ calls! {
         independent(own::report)
         stores(
             "lower-case": broken::lower_case [text.own_mut(), length.own()],
-            "expected-of-all": broken::expected_of_all [image.own(), text.own_mut(), length.own_mut()]
+            "expected-of-all": broken::expected_of_all [image.own(), text.own_mut(), length.own_mut()],
+            "missing-said": broken::missing_said [image.own(), text.own_mut(), length.own_mut()]
         )
         answers("refused-as-text": broken::refused_as_text [text.own_mut(), length.own_mut()])
         faulty(

@@ -1,7 +1,7 @@
 //! Drawn numbers, lists and jobs, good ones and spoiled ones.
 
 use super::left_out::{self, parted, Kinds};
-use differential::{BANDS, CATEGORIES, CLASSES, JOINS, SHUFFLES, ZONES};
+use differential::{BANDS, CATEGORIES, CLASSES, JOINS, NOT_RETURNED, SHUFFLES, ZONES};
 
 /// SplitMix64.
 pub struct Draw(u64);
@@ -146,16 +146,17 @@ fn values(draw: &mut Draw, n: usize) -> Vec<i32> {
     list
 }
 
-const BAD_VALUES: [i32; 5] = [100_001, -100_001, i32::MIN, i32::MAX, i32::MIN + 1];
+const BAD_VALUES: [i32; 4] = [100_001, -100_001, i32::MAX, NOT_RETURNED + 1];
 
 pub fn spoil_values(draw: &mut Draw, list: &mut [i32]) {
     if draw.once_in(4) {
-        let same = draw.pick(&[0, 7, -100_000, 100_000, 100_001]);
+        let same = draw.pick(&[0, 7, -100_000, 100_000, 100_001, NOT_RETURNED]);
         list.fill(same);
     } else {
-        let entry = match draw.below(7) {
+        let entry = match draw.below(8) {
             0 => 100_000,
             1 => -100_000,
+            2 => NOT_RETURNED,
             _ => draw.pick(&BAD_VALUES),
         };
         put(draw, list, entry);
@@ -247,7 +248,7 @@ fn touch_one_way(draw: &mut Draw, n: usize, weights: &mut [u8]) {
 
 /// Kept zones get one value, or one that is left out a bad value.
 fn part_values(draw: &mut Draw, weights: &[u8], values: &mut [i32]) {
-    let (kept, left_out) = parted(values.len(), weights);
+    let (kept, left_out) = parted(values, weights);
     if draw.once_in(2) {
         let same = draw.between(-100_000, 100_000) as i32;
         kept.iter().for_each(|&zone| values[zone] = same);
@@ -256,19 +257,69 @@ fn part_values(draw: &mut Draw, weights: &[u8], values: &mut [i32]) {
     }
 }
 
-/// The values and the weights of a job. In half of the jobs some zones touch nobody, or one touches others one way only.
+/// The zones whose values are not to be returned: one, some, all of them, all but two, all that touch one, some that touch nobody.
+fn zones_to_miss(draw: &mut Draw, n: usize, weights: &[u8]) -> Vec<usize> {
+    let touch = |i: usize, j: usize| weights[i * n + j] > 0 || weights[j * n + i] > 0;
+    let all = 0..n;
+    match draw.below(12) {
+        0..=2 => vec![draw.below(n)],
+        3..=5 => all.filter(|_| draw.once_in(4)).collect(),
+        6 => all.collect(),
+        7 => {
+            let (i, j) = two_zones(draw, n);
+            all.filter(|&zone| zone != i && zone != j).collect()
+        }
+        8 | 9 => {
+            let zone = draw.below(n);
+            all.filter(|&other| touch(zone, other)).collect()
+        }
+        _ => {
+            let lonely = |&i: &usize| !(0..n).any(|j| touch(i, j));
+            all.filter(lonely).filter(|_| draw.once_in(2)).collect()
+        }
+    }
+}
+
+/// A weight of a zone not returned becomes too large, or one is put on its diagonal.
+fn spoil_weight_missed(draw: &mut Draw, missed: &[usize], n: usize, weights: &mut [u8]) {
+    let zone = draw.pick(missed);
+    let other = (zone + 1 + draw.below(n - 1)) % n;
+    match draw.below(4) {
+        0 => weights[zone * n + other] = draw.pick(&[10, 255]),
+        1 => weights[other * n + zone] = draw.pick(&[10, 255]),
+        _ => weights[zone * n + zone] = weight(draw),
+    }
+}
+
+/// Marks some zones as not returned. Now and then one of them has a bad weight.
+fn miss_values(draw: &mut Draw, n: usize, values: &mut [i32], weights: &mut [u8]) {
+    let missed = zones_to_miss(draw, n, weights);
+    missed.iter().for_each(|&zone| values[zone] = NOT_RETURNED);
+    if !missed.is_empty() && draw.once_in(8) {
+        spoil_weight_missed(draw, &missed, n, weights);
+    }
+}
+
+/// The values and the weights of a job. In half of the jobs some zones touch nobody, or one touches others one way only; in a third some
+/// values are not returned.
 pub fn job(draw: &mut Draw, n: usize) -> (Vec<i32>, Vec<u8>) {
     let mut values = values(draw, n);
     let mut weights = weights(draw, n);
-    if n >= 2 && draw.once_in(2) {
+    if n < 2 {
+        return (values, weights);
+    }
+    if draw.once_in(2) {
         if draw.once_in(4) {
             touch_one_way(draw, n, &mut weights);
         } else {
             leave_out(draw, n, &mut weights);
         }
-        if draw.once_in(10) {
-            part_values(draw, &weights, &mut values);
-        }
+    }
+    if draw.once_in(3) {
+        miss_values(draw, n, &mut values, &mut weights);
+    }
+    if draw.once_in(20) {
+        part_values(draw, &weights, &mut values);
     }
     (values, weights)
 }
@@ -470,7 +521,7 @@ impl Sections {
         let list_if = |has, list: Vec<i32>| if has { list } else { Vec::new() };
         let mut sections = Sections {
             n,
-            kinds: left_out::kinds(n, &values, &weights),
+            kinds: left_out::kinds(&values, &weights),
             values,
             categories: Vec::new(),
             joins: joins(n, &weights),

@@ -7,7 +7,7 @@ use super::lent::Lent;
 use differential::image::SHUFFLE_BYTES;
 use differential::{BANDS, CLASSES, SHUFFLES, SUMS, TEXT, ZONES};
 
-/// A job as the account, the class account, the report, the hot list and the rank take it.
+/// A job as the account, the class account, the report, the hot list, the rank and the join table take it.
 struct Job {
     n: usize,
     values: Vec<i32>,
@@ -31,7 +31,7 @@ impl Job {
         let (values, weights) = draw::job(draw, n);
         Job {
             n,
-            kinds: left_out::kinds(n, &values, &weights),
+            kinds: left_out::kinds(&values, &weights),
             values,
             weights,
         }
@@ -242,23 +242,22 @@ pub fn rank(run: &mut Run, draw: &mut Draw) -> Outcome {
 pub fn join_table(run: &mut Run, draw: &mut Draw) -> Outcome {
     let mut job = Job::draw(draw);
     let mut categories = draw::categories(draw, job.n);
-    let mut length = 64;
+    let mut lengths = [64];
     for _ in 0..draw.faults() {
-        match draw.below(10) {
-            0 => draw::spoil_zones(draw, &mut job.n),
-            1 => draw::spoil_length(draw, &mut length),
-            2 => draw::spoil_list(draw, &mut job.weights),
-            3 => draw::spoil_list(draw, &mut categories),
-            4..=6 => draw::spoil_kinds(draw, &mut categories, 7),
-            _ => draw::spoil_weights(draw, job.n, &mut job.weights),
+        match draw.below(6) {
+            0 if draw.once_in(2) => draw::spoil_list(draw, &mut categories),
+            0 | 1 => draw::spoil_kinds(draw, &mut categories, 7),
+            _ => job.spoil(draw, &mut lengths),
         }
     }
+    run.kinds = job.kinds;
     calls::join_table::compare(
         run,
         job.n,
+        &mut Lent::list(draw, &job.values),
         &mut Lent::list(draw, &categories),
         &mut Lent::list(draw, &job.weights),
-        &mut Lent::noise(draw, length),
+        &mut Lent::noise(draw, lengths[0]),
     )
 }
 

@@ -5,11 +5,16 @@
 
 use super::left_out::parted;
 use super::lent::{Entry, Lent};
+use differential::NOT_RETURNED;
 
 /// The names that `--faulty` takes, and what is wrong.
-pub const NAMES: [(&str, &str); 19] = [
+pub const NAMES: [(&str, &str); 23] = [
     ("beyond-end", "account: an entry is stored beyond the sums"),
-    ("count-of-all", "account: the last sum counts all zones"),
+    ("count-of-all", "account: the zones kept are all zones"),
+    (
+        "missing-as-left-out",
+        "account: the last sum counts all zones left out",
+    ),
     (
         "stored-then-refused",
         "class account: a local numerator is stored, then a class refused",
@@ -44,6 +49,10 @@ pub const NAMES: [(&str, &str); 19] = [
         "hot list: the zones left out come by falling number",
     ),
     (
+        "weights-reduced",
+        "rank: the lent weights of a zone not returned become 0",
+    ),
+    (
         "diagonal-as-four",
         "join table: a weight on the diagonal is refused with 4",
     ),
@@ -55,6 +64,14 @@ pub const NAMES: [(&str, &str); 19] = [
     (
         "unused-changed",
         "read: the byte behind the used shuffles is changed",
+    ),
+    (
+        "mark-as-zero",
+        "read: the mark of a value not returned is stored as 0",
+    ),
+    (
+        "joins-reduced",
+        "read: a join at a zone not returned is stored as weight 0",
     ),
     (
         "length-anyway",
@@ -88,6 +105,13 @@ pub fn beyond_end(number: u8, sums: &mut Lent<i64>) -> u8 {
 pub fn count_of_all(number: u8, n: usize, sums: &mut Lent<i64>) -> u8 {
     if number == 0 {
         *sums.proved_entry(5) = n as i64;
+    }
+    number
+}
+
+pub fn missing_as_left_out(number: u8, n: usize, sums: &mut Lent<i64>) -> u8 {
+    if number == 0 {
+        *sums.proved_entry(6) = n as i64 - *sums.proved_entry(5);
     }
     number
 }
@@ -142,9 +166,14 @@ pub fn figures_quieted(number: u8, locals: &mut Lent<f64>) -> u8 {
     number
 }
 
-pub fn minus_zero(number: u8, n: usize, weights: &mut Lent<u8>, locals: &mut Lent<f64>) -> u8 {
+pub fn minus_zero(
+    number: u8,
+    values: &mut Lent<i32>,
+    weights: &mut Lent<u8>,
+    locals: &mut Lent<f64>,
+) -> u8 {
     if number == 0 {
-        let (_, left_out) = parted(n, weights.own());
+        let (_, left_out) = parted(values.own(), weights.own());
         for zone in left_out {
             *locals.proved_entry(zone as isize) = -0.0;
         }
@@ -173,10 +202,33 @@ pub fn values_sorted(number: u8, values: &mut Lent<i32>) -> u8 {
     number
 }
 
-pub fn left_out_falling(number: u8, n: usize, weights: &mut Lent<u8>, zones: &mut Lent<u8>) -> u8 {
+pub fn left_out_falling(
+    number: u8,
+    values: &mut Lent<i32>,
+    weights: &mut Lent<u8>,
+    zones: &mut Lent<u8>,
+) -> u8 {
     if number == 0 {
-        let (kept, _) = parted(n, weights.own());
+        let (kept, _) = parted(values.own(), weights.own());
         zones.proved_list()[kept.len()..].reverse();
+    }
+    number
+}
+
+/// Clears the rows and the columns of the zones not returned.
+fn reduce(values: &[i32], weights: &mut [u8]) {
+    let n = values.len();
+    let missing = |zone: usize| values[zone] == NOT_RETURNED;
+    for (place, w) in weights.iter_mut().enumerate() {
+        if missing(place / n) || missing(place % n) {
+            *w = 0;
+        }
+    }
+}
+
+pub fn weights_reduced(number: u8, values: &mut Lent<i32>, weights: &mut Lent<u8>) -> u8 {
+    if number == 0 {
+        reduce(values.own(), weights.proved_list());
     }
     number
 }
@@ -210,6 +262,30 @@ pub fn unused_changed(number: u8, shuffles: &mut Lent<u8>, counts: &mut Lent<u64
         if used < shuffles.len() as u64 {
             spoil(shuffles, used as isize);
         }
+    }
+    number
+}
+
+pub fn mark_as_zero(number: u8, values: &mut Lent<i32>, counts: &mut Lent<u64>) -> u8 {
+    if number == 0 {
+        let n = *counts.proved_entry(0) as usize;
+        let marked = values.proved_list()[..n].iter_mut();
+        let marked = marked.filter(|x| **x == NOT_RETURNED);
+        marked.for_each(|x| *x = 0);
+    }
+    number
+}
+
+pub fn joins_reduced(
+    number: u8,
+    values: &mut Lent<i32>,
+    weights: &mut Lent<u8>,
+    counts: &mut Lent<u64>,
+) -> u8 {
+    if number == 0 {
+        let n = *counts.proved_entry(0) as usize;
+        let used = &mut weights.proved_list()[..n * n];
+        reduce(&values.proved_list()[..n], used);
     }
     number
 }

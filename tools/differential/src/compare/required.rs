@@ -1,14 +1,14 @@
-//! Document 01's run-only cases, and cases of request A.6. Each must be among the stored ones.
+//! Document 01's run-only cases, and cases of requests A.6 and A.7. Each must be among the stored ones.
 
 use super::stored::Case;
 
 /// Name, call, number, and a line of the case.
-const REQUIRED: [(&str, &str, u8, &str); 23] = [
+const REQUIRED: [(&str, &str, u8, &str); 36] = [
     (
         "example-2",
         "dca_account",
         0,
-        "sums 6*7 -> 1654 4572 14 -9416 1864 8",
+        "sums 7*7 -> 1654 4572 14 -9416 1864 8 0",
     ),
     ("n-1", "dca_account", 1, "n 1"),
     ("n-65", "dca_account", 1, "n 65"),
@@ -30,7 +30,7 @@ const REQUIRED: [(&str, &str, u8, &str); 23] = [
         "left-out-none",
         "dca_account",
         0,
-        "sums 6*7 -> 12 56 10 -64 76 4",
+        "sums 7*7 -> 12 56 10 -64 76 4 0",
     ),
     (
         "left-out-one",
@@ -54,19 +54,19 @@ const REQUIRED: [(&str, &str, u8, &str); 23] = [
         "left-out-all-but-two",
         "dca_account",
         0,
-        "sums 6*7 -> 1 1 2 -2 2 2",
+        "sums 7*7 -> 1 1 2 -2 2 2 0",
     ),
     (
         "column-only-kept",
         "dca_account",
         0,
-        "sums 6*7 -> 9 42 4 -72 52 3",
+        "sums 7*7 -> 9 42 4 -72 52 3 0",
     ),
     (
         "row-only-kept",
         "dca_account",
         0,
-        "sums 6*7 -> 9 42 4 -72 52 3",
+        "sums 7*7 -> 9 42 4 -72 52 3 0",
     ),
     ("equal-kept", "dca_account", 7, "values 5 5 5 9"),
     (
@@ -82,6 +82,69 @@ const REQUIRED: [(&str, &str, u8, &str); 23] = [
         0,
         "zones 5*7 -> 1 2 4 0 3",
     ),
+    (
+        "not-returned-one",
+        "dca_account",
+        0,
+        "sums 7*7 -> 9 42 4 -18 34 3 1",
+    ),
+    (
+        "not-returned-and-alone",
+        "dca_account",
+        0,
+        "sums 7*7 -> 9 42 4 -18 34 3 1",
+    ),
+    (
+        "not-returned-around",
+        "dca_account",
+        0,
+        "sums 7*7 -> 9 42 4 -18 34 3 4",
+    ),
+    (
+        "not-returned-all",
+        "dca_account",
+        6,
+        "weights 0 1 0 1 0 1 0 1 0",
+    ),
+    ("nothing-left", "dca_account", 6, "values 1 -2147483648 6 7"),
+    (
+        "not-returned-equal",
+        "dca_account",
+        7,
+        "values 5 5 -2147483648 9 9",
+    ),
+    (
+        "not-returned-value--2147483647",
+        "dca_account",
+        3,
+        "values 1 -2147483648 -2147483647",
+    ),
+    (
+        "not-returned-weight-10",
+        "dca_account",
+        4,
+        "values 1 2 6 -2147483648",
+    ),
+    (
+        "not-returned-diagonal",
+        "dca_account",
+        5,
+        "values 1 2 6 -2147483648",
+    ),
+    (
+        "not-returned-all",
+        "dca_join_table",
+        0,
+        "table 64*7 -> 64*0",
+    ),
+    (
+        "value-100001",
+        "dca_join_table",
+        3,
+        "values 0 100001 -2147483648",
+    ),
+    ("not-returned-last", "dca_write", 0, "length 7 -> 62"),
+    ("nothing-left", "dca_read", 6, "counts 6*7"),
 ];
 
 /// Says which one is not among the cases.

@@ -11,7 +11,7 @@ const CAN_GIVE: [(&str, &[u8]); 15] = [
     ("dca_nearest", &[2, 18]),
     ("dca_hot_list", &[1, 2, 3, 4, 5, 6, 7]),
     ("dca_rank", &[1, 2, 3, 4, 5, 6, 7, 13]),
-    ("dca_join_table", &[1, 2, 4, 5, 8]),
+    (JOIN_TABLE, &[1, 2, 3, 4, 5, 8]),
     ("dca_gabriel", &[1, 2, 10, 11]),
     ("dca_bands", &[1, 2, 10, 11, 12]),
     ("dca_grid_rook", &[1, 2]),
@@ -31,13 +31,17 @@ const CAN_GIVE: [(&str, &[u8]); 15] = [
     ),
 ];
 
-/// The calls that work a job, so that they leave zones out.
-const LEAVE_OUT: [&str; 8] = [
+/// The call that has no 6 and no 7: it takes the jobs that others refuse so.
+const JOIN_TABLE: &str = "dca_join_table";
+
+/// The calls that work a job, so that they leave zones out, or their weights.
+const LEAVE_OUT: [&str; 9] = [
     "dca_account",
     "dca_class_account",
     "dca_float_report",
     "dca_hot_list",
     "dca_rank",
+    JOIN_TABLE,
     "dca_read",
     "dca_write",
     "dca_report",
@@ -60,6 +64,11 @@ impl Tally {
         *numbers.entry(number).or_default() += 1;
         let counts = self.kinds.entry(call).or_default();
         for ((count, &is), (_, of)) in counts.iter_mut().zip(kinds).zip(KINDS) {
+            let of = if call == JOIN_TABLE && [6, 7].contains(&of) {
+                0
+            } else {
+                of
+            };
             *count += u64::from(is && number == of);
         }
     }
@@ -86,7 +95,7 @@ impl Tally {
         }
     }
 
-    /// The kinds of jobs under request A.6.
+    /// The kinds of jobs under requests A.6 and A.7.
     pub fn print_kinds(&self) {
         let names: Vec<&str> = KINDS.iter().map(|&(kind, _)| kind).collect();
         println!("| call | {} |", names.join(" | "));

@@ -10,7 +10,7 @@ fn names(values: &[i32], joins: &[(usize, usize)]) -> Vec<&'static str> {
     for &(from, to) in joins {
         weights[from * n + to] = 1;
     }
-    let is = kinds(n, values, &weights);
+    let is = kinds(values, &weights);
     let of = KINDS.iter().zip(is).filter(|&(_, is)| is);
     of.map(|(&(name, _), _)| name).collect()
 }
@@ -60,6 +60,48 @@ fn kinds_of_refusals() {
 }
 
 #[test]
+fn kinds_of_values_not_returned() {
+    const NONE: i32 = i32::MIN;
+    let ring = [(0, 1), (1, 0), (1, 2), (2, 1)];
+    let last = ["one left out", "the last left out", "some not returned"];
+    assert_eq!(
+        names(&[1, 2, 6, NONE], &ring),
+        [&last[..], &["not returned, touching nobody"]].concat()
+    );
+    let line = [(0, 1), (1, 2), (2, 3), (3, 4)];
+    assert_eq!(
+        names(&[1, 2, 6, NONE, 5], &line),
+        [
+            "the last left out",
+            "several left out",
+            "weight in a column alone",
+            "weight in a row alone",
+            "some not returned",
+            "a neighbour left alone"
+        ]
+    );
+    let is_of = |values: &[i32], kind: &str| names(values, &ring).contains(&kind);
+    assert!(is_of(&[NONE; 3], "none returned"));
+    assert!(!is_of(&[NONE; 3], "nothing left of the weights"));
+    assert!(is_of(&[1, NONE, 2], "nothing left of the weights"));
+    assert!(is_of(&[5, 5, NONE], "kept values equal, not all"));
+    assert!(!is_of(&[5, 6, NONE], "a bad value left out"));
+}
+
+#[test]
+fn kinds_of_weights_not_returned() {
+    let values = [1, 2, i32::MIN];
+    let [.., too_large, diagonal] = kinds(&values, &[0, 9, 10, 1, 0, 0, 0, 255, 0]);
+    assert!(too_large && !diagonal);
+    let [.., too_large, diagonal] = kinds(&values, &[0, 9, 10, 10, 0, 0, 0, 0, 0]);
+    assert!(!too_large && !diagonal);
+    let [.., too_large, diagonal] = kinds(&values, &[0, 9, 0, 1, 0, 0, 0, 0, 1]);
+    assert!(!too_large && diagonal);
+    let [.., too_large, diagonal] = kinds(&values, &[1, 9, 0, 1, 0, 0, 0, 0, 1]);
+    assert!(!too_large && !diagonal);
+}
+
+#[test]
 fn a_kind_that_lacks() {
     let lacks = |tally: &Tally, kind: &str| {
         let fault = format!("dca_account: {kind} came");
@@ -75,4 +117,21 @@ fn a_kind_that_lacks() {
     }
     assert!(!lacks(&tally, "one left out"));
     assert!(lacks(&tally, "all kept"));
+}
+
+/// What others refuse with 6 and 7, the join table takes.
+#[test]
+fn kinds_of_the_join_table() {
+    let faults = |number: u8| {
+        let mut tally = Tally::default();
+        for _ in 0..20 {
+            tally.add("dca_join_table", number, &[true; KINDS.len()]);
+        }
+        tally.faults()
+    };
+    for (kind, of) in KINDS {
+        let fault = format!("dca_join_table: {kind} came 0 times only");
+        let taken = [0, 6, 7].contains(&of);
+        assert_eq!(!faults(0).contains(&fault), taken, "{kind}");
+    }
 }

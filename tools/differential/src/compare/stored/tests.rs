@@ -9,7 +9,7 @@ n 3
 values 1 2 6
 weights 0 1 0 1 0 1 0 1 0
 locals 3*7 -> 18 -9 -27
-sums 6*7 -> 9 42 4 -18 34 3
+sums 7*7 -> 9 42 4 -18 34 3 0
 gives 0
 ";
 
@@ -41,6 +41,7 @@ const JOINS: &str = "\
 case four
 call dca_join_table
 n 2
+values 0 0
 categories 0 0
 weights 1 0 0 0
 table 64*7
@@ -119,7 +120,7 @@ fn bad_lines() {
         ("gives 0", "gives 256", "line 8: `gives`"),
         ("gives 0", "gives", "line 8: `gives`"),
         ("gives 0", "", "line 1: a case that does not end"),
-        ("sums 6*7 -> 9 42 4 -18 34 3\n", "", "line 7: `sums` must"),
+        ("sums 7*7 -> 9 42 4 -18 34 3 0\n", "", "line 7: `sums` must"),
     ] {
         must_say(&changed(ACCOUNT, from, to), NOTHING, part);
     }
@@ -146,7 +147,7 @@ fn bad_lists() {
         ("3*7", "0*7", "line 6: 0*7 cannot"),
         ("3*7", "100001*7", "line 6: 100001*7 cannot"),
         ("18 -9 -27", "18 -9", "line 6: not as many"),
-        ("6*7 ->", "6*7 -> 6*7 ->", "line 7: -> cannot"),
+        ("7*7 ->", "7*7 -> 7*7 ->", "line 7: -> cannot"),
     ] {
         must_say(&changed(ACCOUNT, from, to), NOTHING, part);
     }
@@ -172,7 +173,7 @@ fn wrong_entries() {
     must_say(&text, NOTHING, "locals: entry 2 of 3: proved, expected");
     let part = "locals: entry 2 of 3: independent, expected";
     must_say(ACCOUNT, broken("last-local"), part);
-    let part = "sums: entry 6 of 6: proved, expected";
+    let part = "sums: entry 7 of 7: proved, expected";
     must_say(ACCOUNT, faulty("beyond-end"), part);
 }
 
@@ -185,8 +186,8 @@ fn wrong_kept_entries() {
     must_say(REPORT, broken("weightless"), part);
     let part = "pairs: entry 0 of 18: proved, expected";
     must_say(REPORT, faulty("weightless-zeros"), part);
-    let text = changed(ACCOUNT, " -> 9 42 4 -18 34 3", "");
-    must_say(&text, NOTHING, "sums: entry 0 of 6: proved, expected");
+    let text = changed(ACCOUNT, " -> 9 42 4 -18 34 3 0", "");
+    must_say(&text, NOTHING, "sums: entry 0 of 7: proved, expected");
     let text = changed(QUEEN, "5*7", "5*7 -> 4*7 8");
     must_say(&text, NOTHING, "weights: entry 4 of 5: proved, expected");
     let part = "values: changed, though only read: entry 0 of 2: proved";
@@ -224,6 +225,7 @@ fn required_cases() {
     for (name, call) in [
         ("on-the-circle", "dca_gabriel"),
         ("left-out-hot-list", "dca_hot_list"),
+        ("nothing-left", "dca_account"),
     ] {
         let said = one_less(name).unwrap_err();
         assert!(said.contains(&format!("{name} of {call}")), "{said}");
