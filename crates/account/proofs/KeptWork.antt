@@ -23,7 +23,7 @@ use Rattle.account.specs.Steps.{Job, Lent, gathered, gathered_pairs, place_in, a
 use Rattle.account.proofs.Locals.{zones_locals_length}
 use Rattle.account.proofs.KeptLists.{values_gathered, pairs_gathered, placed_back, all_placed, shuffles_kept}
 use Rattle.account.proofs.KeptJob.{lent_job}
-use Rattle.account.proofs.AllKept.{nothing_reduced, none_missing, all_figures, all_locals}
+use Rattle.account.proofs.AllKept.{nothing_reduced, all_figures, all_locals}
 
 -- ---- the shuffles' kept numbers are shuffles of the kept zones
 are_shuffles :
@@ -148,12 +148,8 @@ module _
 -- ---- where all zones are kept what is worked of them is the job's
 module _ (n : ℕ) (values : List ℤ) (weights : List ℕ) (lent : Lent values weights n) (all : kept_count n (reduced n values weights) ≡ n) where
   pub whole_figures :
-      (missing : ℕ) → missing ≡ missing_count values → {figures : List ℤ} → figures ≡ zones_figures n values weights ++ (pos missing ∷ []) →
-      figures ≡ job_figures n values weights
-  whole_figures missing r t =
-      t
-      ∙ ap (λ k. zones_figures n values weights ++ (pos k ∷ [])) (r ∙ none_missing n values weights all lent.count lent.weighted.count)
-      ∙ sym (all_figures n values weights all lent.count lent.weighted.count)
+      {figures : List ℤ} → figures ≡ zones_figures n values weights ++ (pos 0 ∷ []) → figures ≡ job_figures n values weights
+  whole_figures t = t ∙ sym (all_figures n values weights all lent.count lent.weighted.count)
 
   pub whole_locals : {locals : List ℤ} → locals ≡ zones_locals n values weights → locals ≡ job_locals n values weights
   whole_locals t = t ∙ sym (all_locals n values weights all lent.count lent.weighted.count)

@@ -79,10 +79,10 @@ pub(super) fn job_sums(kept: &KeptLists, locals: &mut [i64]) -> Sums
         ≡ job_locals kept.now.job.n kept.now.job.values.now kept.now.job.weights.now }
 {
     let KeptLists { job, zones } = *kept;
-    let missing = kept::count_missing(job.values);
     if zones.len() == job.n {
-        return working::zone_sums(&kept.whole(), missing, locals);
+        return working::zone_sums(&kept.whole(), 0, locals);
     }
+    let missing = kept::count_missing(job.values);
     let mut room = Room::new();
     let gathered = gather(kept, &mut room);
     let mut local_space: [i64; 64] = [0; 64];
@@ -113,14 +113,14 @@ pub(super) fn work_classes<'a>(
         ≡ job_locals kept.now.job.n kept.now.job.values.now kept.now.job.weights.now }
 {
     let KeptLists { job, zones } = *kept;
-    let missing = kept::count_missing(job.values);
     if zones.len() == job.n {
         let lists = ClassLists {
             job: kept.whole(),
             classes,
         };
-        return classes::zone_classes(&lists, missing, rows, class_locals, locals);
+        return classes::zone_classes(&lists, 0, rows, class_locals, locals);
     }
+    let missing = kept::count_missing(job.values);
     let mut room = Room::new();
     let gathered = gather(kept, &mut room);
     let many = gathered.job.n;

@@ -30,7 +30,7 @@ pub fn join_table(
         categories,
         weights,
     };
-    if kept::count_missing(values) > 0 {
+    if kept::any_missing(values) {
         zones.count_returned(values, table);
         return Ok(());
     }

@@ -16,8 +16,8 @@ use judges::Places;
 use marking::Weights;
 use refusals::Refusal;
 
-// How many values are not returned.
-pub use returned::count_missing;
+// Of values not returned: whether there are any, and how many.
+pub use returned::{any_missing, count_missing};
 
 // Puts the zones kept, rising, at the front of `zones`, which has 64 places, and answers how many they are. Where n is outside 2 to 64
 // or a list has another length, `zones` is left as it was.
@@ -35,7 +35,7 @@ pub fn keep(n: usize, values: &[i32], weights: &[u8], zones: &mut [u8]) -> Resul
         ],
     )?;
     let lent = Weights { n, rows: weights };
-    if count_missing(values) > 0 {
+    if any_missing(values) {
         return Ok(keeping::put_kept_counting(values, &lent, zones));
     }
     Ok(keeping::put_kept(&lent, zones))
@@ -56,7 +56,7 @@ pub fn mark(n: usize, values: &[i32], weights: &[u8], marks: &mut [u8]) -> Resul
         ],
     )?;
     let lent = Weights { n, rows: weights };
-    if count_missing(values) > 0 {
+    if any_missing(values) {
         keeping::put_marks_counting(values, &lent, marks);
         return Ok(());
     }

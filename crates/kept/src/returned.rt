@@ -1,12 +1,22 @@
 // How many values are not returned, and the weights that count: 0 in the row and in the column of a zone that has none.
 ghost use Rattle.std.specs.Prelude.{◌≡◌, cond, ◌||◌, ◌*◌, length, get_or};
 ghost use Rattle.whole.specs.Integer.{equal};
+ghost use Rattle.whole.specs.Search.{some};
 ghost use Rattle.whole.specs.Table.{table};
 ghost use Rattle.judges.specs.Values.{not_returned, missing};
 ghost use Rattle.kept.specs.Returned.{missing_count, reduced};
 
 use crate::marking::Weights;
 use judges::is_missing;
+
+// Whether some value is not returned. Each is looked at, also behind the first, as vector instructions look at several at a time.
+pub fn any_missing(values: &[i32]) -> bool
+    ensures { result ≡ some (missing values.now) (length values.now) }
+{
+    values
+        .iter()
+        .fold(false, |found, value| found | is_missing(*value))
+}
 
 // How many values are not returned.
 pub fn count_missing(values: &[i32]) -> usize

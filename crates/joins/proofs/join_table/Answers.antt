@@ -7,11 +7,11 @@ use lib.ListN.{length, replicate}
 use Rattle.std.proofs.lemmas.Result.{err_from_is_err_and}
 use Rattle.refusals.proofs.Refusals.{left_by, worked_by}
 use Rattle.kept.specs.Returned.{reduced}
-use Rattle.kept.proofs.Reduced.{none_counted}
+use Rattle.kept.proofs.Reduced.{none_found}
 use Rattle.joins.specs.Joins.{join_table, joins_left}
 use Rattle.joins.proofs.Accepted.{Accepted, accepted}
 use Rattle.joins.proofs.join_table.Goals as goal
-use Rattle.joins.proofs.join_table.Goals.{In_ok-judge_joins, After-fill, Else-count_missing-gt0}
+use Rattle.joins.proofs.join_table.Goals.{In_ok-judge_joins, After-fill, Else-any_missing}
 
 pub returns-in_err-judge_joins : goal.returns-in_err-judge_joins
 unfolding joins_left
@@ -42,9 +42,9 @@ count_returned-requires c =
     let g = good t.In_ok-judge_joins in
     record { two = g.two; values_len = g.values_fit; zeros = zeros t.After-fill }
 
-pub returns-then-count_missing-gt0 : goal.returns-then-count_missing-gt0
+pub returns-then-any_missing : goal.returns-then-any_missing
 unfolding joins_left
-returns-then-count_missing-gt0 c =
+returns-then-any_missing c =
     let z = c.in_ok-judge_joins.ensures in
     record { number = z; lent = c.count_returned.ensures ∙ sym (worked_by _ _ _ z) }
 
@@ -52,14 +52,14 @@ pub count_joins-requires : goal.count_joins-requires
 count_joins-requires c = zeros ((goal.at.count_joins-requires c).After-fill)
 
 -- every value is returned
-same : (c : Else-count_missing-gt0) → reduced c.args.n c.args.values.now c.args.weights.now ≡ c.args.weights.now
+same : (c : Else-any_missing) → reduced c.args.n c.args.values.now c.args.weights.now ≡ c.args.weights.now
 same c =
-    let g = good ((goal.at.Else-count_missing-gt0 c).In_ok-judge_joins) in
-    none_counted _ _ _ c.count_missing.result c.count_missing.ensures (omega (arith, c.if-count_missing-gt0.false)) g.values_fit g.weights_fit
+    let g = good ((goal.at.Else-any_missing c).In_ok-judge_joins) in
+    none_found _ _ _ (sym c.any_missing.ensures ∙ c.if-any_missing.false) g.values_fit g.weights_fit
 
 pub returns : goal.returns
 unfolding joins_left
 returns c =
     let z = c.in_ok-judge_joins.ensures in
-    let e = ap (join_table c.args.n c.args.categories.now) (sym (same ((goal.at.returns c).Else-count_missing-gt0))) in
+    let e = ap (join_table c.args.n c.args.categories.now) (sym (same ((goal.at.returns c).Else-any_missing))) in
     record { number = z; lent = c.count_joins.ensures ∙ e ∙ sym (worked_by _ _ _ z) }

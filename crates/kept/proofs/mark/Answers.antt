@@ -7,9 +7,9 @@ use Rattle.refusals.proofs.Refusals.{left_by, worked_by}
 use Rattle.kept.specs.Kept.{keeps}
 use Rattle.kept.specs.Returned.{reduced}
 use Rattle.kept.specs.Answers.{lists_refusal, marks_left}
-use Rattle.kept.proofs.Reduced.{none_counted}
+use Rattle.kept.proofs.Reduced.{none_found}
 use Rattle.kept.proofs.mark.Goals as goal
-use Rattle.kept.proofs.mark.Goals.{Else-count_missing-gt0}
+use Rattle.kept.proofs.mark.Goals.{Else-any_missing}
 
 pub returns-in_err-judge_lent : goal.returns-in_err-judge_lent
 unfolding lists_refusal marks_left
@@ -18,25 +18,25 @@ returns-in_err-judge_lent c =
     let e = c.in_err-judge_lent.ensures in
     rw (p.1, p.2) (record { number = e; lent = sym (left_by _ _ _ _ e) })
 
-pub returns-then-count_missing-gt0 : goal.returns-then-count_missing-gt0
+pub returns-then-any_missing : goal.returns-then-any_missing
 unfolding lists_refusal marks_left
-returns-then-count_missing-gt0 c = let z = c.in_ok-judge_lent.ensures in record {
+returns-then-any_missing c = let z = c.in_ok-judge_lent.ensures in record {
   number = z;
   lent = c.put_marks_counting.ensures ∙ sym (worked_by _ _ _ z);
 }
 
 -- every value is returned
-same : (c : Else-count_missing-gt0) → reduced c.args.n c.args.values.now c.args.weights.now ≡ c.args.weights.now
+same : (c : Else-any_missing) → reduced c.args.n c.args.values.now c.args.weights.now ≡ c.args.weights.now
 same c =
     let v : length c.args.values.now ≡ c.args.n = search rules in
     let w : length c.args.weights.now ≡ c.args.n * c.args.n = search rules in
-    none_counted _ _ _ c.count_missing.result c.count_missing.ensures (omega (arith, c.if-count_missing-gt0.false)) v w
+    none_found _ _ _ (sym c.any_missing.ensures ∙ c.if-any_missing.false) v w
 
 pub returns : goal.returns
 unfolding lists_refusal marks_left
 returns c =
     let z = c.in_ok-judge_lent.ensures in
-    let e = sym (same ((goal.at.returns c).Else-count_missing-gt0)) in record {
+    let e = sym (same ((goal.at.returns c).Else-any_missing)) in record {
       number = z;
       lent = c.put_marks.ensures ∙ ap (λ w. table (λ i. cond (keeps c.args.n w i) 1 0) c.args.n) e ∙ sym (worked_by _ _ _ z);
     }

@@ -16,7 +16,7 @@ returns-then-zones-job c =
     let all = sym (zones_count job.n (reduced job.n job.values.now job.weights.now) k.zones.now k.kept) ∙ c.if-zones-job.true in
     let w = c.whole.ensures in
     let told = c.zone_sums.ensures in record {
-      result_value = whole_figures job.n job.values.now job.weights.now job.good all _ c.count_missing-missing.ensures
+      result_value = whole_figures job.n job.values.now job.weights.now job.good all
           (rw (sym w.n, sym w.values, sym w.weights) told.result_value);
       locals_after = whole_locals job.n job.values.now job.weights.now job.good all (rw (sym w.n, sym w.values, sym w.weights) told.locals_after);
     }

@@ -21,7 +21,7 @@ returns-then-zones-job c =
     let count = c.requires.classed.count in
     let w = c.whole.ensures in
     let told = c.zone_classes.ensures in record {
-      result_value = whole_figures job.n job.values.now job.weights.now job.good all _ c.count_missing-missing.ensures
+      result_value = whole_figures job.n job.values.now job.weights.now job.good all
           (rw (sym w.n, sym w.values, sym w.weights) told.result_value);
       rows_after = rw (sym w.n, sym w.values, sym w.weights) told.rows_after
           ∙ sym (all_class_sums job.n job.values.now job.weights.now all valued weighted c.args.classes.now count);
