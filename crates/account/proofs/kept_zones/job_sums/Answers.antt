@@ -1,11 +1,7 @@
 -- `job_sums` meets its contract: where all zones are kept, what is worked of them is the job's; else what is worked of the zones kept
 -- is put back. Assumes nothing.
-use mathlib.Core.Path.{sym, ap, ◌∙◌}
-use mathlib.Core.List.{[], ◌∷◌, ◌++◌}
-use lib.IntN.{pos}
+use mathlib.Core.Path.{sym, ◌∙◌}
 use Rattle.kept.specs.Returned.{reduced}
-use Rattle.account.specs.Answers.{zones_figures}
-use Rattle.account.specs.Steps.{zones_locals}
 use Rattle.account.proofs.KeptWork.{zones_count, places_long, whole_figures, whole_locals, figures_kept, locals_back}
 use Rattle.account.proofs.kept_zones.job_sums.Goals as goal
 
