@@ -32,7 +32,6 @@ use Rattle.kept.proofs.KeptZones.{
   put_back_sum,
 }
 use Rattle.account.specs.Measures.{total_of, deviation_of, row_of, pairs_of, weight_of, cross_of, squares_of}
-use Rattle.judges.specs.Values.{missing}
 use Rattle.kept.specs.Returned.{reduced}
 use Rattle.kept.proofs.Reduced.{returned_near, reduced_length, reduced_light, reduced_clear, kept_near, kept_all_returned}
 use Rattle.account.specs.Answers.{zones_local, job_locals}

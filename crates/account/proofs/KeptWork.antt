@@ -1,6 +1,6 @@
 -- What the work on the zones kept makes of its lists: those that are gathered are a job and shuffles of the zones kept, and
 -- what is worked of them is the job's. Where all are kept the lists are the job's own. Assumes nothing.
-use mathlib.Core.Path.{◌≡◌, refl, sym, ap, ◌∙◌}
+use mathlib.Core.Path.{◌≡◌, refl, sym, ap, ◌∙◌, subst}
 use mathlib.Core.List.{List, [], ◌∷◌, ◌++◌}
 use Prim.Native.Nat.{ℕ, ◌*◌, ◌≤◌, ◌<◌}
 use native.Mathlib.Nat as N
@@ -35,6 +35,10 @@ are_shuffles n weights rows shuffles all = record {
   count = shuffles_length n weights rows shuffles;
   full = λ r h. shuffle_full n weights rows shuffles r h (all.full r h);
 }
+
+-- and those of so many zones
+pub of_zones : {shuffles : List ℕ} {n m rows : ℕ} → n ≡ m → Shuffles shuffles n rows → Shuffles shuffles m rows
+of_zones {shuffles = s} {rows = r} e = subst (λ n. Shuffles s n r) e
 
 -- ---- by the list of the zones kept, as the code has it
 module _ (n : ℕ) (weights zones : List ℕ) (e : zones ≡ kept_zones n weights) where

@@ -15,9 +15,11 @@ pub mod KeptLists
 pub mod Placing
 pub mod KeptJob
 pub mod AllKept
+pub mod AllReturned
 pub mod KeptWork
 pub mod KeptClasses
 pub mod Accepted
+pub mod Marked
 pub mod Judged
 pub mod Found
 pub mod ClassAnswered

@@ -23,7 +23,7 @@ use Rattle.whole.specs.Table.{at, pair_at}
 use Rattle.account.specs.Measures.{total_of, deviation_of, spread_of, weight_of, cross_of, squares_of, local_of}
 use Rattle.account.specs.Limits.{Limits}
 use Rattle.kept.specs.Kept.{keeps, kept_count, kept_zone, kept_place, kept_values, kept_pairs}
-use Rattle.kept.specs.Returned.{missing_count, reduced}
+use Rattle.kept.specs.Returned.{reduced}
 use Rattle.kept.proofs.Reduced.{missing_few}
 use Rattle.kept.proofs.KeptZones.{kept_few, zone_stands, zone_at_place, place_within, values_at}
 use Rattle.account.specs.Refusals.{job_spread, job_rules, job_lengths, call_rules, account_rules, account_refusal}

@@ -1,6 +1,7 @@
 // The work on a job that was judged and accepted: its zones kept are worked as zones all of which count. Where every zone is kept that is
-// the job as it was lent. Else their lists are gathered first, and what belongs to a zone is put back at it. Each function tells the two by
-// one test, and no function does it for all, since what is worked on the gathered lists differs.
+// the job as it was lent. Else their lists are gathered first, and what belongs to a zone is put back at it, in functions of their own, so that
+// the common case clears no room. Each function tells the two by one test, and no function does it for all, since what is worked on the
+// gathered lists differs.
 ghost use Rattle.std.specs.Prelude.{◌≡◌, ◌*◌, length};
 ghost use Rattle.whole.specs.Table.{table};
 ghost use Rattle.account.specs.Answers.{listed, job_figures, job_locals};
@@ -69,8 +70,26 @@ fn gather<'a>(kept: &KeptLists, room: &'a mut Room) -> Gathered<'a>
     }
 }
 
-// The sums of a job, with its local numerators in `locals`. That a list has room for each zone is a clause here, below and of what is
-// called here: n is the job's, and no type can say it of a list that C lends.
+// The sums of a job some of whose zones are left out. That a list has room for each zone is a clause here, below and of what is called here:
+// n is the job's, and no type can say it of a list that C lends.
+fn gathered_sums(kept: &KeptLists, locals: &mut [i64]) -> Sums
+    requires { length locals.old ≡ kept.now.job.n }
+    ensures result_value { listed result
+        ≡ job_figures kept.now.job.n kept.now.job.values.now kept.now.job.weights.now }
+    ensures locals_after { locals.new
+        ≡ job_locals kept.now.job.n kept.now.job.values.now kept.now.job.weights.now }
+{
+    let missing = kept::count_missing(kept.job.values);
+    let mut room = Room::new();
+    let gathered = gather(kept, &mut room);
+    let mut local_space: [i64; 64] = [0; 64];
+    let kept_locals = &mut local_space[..gathered.job.n];
+    let sums = working::zone_sums(&gathered.job, missing, kept_locals);
+    keeping::put_back(gathered.places, kept_locals, locals);
+    sums
+}
+
+// The sums of a job, with its local numerators in `locals`.
 pub(super) fn job_sums(kept: &KeptLists, locals: &mut [i64]) -> Sums
     requires { length locals.old ≡ kept.now.job.n }
     ensures result_value { listed result
@@ -82,12 +101,48 @@ pub(super) fn job_sums(kept: &KeptLists, locals: &mut [i64]) -> Sums
     if zones.len() == job.n {
         return working::zone_sums(&kept.whole(), 0, locals);
     }
-    let missing = kept::count_missing(job.values);
+    gathered_sums(kept, locals)
+}
+
+// The class account of a job some of whose zones are left out.
+fn gathered_classes(
+    kept: &KeptLists,
+    classes: &[u8],
+    rows: &mut [i64; 27],
+    class_locals: &mut [i64],
+    locals: &mut [i64],
+) -> Sums
+    requires classed { Classed classes.now kept.now.job.n }
+    requires class_locals_len { length class_locals.old ≡ 9 * kept.now.job.n }
+    requires locals_len { length locals.old ≡ kept.now.job.n }
+    ensures result_value { listed result
+        ≡ job_figures kept.now.job.n kept.now.job.values.now kept.now.job.weights.now }
+    ensures rows_after { rows.new
+        ≡ class_sums kept.now.job.n kept.now.job.values.now kept.now.job.weights.now classes.now }
+    ensures class_locals_after { class_locals.new
+        ≡ class_locals_of kept.now.job.n kept.now.job.values.now kept.now.job.weights.now classes.now }
+    ensures locals_after { locals.new
+        ≡ job_locals kept.now.job.n kept.now.job.values.now kept.now.job.weights.now }
+{
+    let missing = kept::count_missing(kept.job.values);
     let mut room = Room::new();
     let gathered = gather(kept, &mut room);
+    let many = gathered.job.n;
+    let pairs = many * many;
+    let mut class_space: [u8; 4096] = rooms::room();
+    let kept_classes = &mut class_space[..pairs];
+    kept.gather_pairs(classes, kept_classes);
+    let nine = 9 * many;
+    let mut nine_space: [i64; 576] = [0; 576];
+    let kept_nine = &mut nine_space[..nine];
     let mut local_space: [i64; 64] = [0; 64];
-    let kept_locals = &mut local_space[..gathered.job.n];
-    let sums = working::zone_sums(&gathered.job, missing, kept_locals);
+    let kept_locals = &mut local_space[..many];
+    let lists = ClassLists {
+        job: gathered.job,
+        classes: kept_classes,
+    };
+    let sums = classes::zone_classes(&lists, missing, rows, kept_nine, kept_locals);
+    keeping::put_back_rows(gathered.places, many, kept_nine, class_locals);
     keeping::put_back(gathered.places, kept_locals, locals);
     sums
 }
@@ -120,39 +175,15 @@ pub(super) fn work_classes<'a>(
         };
         return classes::zone_classes(&lists, 0, rows, class_locals, locals);
     }
-    let missing = kept::count_missing(job.values);
-    let mut room = Room::new();
-    let gathered = gather(kept, &mut room);
-    let many = gathered.job.n;
-    let pairs = many * many;
-    let mut class_space: [u8; 4096] = rooms::room();
-    let kept_classes = &mut class_space[..pairs];
-    kept.gather_pairs(classes, kept_classes);
-    let nine = 9 * many;
-    let mut nine_space: [i64; 576] = [0; 576];
-    let kept_nine = &mut nine_space[..nine];
-    let mut local_space: [i64; 64] = [0; 64];
-    let kept_locals = &mut local_space[..many];
-    let lists = ClassLists {
-        job: gathered.job,
-        classes: kept_classes,
-    };
-    let sums = classes::zone_classes(&lists, missing, rows, kept_nine, kept_locals);
-    keeping::put_back_rows(gathered.places, many, kept_nine, class_locals);
-    keeping::put_back(gathered.places, kept_locals, locals);
-    sums
+    gathered_classes(kept, classes, rows, class_locals, locals)
 }
 
-// The rank of a job.
-pub(super) fn work_rank(kept: &KeptLists, shuffles: &ShuffleRows) -> Counts
+// The rank of a job some of whose zones are left out.
+fn gathered_rank(kept: &KeptLists, shuffles: &ShuffleRows) -> Counts
     requires { shuffles.now.n ≡ kept.now.job.n }
     ensures { three result
         ≡ ranked kept.now.job.n kept.now.job.values.now kept.now.job.weights.now shuffles.now.rows shuffles.now.shuffles.now }
 {
-    let KeptLists { job, zones } = *kept;
-    if zones.len() == job.n {
-        return ranking::zone_rank(&kept.whole(), shuffles);
-    }
     let mut room = Room::new();
     let gathered = gather(kept, &mut room);
     let many = gathered.job.n;
@@ -167,4 +198,17 @@ pub(super) fn work_rank(kept: &KeptLists, shuffles: &ShuffleRows) -> Counts
         rows,
     };
     ranking::zone_rank(&gathered.job, &kept_rows)
+}
+
+// The rank of a job.
+pub(super) fn work_rank(kept: &KeptLists, shuffles: &ShuffleRows) -> Counts
+    requires { shuffles.now.n ≡ kept.now.job.n }
+    ensures { three result
+        ≡ ranked kept.now.job.n kept.now.job.values.now kept.now.job.weights.now shuffles.now.rows shuffles.now.shuffles.now }
+{
+    let KeptLists { job, zones } = *kept;
+    if zones.len() == job.n {
+        return ranking::zone_rank(&kept.whole(), shuffles);
+    }
+    gathered_rank(kept, shuffles)
 }
