@@ -1,5 +1,5 @@
--- The image of document 01's worked report, computed: these bytes are accepted, they are that job, and that job is these bytes.
--- Assumes nothing.
+-- The image of document 01's worked report, computed: these bytes are accepted, they are that job, and that job is these bytes. Then the same
+-- of an image in which a value is not returned (request A.7), whose joins at that zone stay. Assumes nothing.
 use mathlib.Core.Path.{◌≡◌, refl}
 use mathlib.Core.List.{List, [], ◌∷◌}
 use Prim.Native.Nat.{ℕ}
@@ -10,7 +10,7 @@ use Rattle.whole.specs.Search.{some, count, any_beyond, any_above}
 use Rattle.whole.specs.Sum.{sum}
 use Rattle.whole.specs.Table.{table, table_rows, pair_at, each}
 use Rattle.words.specs.Words.{two_at, word_at}
-use Rattle.judges.specs.Values.{missing, any_value_beyond}
+use Rattle.judges.specs.Values.{not_returned, missing, any_value_beyond}
 use Rattle.shuffles.specs.Shuffles.{shuffle_count, any_lacking}
 use Rattle.kept.specs.Kept.{passing, keeps, kept_zones, kept_count, kept_values}
 use Rattle.kept.specs.Returned.{reduced}
@@ -50,13 +50,42 @@ report_image =
     ∷ 2 ∷ 0 ∷ 0 ∷ 1 ∷ 2 ∷ 3 ∷ 2 ∷ 1 ∷ 0 ∷ 3
     ∷ []
 
-pub report_accepted : image_refusal report_image ≡ 0
+-- ---- values 1, 3 and one not returned; joins 0-1, 1-0 and 1-2 with weight 2, the last at the zone that returned nothing
+abbrev pub marked_job : Job
+marked_job = record {
+  values = pos 1 ∷ pos 3 ∷ not_returned ∷ [];
+  categories = [];
+  weights = 0 ∷ 2 ∷ 0 ∷ 2 ∷ 0 ∷ 2 ∷ 0 ∷ 0 ∷ 0 ∷ [];
+  places = [];
+  bands = [];
+  shuffles = [];
+}
+
+abbrev pub marked_counts : Given
+marked_counts = record { values = 3; categories = 0; places = 0; bands = 0; shuffles = 0 }
+
+-- the sections after that of the values
+abbrev marked_rest : List ℕ
+marked_rest = 0 ∷ 0 ∷ 3 ∷ 0 ∷ 0 ∷ 1 ∷ 2 ∷ 1 ∷ 0 ∷ 2 ∷ 1 ∷ 2 ∷ 2 ∷ 0 ∷ 0 ∷ 0 ∷ 0 ∷ 0 ∷ 0 ∷ []
+
+abbrev pub marked_image : List ℕ
+marked_image = 3 ∷ 0 ∷ 1 ∷ 0 ∷ 0 ∷ 0 ∷ 3 ∷ 0 ∷ 0 ∷ 0 ∷ 0 ∷ 0 ∷ 0 ∷ 128 ∷ marked_rest
+
+-- the same with zone 1 not returned, at which every join is
+abbrev pub weightless_image : List ℕ
+weightless_image = 3 ∷ 0 ∷ 1 ∷ 0 ∷ 0 ∷ 0 ∷ 0 ∷ 0 ∷ 0 ∷ 128 ∷ 3 ∷ 0 ∷ 0 ∷ 0 ∷ marked_rest
+
+-- ---- what is computed
+judged : (image_refusal report_image ≡ 0) × ((image_refusal marked_image ≡ 0) × (image_refusal weightless_image ≡ 6))
 unfolding image_refusal image_rules in_values in_categories in_joins in_places in_bands in_shuffles
     in_turn join_rules places_in_turn place_rules_of across up at_one_place any_misplaced any_empty_band any_not_rising any_lacking
     shuffle_count lacks some any_beyond any_above job_of table table_rows join_weight two_at word_at
     weight_of spread_of pairs_of row_of sum pair_at job_spread keeps passing count kept_zones kept_count kept_values
     missing any_value_beyond reduced
-report_accepted = refl
+judged = (refl, (refl, refl))
+
+pub report_accepted : image_refusal report_image ≡ 0
+report_accepted = judged.0
 
 pub report_read : job_of report_image ≡ report_job
 unfolding job_of table table_rows join_weight two_at word_at
@@ -65,3 +94,17 @@ report_read = refl
 pub report_written : job_bytes report_counts report_job ≡ report_image
 unfolding job_bytes each joins_from
 report_written = refl
+
+pub marked_accepted : image_refusal marked_image ≡ 0
+marked_accepted = judged.1.0
+
+pub marked_read : job_of marked_image ≡ marked_job
+unfolding job_of table table_rows join_weight two_at word_at
+marked_read = refl
+
+pub marked_written : job_bytes marked_counts marked_job ≡ marked_image
+unfolding job_bytes each joins_from
+marked_written = refl
+
+pub weightless_refused : image_refusal weightless_image ≡ 6
+weightless_refused = judged.1.1
