@@ -1,21 +1,21 @@
 -- Where every value of an image is returned (request A.7), its rules are those without the mark: 3 is document 01's, and 6 and 7 look at the
 -- weights as they are listed. Assumes nothing.
-use mathlib.Core.Path.{◌≡◌, refl, ap}
+use mathlib.Core.Path.{◌≡◌, ap}
 use mathlib.Core.List.{List, [], ◌∷◌}
 use Prim.Native.Nat.{ℕ}
-use native.Mathlib.Omega.{arith}
 use lib.Dec.{ltb}
 use lib.IntN.{ℤ}
 use lib.ListN.{length}
 use Rattle.whole.specs.Integer.{is_zero}
+use Rattle.whole.specs.Rules.{Rule}
 use Rattle.whole.specs.Search.{any_beyond}
 use Rattle.whole.specs.Table.{at, pair_at}
 use Rattle.whole.proofs.Table.{table_length}
 use Rattle.kept.specs.Kept.{kept_count, kept_values}
-use Rattle.kept.specs.Returned.{missing_count, reduced}
-use Rattle.kept.proofs.Reduced.{none_missing, same_limit, all_returned}
+use Rattle.kept.specs.Returned.{missing_count}
+use Rattle.kept.proofs.Reduced.{none_missing, same_limit}
 use Rattle.account.specs.Measures.{weight_of, spread_of}
-use Rattle.account.specs.Refusals.{job_spread}
+use Rattle.account.proofs.AllReturned.{returned_sums}
 use Rattle.image.specs.Image.{count, values_in, from_joins, joins_in, rest, job_of, zone_count_rule, section_rules, in_values, at_the_end}
 use Rattle.image.proofs.JoinWeight.{weights_length}
 
@@ -38,18 +38,14 @@ module _ (image : List ℕ) (e : missing_count (job_of image).values ≡ 0) wher
   abbrev w : List ℕ
   w = (job_of image).weights
 
-  -- the weights that count are those that the joins give
-  pub returned_weights : reduced n values w ≡ w
-  unfolding job_of
-  returned_weights =
-      let long : length values ≡ n = table_length _ n in
-      all_returned n values w (λ i h. none_missing values e i (omega (arith, h, long))) (weights_length n (joins_in (from_joins image)))
-
   pub returned_end :
       at_the_end image
       ≡ (ltb 0 (length (rest image)), 17)
       ∷ (is_zero (weight_of (pair_at w n) n), 6)
       ∷ (is_zero (spread_of (at (kept_values n w values)) (kept_count n w)), 7)
       ∷ []
-  unfolding job_spread
-  returned_end = rw returned_weights refl
+  unfolding job_of
+  returned_end =
+      let long : length values ≡ n = table_length _ n in
+      let sums = returned_sums n values w e long (weights_length n (joins_in (from_joins image))) in
+      ap (λ (rules : List Rule). (ltb 0 (length (rest image)), 17) ∷ rules) sums
