@@ -1,7 +1,6 @@
 -- `join_table` meets its contract: judged first, and counted only where no rule is broken. Where every value is returned the weights that
 -- count are those lent. Assumes nothing.
 use mathlib.Core.Path.{◌≡◌, sym, ap, ◌∙◌}
-use native.Mathlib.Omega.{arith}
 use lib.IntN.{pos}
 use lib.ListN.{length, replicate}
 use Rattle.std.proofs.lemmas.Result.{err_from_is_err_and}

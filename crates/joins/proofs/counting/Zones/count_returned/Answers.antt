@@ -1,11 +1,11 @@
 -- `count_returned` meets its contract: the weights that count are made at the front of room of its own, and counted there. Assumes nothing.
-use Rattle.std.proofs.Common.{rules, ◌≡◌, sym, ap, ◌∙◌, ◌*◌, length, arith}
+use Rattle.std.proofs.Common.{rules, ◌≡◌, sym, ap, ◌∙◌, ◌*◌, length}
 use Rattle.whole.specs.Search.{any_above}
 use Rattle.refusals.specs.Refusals.{number_of}
 use Rattle.whole.proofs.Rules.{worked_when_taken}
 use Rattle.refusals.proofs.Unrefused.{unrefused}
 use Rattle.kept.specs.Returned.{reduced}
-use Rattle.kept.specs.Answers.{reduce_left, reduce_refusal}
+use Rattle.kept.specs.Answers.{reduce_left}
 use Rattle.kept.proofs.Reduced.{reduced_length, reduced_above}
 use Rattle.kept.proofs.Sized.{let_in}
 use Rattle.joins.specs.Joins.{join_table}
