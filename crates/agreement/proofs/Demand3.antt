@@ -22,6 +22,8 @@ use Rattle.account.specs.Answers as account
 use Rattle.account.specs.Classes.{row_at, class_row_of, class_sums, class_locals_of, class_rules}
 use Rattle.account.specs.Refusals.{job_spread, account_refusal}
 use Rattle.account.specs.declared.ClassRow.{ClassRow}
+use Rattle.account.proofs.Accepted.{accepted}
+use Rattle.account.proofs.Marked.{kept_and_missing}
 use Rattle.account.proofs.ClassTheorems as classes-promise
 use Rattle.account.proofs.Theorems as account-promise
 use Rattle.coefficients.specs.Coefficients.{coefficient, pair_of, job_pair, class_pair, local_figures}
@@ -149,7 +151,10 @@ module _ (n : ℕ) (values : List ℤ) (weights classes : List ℕ) (lent : List
     accounted = refl;
     classed = refl;
     reported = refl;
-    kept = (account-promise.kept_least n values weights locals none_of_account, account-promise.kept_most n values weights);
+    kept = (
+      account-promise.kept_least n values weights locals none_of_account,
+      kept_and_missing n values weights (accepted n values weights locals none_of_account).good.lent.count,
+    );
     weight = account-promise.weight_one n values weights locals none_of_account;
     whole = has_pair kept spread (account.job_row n values weights) (job.job_formable n values weights classes lent taken);
     local = local_has;

@@ -32,14 +32,14 @@ abbrev pub LocalFigure : ℤ → ℤ → List ℕ → ℕ → Type 0
 LocalFigure numerator spread figures i = IsNearest numerator spread (get_or figures i 0)
 
 pub record Demand3 (n : ℕ) (out : Every) (after : Lent) : Type 0 where
-  -- the account answers its sums, the class account the same, and the report the same with their pair; two zones at least are kept, and
-  -- their number is the n of the ratios
+  -- the account answers its sums, the class account the same, and the report the same with their pair; two zones at least are kept, of
+  -- those whose value is returned, and their number is the n of the ratios
   pub sums : Sums
   pub pair : Pair
   pub accounted : out.account ≡ sums
   pub classed : out.classes ≡ sums
   pub reported : out.report.whole ≡ record { sums = sums; pair = pair }
-  pub kept : (2 ≤ sums.kept) × (sums.kept ≤ n)
+  pub kept : (2 ≤ sums.kept) × (sums.kept + sums.missing ≤ n)
   -- the whole job has weight and its pair; each zone its local figure
   pub weight : pos 1 ≤ℤ sums.weight
   pub whole : HasPair sums.kept sums.spread (record { weight = sums.weight; cross = sums.cross; squares = sums.squares }) pair
