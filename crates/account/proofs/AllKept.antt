@@ -34,7 +34,7 @@ module _ (n : ℕ) (values : List ℤ) (weights : List ℕ) (by_counting : kept_
   all : kept_count n weights ≡ n
   all = ap (kept_count n) (sym nothing_reduced) ∙ by_counting
 
-  pub none_missing : missing_count values ≡ 0
+  none_missing : missing_count values ≡ 0
   none_missing = missing_none values (λ i h. kept_all_returned n values weights by_counting i (omega (arith, h, values_fit)))
 
   values_same : kept_values n weights values ≡ values

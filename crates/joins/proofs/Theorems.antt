@@ -16,7 +16,8 @@ use Rattle.whole.proofs.Rules.{first_least, first_applies, kept_when_refused, wo
 use Rattle.whole.proofs.Search.{none_above}
 use Rattle.whole.proofs.Sum.{sum_cong, sum_+, sum_rows, pairs_twice}
 use Rattle.whole.proofs.TableRows.{rows_at}
-use Rattle.kept.specs.Returned.{reduced}
+use Rattle.kept.specs.Returned.{missing_count, reduced}
+use Rattle.kept.proofs.Reduced.{none_counted}
 use Rattle.account.specs.Measures.{weight_of, pairs_of, row_of}
 use Rattle.account.proofs.Adding.{counts_once, weight_parts}
 use Rattle.account.specs.Answers.{job_row}
@@ -172,3 +173,9 @@ pub join_refusal_applies :
     Applies (join_refusal n values categories weights room) (join_rules n values categories weights room)
 unfolding join_refusal
 join_refusal_applies n values categories weights room f = first_applies (join_rules n values categories weights room) f
+
+-- ---- where every value is returned the table is that of the weights lent
+pub joins_returned :
+    (n : ℕ) (values : List ℤ) (categories weights : List ℕ) → missing_count values ≡ 0 → length values ≡ n → length weights ≡ n * n →
+    join_table n categories (reduced n values weights) ≡ join_table n categories weights
+joins_returned n values categories weights none v w = ap (join_table n categories) (none_counted n values weights 0 (sym none) (omega arith) v w)
