@@ -163,8 +163,10 @@ published =
     ∷ ("(h), a tie", ratio (pos 9007199254740995) (pos 1) (number (pos 9007199254740996)))
     ∷ ("(i)", ratio (negsuc 0) (pos 3) (bits 0xBFD5555555555555))
     ∷ ("(j)", ratio (pos 1) (pos 10) (bits 0x3FB999999999999A))
-    ∷ ("A.7, a value not returned",
-      sums unreturned (negsuc 17) (pos 4) (pos 42) (pos 34) (pos 3) (pos 1) (pos 0 ∷ pos 0 ∷ pos 18 ∷ negsuc 8 ∷ negsuc 26 ∷ []))
+    ∷ (
+      "A.7, a value not returned",
+      sums unreturned (negsuc 17) (pos 4) (pos 42) (pos 34) (pos 3) (pos 1) (pos 0 ∷ pos 0 ∷ pos 18 ∷ negsuc 8 ∷ negsuc 26 ∷ []),
+    )
     ∷ ("its hot list", hot unreturned (2 ∷ 3 ∷ 4 ∷ 0 ∷ 1 ∷ []))
     ∷ ("its joins", joins unreturned (0 ∷ 1 ∷ 0 ∷ 0 ∷ 1 ∷ []) ((pos 2 ∷ pos 1 ∷ zeros 6) ++ (pos 1 ∷ zeros 7) ++ zeros 48))
     ∷ []

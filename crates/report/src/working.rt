@@ -42,7 +42,8 @@ fn put_hot_list(page: &mut [u8], at: usize, zones: &Zones, many: usize, spread: 
         zones.weights,
         zones.locals,
         &mut space[..n],
-    ).unwrap();
+    )
+    .unwrap();
     lines::put_zones(page, at, &space[..many], zones, spread)
 }
 
@@ -66,13 +67,7 @@ fn put_account(page: &mut Page, whole: Whole, zones: &Zones) -> usize
 }
 
 // The pair lines, which need categories.
-fn put_pairs(
-    page: &mut [u8],
-    at: usize,
-    values: &[i32],
-    categories: &[u8],
-    weights: &[u8],
-) -> usize
+fn put_pairs(page: &mut [u8], at: usize, values: &[i32], categories: &[u8], weights: &[u8]) -> usize
     requires joinable { Joinable (length values.now) values.now categories.now weights.now }
     requires room { Room page.old at 6144 }
     ensures { Put page.old page.new at result 6144

@@ -1,6 +1,6 @@
 -- `keep` meets its contract: the number of the sizes, or the zones kept at the front of the list. Where every value is returned the weights
 -- that count are those lent. Assumes nothing.
-use Rattle.std.proofs.Common.{rules, ◌≡◌, sym, ap, ◌∙◌, ◌∷◌, [], ◌*◌, length, arith}
+use Rattle.std.proofs.Common.{rules, ◌≡◌, sym, ap, ◌∙◌, ◌∷◌, [], ◌*◌, length}
 use Rattle.std.proofs.lemmas.Result.{err_from_is_err_and}
 use Rattle.whole.specs.Table.{over}
 use Rattle.refusals.proofs.Refusals.{left_by, worked_by}

@@ -1,6 +1,6 @@
 -- `mark` meets its contract: the number of the sizes, or a mark for each zone. Where every value is returned the weights that count are those
 -- lent. Assumes nothing.
-use Rattle.std.proofs.Common.{rules, ◌≡◌, sym, ap, ◌∙◌, cond, ◌*◌, length, arith}
+use Rattle.std.proofs.Common.{rules, ◌≡◌, sym, ap, ◌∙◌, cond, ◌*◌, length}
 use Rattle.std.proofs.lemmas.Result.{err_from_is_err_and}
 use Rattle.whole.specs.Table.{table}
 use Rattle.refusals.proofs.Refusals.{left_by, worked_by}

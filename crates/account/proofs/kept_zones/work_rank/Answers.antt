@@ -13,4 +13,3 @@ returns-then-zones-job c =
     let w = c.whole.ensures in
     rank_of_all job.n job.values.now job.weights.now all job.good s.rows s.shuffles.now (of_zones c.requires s.good) _
     (rw (sym w.n, sym w.values, sym w.weights) c.zone_rank.ensures)
-
