@@ -14,7 +14,7 @@ use Rattle.coefficients.specs.declared.Report.{Report}
 
 -- ---- what an answer says, by its cases
 
--- S, M, W, P, G of the whole job and the number of zones kept, none where the call is refused
+-- the seven figures of the whole job, none where the call is refused
 unfoldable pub sums_in : Result Report Refusal → List ℤ
 sums_in (Ok report) = listed report.whole.sums
 sums_in (Err refusal) = []
@@ -35,7 +35,7 @@ pairs_in (Err refusal) = table (λ k. no_pair) 9
 
 -- ---- what they must be, by the number of the refusal
 
--- S, M, W, P, G and the number of zones kept
+-- the seven figures
 abbrev pub sums_unless : ℕ → ℕ → List ℤ → List ℕ → List ℤ
 sums_unless refusal n values weights = unless_refused refusal (job_figures n values weights) []
 
