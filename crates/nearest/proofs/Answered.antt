@@ -1,7 +1,7 @@
 -- The call's two ways out, and what its contract promises of each. Assumes nothing.
-use mathlib.Core.Path.{◌≡◌, sym, ap, ◌∙◌, subst}
+use mathlib.Core.Path.{◌≡◌, refl, sym, ap, ◌∙◌, subst}
 use mathlib.Core.List.{[], ◌∷◌}
-use lib.Ieee.{Float, binary64, round, to_bits}
+use lib.Ieee.{binary64, round, to_bits}
 use lib.IntN.{ℤ, nat_abs}
 use Rattle.std.specs.Prelude.{Result, Ok, Err}
 use Rattle.whole.specs.Integer.{below_zero}
@@ -9,8 +9,9 @@ use Rattle.whole.proofs.Size.{one_above, one_some}
 use Rattle.refusals.specs.Refusals.{number_by, number_of}
 use Rattle.refusals.specs.declared.Refusal.{Refusal}
 use Rattle.refusals.proofs.Refusals.{left_by, worked_by}
-use Rattle.nearest.specs.Answers.{figures_of, NearestIn, nearest_refusal, nearest_float, nearest_figures}
+use Rattle.nearest.specs.Answers.{figures_of, NearestIn, nearest_refusal, nearest_float, nearest_side, nearest_rounded, nearest_figures}
 use Rattle.nearest.specs.Nearest.{IsNearest}
+use Rattle.nearest.specs.declared.Rounded.{Rounded}
 use Rattle.nearest.proofs.Accepted.{accepted, under}
 use Rattle.nearest.proofs.NearestFloat.{round_nearest}
 
@@ -24,14 +25,14 @@ float_nearest p q z =
 
 module _ (p q : ℤ) where
   -- what the call promises of its answer
-  abbrev pub Promised : Result Float Refusal → Type 0
+  abbrev pub Promised : Result Rounded Refusal → Type 0
   Promised r = (number_of r ≡ nearest_refusal p q) × ((figures_of r ≡ nearest_figures p q) × NearestIn p q r)
 
   pub refused : (refusal : Refusal) → number_by refusal ≡ nearest_refusal p q → Promised (Err refusal)
   unfolding figures_of nearest_figures
   refused refusal e = (e, (sym (left_by _ _ _ refusal e), tt))
 
-  pub rounded : (x : Float) → 0 ≡ nearest_refusal p q → x ≡ nearest_float p q → Promised (Ok x)
-  unfolding figures_of nearest_figures
+  pub rounded : (x : Rounded) → 0 ≡ nearest_refusal p q → x ≡ nearest_rounded p q → Promised (Ok x)
+  unfolding figures_of nearest_figures nearest_side
   rounded x z e =
-      (z, (ap (λ (y : Float). y ∷ []) e ∙ sym (worked_by _ _ _ z), rw e (float_nearest p q (sym z))))
+      (z, (ap (λ (y : Rounded). y ∷ []) e ∙ sym (worked_by _ _ _ z), rw e (float_nearest p q (sym z), refl)))

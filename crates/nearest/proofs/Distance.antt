@@ -16,7 +16,7 @@ use Rattle.nearest.specs.Nearest.{distance}
 abbrev pub signed_apart : Bool → ℕ → Bool → ℕ → ℕ
 signed_apart s a t b = cond (beq s t) (apart a b) (a + b)
 
-signed_mul : (s : Bool) (a n : ℕ) → signed s a *ℤ pos n ≡ signed s (a * n)
+pub signed_mul : (s : Bool) (a n : ℕ) → signed s a *ℤ pos n ≡ signed s (a * n)
 signed_mul false a n = refl
 signed_mul true zero n = ap pos (zero-mul n) ∙ sym (ap (λ (z : ℕ). neg_ℤ (pos z)) (zero-mul n))
 signed_mul true (suc a) n = refl

@@ -6,10 +6,11 @@ pub mod Doublings
 pub mod LongDivision
 pub mod Neighbours
 pub mod Fields
-pub mod Rounded
+pub mod Rounding
 pub mod NearestFloat
 pub mod Unique
 pub mod Signed
+pub mod Sides
 pub mod Accepted
 pub mod Answered
 pub mod Theorems

@@ -98,6 +98,21 @@ module _ (f : Format) (a q j k w r : ℕ) (Q : 0 < q) (split : w * (q * 2 ^ j) +
       (pow-lt (room (prec f) j k (low f) (emax f) J K)) in
       rw (round_units s) (units_val f s m dropped under)
 
+  -- in steps of the least value: what a / q is, multiplied out by q, and what is made of it
+  pub ratio_steps : a * 2 ^ low f ≡ w * (q * 2 ^ (j + (low f - k))) + r * 2 ^ (low f - k)
+  unfolding n dropped
+  ratio_steps = n_is
+
+  pub rest_steps : r * 2 ^ (low f - k) < q * 2 ^ (j + (low f - k))
+  unfolding dropped
+  rest_steps = rest_lt
+
+  pub float_steps :
+      (s : Bool) → prec f + j ≤ emax f →
+      HasValue (round f s a q) s (nearest w (compare (r * 2) (q * 2 ^ j)) * 2 ^ (j + (low f - k))) (2 ^ low f)
+  unfolding m dropped
+  float_steps s J = round_value s J
+
   -- and so is what the code builds
   pub built : (s : Bool) → prec f + j ≤ emax f → round f s (nearest w (compare (r * 2) (q * 2 ^ j)) * 2 ^ j) (2 ^ k) ≡ round f s a q
   unfolding m dropped

@@ -18,7 +18,7 @@ use Rattle.nearest.proofs.Between.{Down, Up, none_between, down_short, down_far,
 use Rattle.nearest.proofs.Distance.{apart, signed_apart, distance_is, one_sign, any_signs}
 use Rattle.nearest.proofs.Fields.{Read, read}
 use Rattle.nearest.proofs.Neighbours.{gap_outward, gap_inward, gap_some, gap_least}
-use Rattle.nearest.proofs.Rounded.{Kept, kept}
+use Rattle.nearest.proofs.Rounding.{Kept, kept}
 
 -- ---- half of a gap. x is the float's size and n that of p / q, and r of the gap u is left over, all multiplied out by q
 
@@ -178,7 +178,7 @@ zero_one = refl
 pub zero_round : (q : ℕ) → 0 < q → of_bits binary64 0 ≡ round binary64 false 0 q
 zero_round q Q = zero_one ∙ round_same binary64 false 0 1 0 q (N.zero-lt-suc 0) Q (N.zero-mul q ∙ sym (N.zero-mul 1))
 
-zero_bits : (q : ℕ) → 0 < q → to_bits binary64 (round binary64 false 0 q) ≡ 0
+pub zero_bits : (q : ℕ) → 0 < q → to_bits binary64 (round binary64 false 0 q) ≡ 0
 unfolding to_bits of_bits
 zero_bits q Q = ap (to_bits binary64) (sym (zero_round q Q))
 

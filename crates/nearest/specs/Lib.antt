@@ -1,5 +1,6 @@
--- Meaning: Bits, Nearest, Answers. What private functions ask of each other: Steps.
+-- Meaning: Bits, Nearest, Sides, Answers. What private functions ask of each other: Steps.
 pub mod Bits
 pub mod Nearest
+pub mod Sides
 pub mod Answers
 pub mod Steps

@@ -1,5 +1,7 @@
 -- What the steps of the division promise each other. Assumes nothing.
-use Rattle.std.specs.Prelude.{◌⊎◌, ◌≡◌, ℕ, ◌+◌, ◌*◌, ◌^◌, ◌≤◌, ◌<◌}
+use Rattle.std.specs.Prelude.{◌⊎◌, ◌≡◌, cond, ℕ, ◌+◌, ◌*◌, ◌^◌, ◌≤◌, ◌<◌, eqb}
+use Rattle.nearest.specs.declared.Side.{Side}
+use Rattle.nearest.specs.declared.Side.TheVariants.{Equal, Below, Above}
 
 -- the divisor is q doubled so often that a number below 2^63 has a quotient below 2^53
 pub record Widened (q divisor doublings : ℕ) : Type 0 where
@@ -21,3 +23,7 @@ pub record Divided (a divisor whole rest halvings : ℕ) : Type 0 where
   pub least : 2 ^ 52 ≤ whole
   pub most : whole < 2 ^ 53
   pub few : halvings ≤ 115
+
+-- where the number taken for a quotient lies beside it: on it where nothing is left over, below where the whole part is kept
+abbrev pub taken_side : ℕ → ℕ → ℕ → Side
+taken_side whole rest taken = cond (eqb rest 0) Equal (cond (eqb taken whole) Below Above)

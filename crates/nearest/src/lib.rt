@@ -4,14 +4,30 @@
 mod division;
 mod scaling;
 
-ghost use Rattle.std.specs.Prelude.{false, ◌≡◌};
+ghost use Rattle.std.specs.Prelude.{◌≡◌, pos};
 ghost use Prim.Native.Nat.{◌*◌, ◌^◌, ◌<◌, compare};
-ghost use Rattle.std.specs.Float.{binary64};
-ghost use Rattle.std.specs.Float.Ieee.{nearest, round};
+ghost use Rattle.std.specs.Float.Ieee.{nearest};
 ghost use Rattle.refusals.specs.Refusals.{number_of};
-ghost use Rattle.nearest.specs.Answers.{figures_of, NearestIn, nearest_refusal, nearest_float, nearest_figures};
+ghost use Rattle.nearest.specs.Answers.{figures_of, NearestIn, nearest_refusal, nearest_rounded, nearest_figures};
+ghost use Rattle.nearest.specs.Sides.{side_number, other_side};
+ghost use Rattle.nearest.specs.Steps.{taken_side};
 
 use refusals::Refusal;
+
+// On which side of the ratio its float lies, by value: where both are below 0, the nearer to 0 is above.
+#[derive(Clone, Copy)]
+pub enum Side {
+    Equal = 0,
+    Below = 1,
+    Above = 2,
+}
+
+// A float, and the side of its ratio that it lies on.
+#[derive(Clone, Copy)]
+pub struct Rounded {
+    pub float: f64,
+    pub side: Side,
+}
 
 // What p and q may be in size.
 const LIMIT: u64 = 6000000000000000000;
@@ -39,39 +55,84 @@ fn half_to_even(whole: u64, rest: u64, divisor: u64) -> u64
     }
 }
 
+// Where the number taken lies beside the quotient: nothing was left over, or the whole part was kept, or it went up.
+fn side_taken(whole: u64, rest: u64, taken: u64) -> Side
+    ensures { result ≡ taken_side whole rest taken }
+{
+    if rest == 0 {
+        Side::Equal
+    } else if taken == whole {
+        Side::Below
+    } else {
+        Side::Above
+    }
+}
+
 // The nearest float to the ratio of two sizes.
-fn ratio(a: u64, q: u64) -> f64
+fn ratio(a: u64, q: u64) -> Rounded
     requires a_nonzero { 0 < a }
     requires a_bound { a < 2 ^ 63 }
     requires q_nonzero { 0 < q }
     requires q_bound { q < 2 ^ 63 }
-    ensures { result ≡ round binary64 false a q }
+    ensures { result ≡ nearest_rounded (pos a) (pos q) }
 {
     let by = division::widened(q);
     let x = division::long_division(a, by.divisor);
     let m = half_to_even(x.whole, x.rest, by.divisor);
-    scaling::scaled(m, by.doublings, x.halvings)
+    Rounded {
+        float: scaling::scaled(m, by.doublings, x.halvings),
+        side: side_taken(x.whole, x.rest, m),
+    }
+}
+
+// The negative of a float lies on the other side of the negative of its ratio.
+fn other_side(side: Side) -> Side
+    ensures { result ≡ other_side side }
+{
+    match side {
+        Side::Equal => Side::Equal,
+        Side::Below => Side::Above,
+        Side::Above => Side::Below,
+    }
 }
 
 // The nearest float for numbers that were judged. Size first, sign after: 0 has none.
-fn float_of(p: i64, q: i64) -> f64
+fn float_of(p: i64, q: i64) -> Rounded
     requires { nearest_refusal p q ≡ 0 }
-    ensures { result ≡ nearest_float p q }
+    ensures { result ≡ nearest_rounded p q }
 {
     let a = signs::size(p);
     if a == 0 {
-        return 0.0;
+        return Rounded {
+            float: 0.0,
+            side: Side::Equal,
+        };
     }
     let x = ratio(a, signs::size(q));
-    if signs::is_below_zero(p) { -x } else { x }
+    if signs::is_below_zero(p) {
+        Rounded {
+            float: -x.float,
+            side: other_side(x.side),
+        }
+    } else {
+        x
+    }
 }
 
-// The nearest float to p over q: at a tie the even one, and +0 for 0.
-pub fn nearest(p: i64, q: i64) -> Result<f64, Refusal>
+// The nearest float to p over q: at a tie the even one, and +0 for 0. And which way it was rounded.
+pub fn nearest(p: i64, q: i64) -> Result<Rounded, Refusal>
     ensures number { number_of result ≡ nearest_refusal p q }
     ensures figures { figures_of result ≡ nearest_figures p q }
     ensures nearest { NearestIn p q result }
 {
     judge(p, q)?;
     Ok(float_of(p, q))
+}
+
+// The number of a side, by which lists of bytes hold it.
+pub fn side_number(side: Side) -> u8
+    ensures { result ≡ side_number side }
+{
+    // no From leads from an enum to its number
+    side as u8
 }

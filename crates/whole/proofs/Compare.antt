@@ -87,7 +87,7 @@ less_below k zero h = let z : ⊥ = omega arith in absurd z
 less_below k (suc l) h = refl
 
 -- two numbers that are not above 0
-less_neg : (k l : ℕ) → k < l → lt_z (neg_ℤ (pos l)) (neg_ℤ (pos k)) ≡ true
+pub less_neg : (k l : ℕ) → k < l → lt_z (neg_ℤ (pos l)) (neg_ℤ (pos k)) ≡ true
 less_neg k zero h = let z : ⊥ = omega arith in absurd z
 less_neg zero (suc l) h = refl
 less_neg (suc k) (suc l) h = lt-ltb k l (omega arith)

@@ -4,7 +4,7 @@ use mir.Syntax.{w64}
 use mir.ValLaws.{to_z-of_z}
 use Rattle.std.proofs.lemmas.Result.{err_from_is_err_and}
 use Rattle.whole.proofs.Machine.{r64}
-use Rattle.nearest.specs.Answers.{nearest_refusal, nearest_float}
+use Rattle.nearest.specs.Answers.{nearest_refusal, nearest_rounded}
 use Rattle.nearest.proofs.Answered.{refused, rounded}
 use Rattle.nearest.proofs.nearest.Goals as goal
 use Rattle.nearest.proofs.nearest.Goals.{Start}
@@ -23,6 +23,6 @@ returns-in_err-judge c =
 pub returns : goal.returns
 returns c =
     let t = (goal.at.returns c).Start in
-    let float = c.float_of.ensures ∙ ap₂ nearest_float (to_z-of_z w64 c.args.p c.ranges.p) (to_z-of_z w64 c.args.q c.ranges.q) in
+    let float = c.float_of.ensures ∙ ap₂ nearest_rounded (to_z-of_z w64 c.args.p c.ranges.p) (to_z-of_z w64 c.args.q c.ranges.q) in
     let all = rounded c.args.p c.args.q c.float_of.result (c.in_ok-judge.ensures ∙ found t) float in
     record { number = all.0; figures = all.1.0; nearest = all.1.1 }

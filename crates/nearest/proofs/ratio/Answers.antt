@@ -1,5 +1,5 @@
--- `ratio` meets its contract: what is built from the rounded quotient is a / q, rounded. Assumes nothing.
-use mathlib.Core.Path.{◌≡◌, ap, ◌∙◌, subst}
+-- `ratio` meets its contract: what is built from the rounded quotient is a / q, rounded, and its side that of the number taken. Assumes nothing.
+use mathlib.Core.Path.{◌≡◌, refl, ap, ◌∙◌, subst}
 use mathlib.Core.Bool.{false}
 use Prim.Native.Nat.{ℕ, ◌+◌, ◌*◌, ◌^◌, ◌≤◌, ◌<◌, compare}
 use native.Mathlib.Nat.{le_trans}
@@ -7,9 +7,11 @@ use native.Mathlib.Omega.{arith}
 use lib.Ieee.{nearest, round, binary64}
 use lib.Ieee.Fits.{nearest-le}
 use lib.Ieee.Nearest.{nearest-ge}
+use Rattle.nearest.specs.Answers.{nearest_float}
 use Rattle.nearest.specs.Steps.{Widened, Divided}
 use Rattle.nearest.proofs.LongDivision.{built}
 use Rattle.nearest.proofs.Powers.{few_doublings}
+use Rattle.nearest.proofs.Sides.{of_sizes}
 use Rattle.nearest.proofs.ratio.Goals as goal
 
 some : (w m : ℕ) → 2 ^ 52 ≤ w → w ≤ m → 0 < m
@@ -41,11 +43,20 @@ scaled-requires c =
     }
 
 pub returns : goal.returns
+unfolding nearest_float
 returns c =
+    let a = c.args in
     let by = c.widened-by in
     let x = c.long_division-x in
     let m = c.half_to_even-m in
+    let float =
     c.scaled.ensures
-    ∙ joined c.args.a c.args.q by.result.divisor by.result.doublings
+    ∙ joined a.a a.q by.result.divisor by.result.doublings
     x.result.whole x.result.rest x.result.halvings m.result
-    c.requires.q_nonzero by.ensures x.ensures m.ensures
+    c.requires.q_nonzero by.ensures x.ensures m.ensures in
+    let side =
+    c.side_taken.ensures
+    ∙ of_sizes a.a a.q by.result.divisor by.result.doublings
+    x.result.whole x.result.rest x.result.halvings m.result
+    c.requires.q_nonzero by.ensures x.ensures m.ensures in
+    rw (float, side) refl
