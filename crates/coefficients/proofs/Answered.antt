@@ -22,7 +22,7 @@ use Rattle.account.specs.Refusals.{job_spread, job_rules, job_lengths, call_rule
 use Rattle.account.specs.declared.ClassRow.{ClassRow}
 use Rattle.account.specs.declared.Sums.{Sums}
 use Rattle.account.proofs.ClassTheorems.{class_sums_row}
-use Rattle.coefficients.specs.Coefficients.{pair_of, job_pair, class_pair, local_figures}
+use Rattle.coefficients.specs.Coefficients.{pair_of, job_pair, class_pair, local_figures, local_sides}
 use Rattle.coefficients.specs.FloatReport.{sums_in, pair_in, pairs_in, no_pair}
 use Rattle.coefficients.specs.Steps.{whole_row, rest_refusal, Reports}
 use Rattle.coefficients.specs.declared.Report.{Report}
@@ -47,11 +47,14 @@ module _ (n : ℕ) (values : List ℤ) (weights classes : List ℕ) {kept : ℕ}
   figures_are : {l held : List ℤ} → l ≡ held → local_figures spread l ≡ local_figures (job_spread n values weights) held
   figures_are e = rw (m, e) refl
 
-module _ (refusal n : ℕ) (values : List ℤ) (weights classes : List ℕ) (rows locals : List ℤ) (figures parts : List ℕ) where
+  sides_are : {l held : List ℤ} → l ≡ held → local_sides spread l ≡ local_sides (job_spread n values weights) held
+  sides_are e = rw (m, e) refl
+
+module _ (refusal n : ℕ) (values : List ℤ) (weights classes : List ℕ) (rows locals : List ℤ) (figures sides parts part_sides : List ℕ) where
   -- a refusal, and the lists as they were
   pub refused :
       (k : Refusal) (rows_left locals_left : List ℤ) → number_by k ≡ refusal → rows_left ≡ rows → locals_left ≡ locals →
-      Reports refusal n values weights classes rows locals figures parts (Err k) rows_left locals_left figures parts
+      Reports refusal n values weights classes rows locals figures sides parts part_sides (Err k) rows_left locals_left figures sides parts part_sides
   unfolding sums_in pair_in pairs_in
   refused k rows_left locals_left e in_rows in_locals = record {
     number = e;
@@ -61,12 +64,14 @@ module _ (refusal n : ℕ) (values : List ℤ) (weights classes : List ℕ) (row
     in_rows = in_rows ∙ sym (left_by _ _ _ k e);
     in_locals = in_locals ∙ sym (left_by _ _ _ k e);
     in_figures = sym (left_by _ _ _ k e);
+    in_sides = sym (left_by _ _ _ k e);
     in_parts = sym (left_by _ _ _ k e);
+    in_part_sides = sym (left_by _ _ _ k e);
   }
 
   -- the sums, the pairs and the figures that are formed of what the class account answered and left
   pub reported :
-      (r : Report) (sums : Sums) (rows_left of_classes locals_left : List ℤ) (figures_left parts_left : List ℕ) →
+      (r : Report) (sums : Sums) (rows_left of_classes locals_left : List ℤ) (figures_left sides_left parts_left part_sides_left : List ℕ) →
       refusal ≡ 0 → listed sums ≡ job_figures n values weights →
       rows_left ≡ class_sums n values weights classes → of_classes ≡ class_locals_of n values weights classes →
       locals_left ≡ job_locals n values weights →
@@ -75,11 +80,13 @@ module _ (refusal n : ℕ) (values : List ℤ) (weights classes : List ℕ) (row
         whole = record { sums = sums; pair = pair_of sums.kept sums.spread (whole_row sums) };
         classes = table (λ k. pair_of sums.kept sums.spread (row_at rows_left k)) 9;
       } →
-      figures_left ≡ local_figures sums.spread locals_left →
+      figures_left ≡ local_figures sums.spread locals_left → sides_left ≡ local_sides sums.spread locals_left →
       parts_left ≡ local_figures sums.spread (take (length parts) of_classes) →
-      Reports refusal n values weights classes rows locals figures parts (Ok r) rows_left locals_left figures_left parts_left
+      part_sides_left ≡ local_sides sums.spread (take (length parts) of_classes) →
+      Reports refusal n values weights classes rows locals figures sides parts part_sides (Ok r) rows_left locals_left figures_left sides_left
+      parts_left part_sides_left
   unfolding sums_in pair_in pairs_in
-  reported r sums rows_left of_classes locals_left figures_left parts_left z s in_rows in_classes in_locals e f g =
+  reported r sums rows_left of_classes locals_left figures_left sides_left parts_left part_sides_left z s in_rows in_classes in_locals e f f' g g' =
       let k = kept_in n values weights sums s in
       let m = spread_in n values weights sums s in record {
         number = sym z;
@@ -89,15 +96,19 @@ module _ (refusal n : ℕ) (values : List ℤ) (weights classes : List ℕ) (row
         in_rows = in_rows ∙ sym (worked_when_taken _ _ _ z);
         in_locals = in_locals ∙ sym (worked_when_taken _ _ _ z);
         in_figures = f ∙ figures_are n values weights classes k m in_locals ∙ sym (worked_when_taken _ _ _ z);
+        in_sides = f' ∙ sides_are n values weights classes k m in_locals ∙ sym (worked_when_taken _ _ _ z);
         in_parts = g ∙ figures_are n values weights classes k m (ap (take (length parts)) in_classes) ∙ sym (worked_when_taken _ _ _ z);
+        in_part_sides = g' ∙ sides_are n values weights classes k m (ap (take (length parts)) in_classes) ∙ sym (worked_when_taken _ _ _ z);
       }
 
 -- the same by another name of the number
 pub reports_same :
-    {refusal other n : ℕ} {values : List ℤ} {weights classes : List ℕ} {rows locals : List ℤ} {figures parts : List ℕ} {r : Result Report Refusal}
-    {rows_left locals_left : List ℤ} {figures_left parts_left : List ℕ} → refusal ≡ other →
-    Reports refusal n values weights classes rows locals figures parts r rows_left locals_left figures_left parts_left →
-    Reports other n values weights classes rows locals figures parts r rows_left locals_left figures_left parts_left
+    {refusal other n : ℕ} {values : List ℤ} {weights classes : List ℕ} {rows locals : List ℤ} {figures sides parts part_sides : List ℕ}
+    {r : Result Report Refusal} {rows_left locals_left : List ℤ} {figures_left sides_left parts_left part_sides_left : List ℕ} → refusal ≡ other →
+    Reports refusal n values weights classes rows locals figures sides parts part_sides r rows_left locals_left figures_left sides_left
+    parts_left part_sides_left →
+    Reports other n values weights classes rows locals figures sides parts part_sides r rows_left locals_left figures_left sides_left parts_left
+    part_sides_left
 reports_same e p = rw (← e) p
 
 -- ---- the numbers on the way

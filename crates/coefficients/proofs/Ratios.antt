@@ -13,7 +13,7 @@ use Rattle.whole.specs.Integer.{is_zero}
 use Rattle.whole.specs.Rules.{ratio_limit}
 use Rattle.whole.proofs.Machine.{Is, val, rd, nat, is_*, to, r64}
 use Rattle.whole.proofs.Size.{size_*, some_size, one_some, one_of, one_*}
-use Rattle.nearest.specs.Answers.{nearest_refusal, nearest_float}
+use Rattle.nearest.specs.Answers.{nearest_refusal, nearest_rounded}
 use Rattle.nearest.proofs.Theorems.{not_refused}
 use Rattle.account.specs.declared.ClassRow.{ClassRow}
 use Rattle.coefficients.specs.Steps.{Ratio, Formable, FormableRows, Numerators}
@@ -25,8 +25,8 @@ ratio_taken p q r = not_refused p q r.one r.numerator r.divisor
 pub ratio_same : {p p' q q' : ℤ} → p' ≡ p → q' ≡ q → Ratio p q → Ratio p' q'
 ratio_same e f r = rw (e, f) r
 
-pub nearest_same : {p p' q q' : ℤ} → p' ≡ p → q' ≡ q → nearest_float p' q' ≡ nearest_float p q
-nearest_same {p} {p'} {q} {q'} e f = ap (λ v. nearest_float v q') e ∙ ap (nearest_float p) f
+pub nearest_same : {p p' q q' : ℤ} → p' ≡ p → q' ≡ q → nearest_rounded p' q' ≡ nearest_rounded p q
+nearest_same {p} {p'} {q} {q'} e f = ap (λ v. nearest_rounded v q') e ∙ ap (nearest_rounded p) f
 
 -- up to 64 zones have up to 4,032 ordered pairs off the diagonal, and two zones have two
 pub ordered_le : (n : ℕ) → n ≤ 64 → (n - 1) * n ≤ 4032

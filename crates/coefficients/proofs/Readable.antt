@@ -9,7 +9,7 @@ use lib.ListN.{length}
 use Rattle.whole.specs.Integer.{is_zero}
 use Rattle.whole.specs.Table.{table}
 use Rattle.whole.proofs.Table.{table_length, table_held}
-use Rattle.nearest.specs.Answers.{nearest_float}
+use Rattle.nearest.specs.Answers.{nearest_float, nearest_side}
 use Rattle.nearest.proofs.Theorems.{not_nan}
 use Rattle.account.specs.declared.ClassRow.{ClassRow}
 use Rattle.coefficients.specs.Coefficients.{coefficient, pair_of, job_pair, class_pair}
@@ -22,7 +22,7 @@ coefficient_readable : (weight p q : ℤ) → Readable (coefficient weight p q)
 unfolding coefficient
 coefficient_readable weight p q = go (is_zero weight)
   where
-    go : (b : Bool) → Readable (cond b Weightless (Figure (nearest_float p q)))
+    go : (b : Bool) → Readable (cond b Weightless (Figure (nearest_float p q) (nearest_side p q)))
     go true = tt
     go false = not_nan p q
 

@@ -2,7 +2,8 @@
 use Rattle.std.specs.Prelude.{cond, List, ℕ, ◌*◌, ◌-◌, ℤ, pos, ◌*ℤ◌, length}
 use Rattle.whole.specs.Integer.{is_zero}
 use Rattle.whole.specs.Table.{table, at}
-use Rattle.nearest.specs.Answers.{nearest_float, nearest_bits}
+use Rattle.nearest.specs.Answers.{nearest_float, nearest_bits, nearest_side}
+use Rattle.nearest.specs.Sides.{side_number}
 use Rattle.account.specs.Refusals.{job_spread}
 use Rattle.account.specs.Answers.{job_kept, job_row}
 use Rattle.account.specs.Classes.{class_row_of}
@@ -11,9 +12,9 @@ use Rattle.coefficients.specs.declared.Coefficient.{Coefficient}
 use Rattle.coefficients.specs.declared.Coefficient.TheVariants.{Figure, Weightless}
 use Rattle.coefficients.specs.declared.Pair.{Pair}
 
--- the nearest float to p / q where the weight W is above 0; where it is 0 there is no coefficient
+-- the nearest float to p / q, and which way it was rounded, where the weight W is above 0; where it is 0 there is no coefficient
 unfoldable pub coefficient : ℤ → ℤ → ℤ → Coefficient
-coefficient weight p q = cond (is_zero weight) Weightless (Figure (nearest_float p q))
+coefficient weight p q = cond (is_zero weight) Weightless (Figure (nearest_float p q) (nearest_side p q))
 
 -- Moran's I = P / (W × M) and Geary's c = ((n − 1) × n × G) / (2 × W × M), of the sums W, P and G in a class row
 unfoldable pub pair_of : ℕ → ℤ → ClassRow → Pair
@@ -33,3 +34,7 @@ class_pair n values weights classes k =
 -- the bits of the local Moran L / M of each local numerator of a list
 unfoldable pub local_figures : ℤ → List ℤ → List ℕ
 local_figures spread numerators = table (λ i. nearest_bits (at numerators i) spread) (length numerators)
+
+-- the number of the side of L / M that each of these floats lies on
+unfoldable pub local_sides : ℤ → List ℤ → List ℕ
+local_sides spread numerators = table (λ i. side_number (nearest_side (at numerators i) spread)) (length numerators)

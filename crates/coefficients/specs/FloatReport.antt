@@ -1,5 +1,5 @@
 -- What the float report answers, with the local figures of the classes or without them, and what it leaves in its lent lists. Lists of
--- floats hold their bits. Assumes nothing.
+-- floats hold their bits, and the list beside each the numbers of their sides. Assumes nothing.
 use Rattle.std.specs.Prelude.{List, [], ◌∷◌, ℕ, ◌*◌, ℤ, length, Result, Ok, Err}
 use Rattle.whole.specs.Rules.{first_broken, unless_refused}
 use Rattle.whole.specs.Table.{table}
@@ -7,7 +7,7 @@ use Rattle.refusals.specs.declared.Refusal.{Refusal}
 use Rattle.account.specs.Refusals.{job_spread}
 use Rattle.account.specs.Answers.{listed, job_figures, job_locals}
 use Rattle.account.specs.Classes.{class_sums, class_locals_of, class_rules}
-use Rattle.coefficients.specs.Coefficients.{job_pair, class_pair, local_figures}
+use Rattle.coefficients.specs.Coefficients.{job_pair, class_pair, local_figures, local_sides}
 use Rattle.coefficients.specs.declared.Coefficient.TheVariants.{Weightless}
 use Rattle.coefficients.specs.declared.Pair.{Pair}
 use Rattle.coefficients.specs.declared.Report.{Report}
@@ -53,57 +53,77 @@ abbrev pub figures_unless : ℕ → ℕ → List ℤ → List ℕ → List ℕ �
 figures_unless refusal n values weights figures =
     unless_refused refusal (local_figures (job_spread n values weights) (job_locals n values weights)) figures
 
+-- the side of each
+abbrev pub sides_unless : ℕ → ℕ → List ℤ → List ℕ → List ℕ → List ℕ
+sides_unless refusal n values weights sides =
+    unless_refused refusal (local_sides (job_spread n values weights) (job_locals n values weights)) sides
+
 -- ---- with the local figures of the classes
 
--- the refusal, 0 where no rule is broken: 1 to 7, then 9, with the lengths of the two lent lists
-unfoldable pub report_refusal : ℕ → List ℤ → List ℕ → List ℕ → List ℕ → List ℕ → ℕ
-report_refusal n values weights classes figures parts =
-    first_broken (class_rules n values weights classes ((length figures, n) ∷ (length parts, 9 * n) ∷ []))
+-- the refusal, 0 where no rule is broken: 1 to 7, then 9, with the lengths of the four lent lists
+unfoldable pub report_refusal : ℕ → List ℤ → List ℕ → List ℕ → List ℕ → List ℕ → List ℕ → List ℕ → ℕ
+report_refusal n values weights classes figures sides parts part_sides =
+    first_broken
+    (class_rules n values weights classes
+    ((length figures, n) ∷ (length sides, n) ∷ (length parts, 9 * n) ∷ (length part_sides, 9 * n) ∷ []))
 
-module _ (n : ℕ) (values : List ℤ) (weights classes figures parts : List ℕ) where
+module _ (n : ℕ) (values : List ℤ) (weights classes figures sides parts part_sides : List ℕ) where
   unfoldable pub report_sums : List ℤ
-  report_sums = sums_unless (report_refusal n values weights classes figures parts) n values weights
+  report_sums = sums_unless (report_refusal n values weights classes figures sides parts part_sides) n values weights
 
   unfoldable pub report_whole : List Pair
-  report_whole = whole_unless (report_refusal n values weights classes figures parts) n values weights
+  report_whole = whole_unless (report_refusal n values weights classes figures sides parts part_sides) n values weights
 
   unfoldable pub report_classes : List Pair
-  report_classes = pairs_unless (report_refusal n values weights classes figures parts) n values weights classes
+  report_classes = pairs_unless (report_refusal n values weights classes figures sides parts part_sides) n values weights classes
 
   unfoldable pub report_figures : List ℕ
-  report_figures = figures_unless (report_refusal n values weights classes figures parts) n values weights figures
+  report_figures = figures_unless (report_refusal n values weights classes figures sides parts part_sides) n values weights figures
+
+  unfoldable pub report_sides : List ℕ
+  report_sides = sides_unless (report_refusal n values weights classes figures sides parts part_sides) n values weights sides
 
   -- the local Moran of each zone in each class, class by class
   unfoldable pub report_parts : List ℕ
   report_parts =
-      unless_refused (report_refusal n values weights classes figures parts)
+      unless_refused (report_refusal n values weights classes figures sides parts part_sides)
       (local_figures (job_spread n values weights) (class_locals_of n values weights classes))
       parts
 
+  unfoldable pub report_part_sides : List ℕ
+  report_part_sides =
+      unless_refused (report_refusal n values weights classes figures sides parts part_sides)
+      (local_sides (job_spread n values weights) (class_locals_of n values weights classes))
+      part_sides
+
 -- ---- without them, and with the whole numbers
 
--- the refusal: the same rules, with the lengths of the three lent lists
-unfoldable pub plain_refusal : ℕ → List ℤ → List ℕ → List ℕ → List ℤ → List ℤ → List ℕ → ℕ
-plain_refusal n values weights classes rows locals figures =
-    first_broken (class_rules n values weights classes ((length rows, 27) ∷ (length locals, n) ∷ (length figures, n) ∷ []))
+-- the refusal: the same rules, with the lengths of the four lent lists
+unfoldable pub plain_refusal : ℕ → List ℤ → List ℕ → List ℕ → List ℤ → List ℤ → List ℕ → List ℕ → ℕ
+plain_refusal n values weights classes rows locals figures sides =
+    first_broken
+    (class_rules n values weights classes ((length rows, 27) ∷ (length locals, n) ∷ (length figures, n) ∷ (length sides, n) ∷ []))
 
-module _ (n : ℕ) (values : List ℤ) (weights classes : List ℕ) (rows locals : List ℤ) (figures : List ℕ) where
+module _ (n : ℕ) (values : List ℤ) (weights classes : List ℕ) (rows locals : List ℤ) (figures sides : List ℕ) where
   unfoldable pub plain_sums : List ℤ
-  plain_sums = sums_unless (plain_refusal n values weights classes rows locals figures) n values weights
+  plain_sums = sums_unless (plain_refusal n values weights classes rows locals figures sides) n values weights
 
   unfoldable pub plain_whole : List Pair
-  plain_whole = whole_unless (plain_refusal n values weights classes rows locals figures) n values weights
+  plain_whole = whole_unless (plain_refusal n values weights classes rows locals figures sides) n values weights
 
   unfoldable pub plain_classes : List Pair
-  plain_classes = pairs_unless (plain_refusal n values weights classes rows locals figures) n values weights classes
+  plain_classes = pairs_unless (plain_refusal n values weights classes rows locals figures sides) n values weights classes
 
   -- W, P and G of each class
   unfoldable pub plain_rows : List ℤ
-  plain_rows = unless_refused (plain_refusal n values weights classes rows locals figures) (class_sums n values weights classes) rows
+  plain_rows = unless_refused (plain_refusal n values weights classes rows locals figures sides) (class_sums n values weights classes) rows
 
   -- the local numerators
   unfoldable pub plain_locals : List ℤ
-  plain_locals = unless_refused (plain_refusal n values weights classes rows locals figures) (job_locals n values weights) locals
+  plain_locals = unless_refused (plain_refusal n values weights classes rows locals figures sides) (job_locals n values weights) locals
 
   unfoldable pub plain_figures : List ℕ
-  plain_figures = figures_unless (plain_refusal n values weights classes rows locals figures) n values weights figures
+  plain_figures = figures_unless (plain_refusal n values weights classes rows locals figures sides) n values weights figures
+
+  unfoldable pub plain_sides : List ℕ
+  plain_sides = sides_unless (plain_refusal n values weights classes rows locals figures sides) n values weights sides

@@ -10,9 +10,9 @@ use Rattle.account.specs.Answers.{job_locals}
 use Rattle.account.specs.Classes.{row_at, class_sums, class_locals_of, class_rules}
 use Rattle.account.specs.declared.ClassRow.{ClassRow}
 use Rattle.account.specs.declared.Sums.{Sums}
-use Rattle.coefficients.specs.Coefficients.{local_figures}
+use Rattle.coefficients.specs.Coefficients.{local_figures, local_sides}
 use Rattle.coefficients.specs.FloatReport.{sums_in, pair_in, pairs_in, no_pair}
-use Rattle.coefficients.specs.FloatReport.{sums_unless, whole_unless, pairs_unless, figures_unless}
+use Rattle.coefficients.specs.FloatReport.{sums_unless, whole_unless, pairs_unless, figures_unless, sides_unless}
 use Rattle.coefficients.specs.declared.Coefficient.{Coefficient}
 use Rattle.coefficients.specs.declared.Coefficient.TheVariants.{Figure, Weightless}
 use Rattle.coefficients.specs.declared.Pair.{Pair}
@@ -64,21 +64,23 @@ pub record Reportable (sums : Sums) (rows class_locals_of locals : List ℤ) : T
 -- ---- what a call answers
 
 -- lists that the report's work can be lent
-pub record Lists (n : ℕ) (class_locals_of locals : List ℤ) (figures parts : List ℕ) : Type 0 where
+pub record Lists (n : ℕ) (class_locals_of locals : List ℤ) (figures sides parts part_sides : List ℕ) : Type 0 where
   pub zones : n ≤ 64
   pub class_locals_fit : length class_locals_of ≡ 9 * n
   pub locals_fit : length locals ≡ n
   pub figures_fit : length figures ≡ n
+  pub sides_fit : length sides ≡ n
   pub parts_few : length parts ≤ 9 * n
+  pub part_sides_fit : length part_sides ≡ length parts
 
 -- the refusal of a job and its classes, where the lists that the call is lent fit
 abbrev pub rest_refusal : ℕ → List ℤ → List ℕ → List ℕ → ℕ
 rest_refusal n values weights classes = first_broken (class_rules n values weights classes [])
 
 -- what a call whose refusal has this number promises of its answer r, and of the lists that it leaves of those that it was lent: `parts` for
--- the local figures of the classes, as many as it has places
-pub record Reports (refusal n : ℕ) (values : List ℤ) (weights classes : List ℕ) (rows locals : List ℤ) (figures parts : List ℕ)
-    (r : Result Report Refusal) (rows_left locals_left : List ℤ) (figures_left parts_left : List ℕ) : Type 0 where
+-- the local figures of the classes, as many as it has places, and `part_sides` for their sides
+pub record Reports (refusal n : ℕ) (values : List ℤ) (weights classes : List ℕ) (rows locals : List ℤ) (figures sides parts part_sides : List ℕ)
+    (r : Result Report Refusal) (rows_left locals_left : List ℤ) (figures_left sides_left parts_left part_sides_left : List ℕ) : Type 0 where
   pub number : number_of r ≡ refusal
   pub sums : sums_in r ≡ sums_unless refusal n values weights
   pub whole : pair_in r ≡ whole_unless refusal n values weights
@@ -86,16 +88,22 @@ pub record Reports (refusal n : ℕ) (values : List ℤ) (weights classes : List
   pub in_rows : rows_left ≡ unless_refused refusal (class_sums n values weights classes) rows
   pub in_locals : locals_left ≡ unless_refused refusal (job_locals n values weights) locals
   pub in_figures : figures_left ≡ figures_unless refusal n values weights figures
+  pub in_sides : sides_left ≡ sides_unless refusal n values weights sides
   pub in_parts :
       parts_left
       ≡ unless_refused refusal
       (local_figures (job_spread n values weights) (take (length parts) (class_locals_of n values weights classes)))
       parts
+  pub in_part_sides :
+      part_sides_left
+      ≡ unless_refused refusal
+      (local_sides (job_spread n values weights) (take (length parts) (class_locals_of n values weights classes)))
+      part_sides
 
 -- ---- a coefficient whose bits can be read
 
 abbrev pub Readable : Coefficient → Type 0
-Readable (Figure x) = T (not (is_nan x))
+Readable (Figure x side) = T (not (is_nan x))
 Readable Weightless = Unit
 
 pub record ReadablePair (pair : Pair) : Type 0 where

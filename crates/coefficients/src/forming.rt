@@ -1,21 +1,32 @@
 // Coefficients from whole numbers, each by one division.
 ghost use Rattle.std.specs.Prelude.{◌≡◌, ℕ, ◌<◌, length};
 ghost use Rattle.whole.specs.Table.{table};
-ghost use Rattle.nearest.specs.Answers.{nearest_float};
+ghost use Rattle.nearest.specs.Answers.{nearest_rounded};
 ghost use Rattle.account.specs.Classes.{row_at};
-ghost use Rattle.coefficients.specs.Coefficients.{pair_of, local_figures};
+ghost use Rattle.coefficients.specs.Coefficients.{pair_of, local_figures, local_sides};
+ghost use Rattle.coefficients.specs.declared.Coefficient.TheVariants.{Figure};
 ghost use Rattle.coefficients.specs.Steps.{Ratio, Formable, FormableRows, nth_row, Numerators};
 
 use crate::{Coefficient, Pair};
 use account::ClassRow;
+use nearest::Rounded;
 use std::array;
 
 // The nearest float to p over q, which part 2 does not refuse.
-pub(super) fn ratio(p: i64, q: i64) -> f64
+pub(super) fn ratio(p: i64, q: i64) -> Rounded
     requires { Ratio p q }
-    ensures { result ≡ nearest_float p q }
+    ensures { result ≡ nearest_rounded p q }
 {
     nearest::nearest(p, q).unwrap()
+}
+
+// The coefficient that a float is.
+impl From<Rounded> for Coefficient {
+    ghost from_gives = { λ x coefficient. coefficient ≡ Figure x.float x.side };
+
+    fn from(x: Rounded) -> Coefficient {
+        Coefficient::Figure(x.float, x.side)
+    }
 }
 
 // Moran and Geary of the sums of a job or of a class. n and the spread stay two parameters: `Formable` is of them and a row, and a
@@ -38,8 +49,8 @@ pub(super) fn pair(n: usize, spread: i64, row: ClassRow) -> Pair
     let twice = 2 * weight;
     let geary = ratio(ordered * squares, twice * spread);
     Pair {
-        moran: Coefficient::Figure(moran),
-        geary: Coefficient::Figure(geary),
+        moran: Coefficient::from(moran),
+        geary: Coefficient::from(geary),
     }
 }
 
@@ -59,14 +70,18 @@ pub(super) fn class_pairs(n: usize, spread: i64, rows: &[i64; 27]) -> [Pair; 9]
     row_pairs(n, spread, &ClassRow::all(rows))
 }
 
-// The local Moran of each local numerator of a list, by its bits.
-pub(super) fn put_figures(spread: i64, numerators: &[i64], figures: &mut [u64])
+// The local Moran of each local numerator of a list, by its bits and by the number of its side.
+pub(super) fn put_figures(spread: i64, numerators: &[i64], figures: &mut [u64], sides: &mut [u8])
     requires numerators { Numerators spread numerators.now }
     requires figures_len { length figures.old ≡ length numerators.now }
-    ensures { figures.new ≡ local_figures spread numerators.now }
+    requires sides_len { length sides.old ≡ length numerators.now }
+    ensures figures_after { figures.new ≡ local_figures spread numerators.now }
+    ensures sides_after { sides.new ≡ local_sides spread numerators.now }
 {
     // of a zip over iter_mut no proof knows what it wrote, so the numerators go by the index
     for (i, figure) in figures.iter_mut().enumerate() {
-        *figure = ratio(numerators[i], spread).to_bits();
+        let local = ratio(numerators[i], spread);
+        *figure = local.float.to_bits();
+        sides[i] = nearest::side_number(local.side);
     }
 }

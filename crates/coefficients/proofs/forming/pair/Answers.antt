@@ -3,15 +3,16 @@ use mathlib.Core.Path.{◌≡◌, refl, ◌∙◌}
 use mathlib.Core.Bool.{false}
 use Prim.Native.Nat.{ℕ, ◌*◌, ◌-◌}
 use native.Mathlib.Omega.{arith}
-use lib.Ieee.{Float}
 use lib.IntN.{ℤ, pos, ◌*ℤ◌}
 use mir.Syntax.{w64}
 use Rattle.whole.specs.Integer.{is_zero}
 use Rattle.whole.proofs.Machine.{rd, fit, fits_le, zero_yes, zero_no}
-use Rattle.nearest.specs.Answers.{nearest_float}
+use Rattle.nearest.specs.Answers.{nearest_rounded}
+use Rattle.nearest.specs.declared.Rounded.{Rounded}
 use Rattle.account.specs.declared.ClassRow.{ClassRow}
 use Rattle.coefficients.specs.Coefficients.{coefficient, pair_of}
 use Rattle.coefficients.specs.declared.Pair.{Pair}
+use Rattle.coefficients.specs.declared.Coefficient.{Coefficient}
 use Rattle.coefficients.specs.declared.Coefficient.TheVariants.{Figure}
 use Rattle.coefficients.proofs.Ratios as ratios
 use Rattle.coefficients.proofs.forming.pair.Goals as goal
@@ -19,12 +20,12 @@ use Rattle.coefficients.proofs.forming.pair.Goals.{Else-weight-eq0}
 
 -- the pair of sums that have weight
 formed :
-    (n : ℕ) (spread : ℤ) (row : ClassRow) (moran geary : Float) → is_zero row.weight ≡ false →
-    moran ≡ nearest_float row.cross (row.weight *ℤ spread) →
-    geary ≡ nearest_float (pos ((n - 1) * n) *ℤ row.squares) ((pos 2 *ℤ row.weight) *ℤ spread) →
-    ◌≡◌ {A = Pair} (record { moran = Figure moran; geary = Figure geary }) (pair_of n spread row)
+    (n : ℕ) (spread : ℤ) (row : ClassRow) (i c : Rounded) (moran geary : Coefficient) → is_zero row.weight ≡ false →
+    moran ≡ Figure i.float i.side → i ≡ nearest_rounded row.cross (row.weight *ℤ spread) →
+    geary ≡ Figure c.float c.side → c ≡ nearest_rounded (pos ((n - 1) * n) *ℤ row.squares) ((pos 2 *ℤ row.weight) *ℤ spread) →
+    ◌≡◌ {A = Pair} (record { moran = moran; geary = geary }) (pair_of n spread row)
 unfolding pair_of coefficient
-formed n spread row moran geary some e f = rw (some, e, f) refl
+formed n spread row i c moran geary some e e' f f' = rw (some, e, e', f, f') refl
 
 -- at the second arm there is weight
 weighty : (c : Else-weight-eq0) → is_zero c.args.row.weight ≡ false
@@ -69,6 +70,5 @@ returns c =
     let moran = (rd w64 (ratios.moran_divisor_is _ _ _ c.requires) tt).same in
     let numerator = (rd w64 (ratios.geary_numerator_is _ _ _ c.requires) tt).same in
     let divisor = (rd w64 (ratios.geary_divisor_is _ _ _ c.requires) tt).same in
-    formed _ _ _ _ _ (weighty ((goal.at.returns c).Else-weight-eq0))
-    (c.ratio-moran.ensures ∙ ratios.nearest_same (ratios.cross_is _ _ _ c.requires).same moran)
-    (c.ratio-geary.ensures ∙ ratios.nearest_same numerator divisor)
+    formed _ _ _ _ _ _ _ (weighty ((goal.at.returns c).Else-weight-eq0)) c.from.ensures (c.ratio-moran.ensures ∙ ratios.nearest_same (ratios.cross_is _ _ _ c.requires).same moran)
+    c.from-2.ensures (c.ratio-geary.ensures ∙ ratios.nearest_same numerator divisor)

@@ -1,18 +1,18 @@
--- `ratio` meets its contract: within the limits the answer is the float. Assumes nothing.
+-- `ratio` meets its contract: within the limits the answer is the float and its side. Assumes nothing.
 use mathlib.Core.Path.{◌≡◌, refl, sym, ap, ◌∙◌, subst}
 use mir.Syntax.{w64}
 use mir.ValLaws.{to_z-of_z}
 use Rattle.std.proofs.Common.{Ok}
 use Rattle.std.specs.Result.{IsOk}
 use Rattle.whole.proofs.Machine.{r64}
-use Rattle.nearest.specs.Answers.{nearest_float}
+use Rattle.nearest.specs.Answers.{nearest_rounded}
 use Rattle.nearest.proofs.Theorems.{answer_rounded}
 use Rattle.coefficients.proofs.Ratios.{ratio_taken, ratio_same, nearest_same}
 use Rattle.coefficients.proofs.forming.ratio.Goals as goal
 use Rattle.coefficients.proofs.forming.ratio.Goals.{After-nearest}
 
 -- what was asked is p over q
-answered : (c : After-nearest) → c.nearest.result ≡ Ok (nearest_float c.args.p c.args.q)
+answered : (c : After-nearest) → c.nearest.result ≡ Ok (nearest_rounded c.args.p c.args.q)
 answered c =
     let p = c.args.p in
     let q = c.args.q in

@@ -92,27 +92,30 @@ returns-in_err-sums c =
     let p = err_from_is_err_and c.from_residual.result c.from_residual.ensures.1 in
     let t = (goal.at.returns-in_err-sums c).After-class_account in
     let e = c.in_err-sums.ensures.number in
-    rw (p.1, p.2) (refused _ _ _ _ _ _ _ _ _ _ _ _ (e ∙ rest_is t) (rows_kept t _ e) (locals_kept t _ e))
+    rw (p.1, p.2) (refused _ _ _ _ _ _ _ _ _ _ _ _ _ _ (e ∙ rest_is t) (rows_kept t _ e) (locals_kept t _ e))
 
 pub report_job-requires : goal.report_job-requires
 report_job-requires c =
     let t = (goal.at.report_job-requires c).In_ok-sums in
     let a = c.args in
+    let many = ap length (locals_left t) ∙ job_locals_length a.n a.values.now a.weights.now in
     let job = reportable a.n a.values.now a.weights.now a.classes.now [] (taken t) _ (sums_known t) in
     record {
       reportable = reportable_same (rows_left t) (numerators_left t) (locals_left t) job;
-      figures_len = c.requires.figures_fit ∙ sym (ap length (locals_left t) ∙ job_locals_length a.n a.values.now a.weights.now);
+      figures_len = c.requires.figures_fit ∙ sym many;
+      sides_len = c.requires.sides_fit ∙ sym many;
       parts_in_bounds = omega (
         arith,
         ap length (numerators_left t),
         class_locals_length a.n a.values.now a.weights.now a.classes.now,
         c.requires.parts_few,
       );
+      part_sides_len = c.requires.part_sides_fit;
     }
 
 pub returns : goal.returns
 returns c =
     let t = (goal.at.returns c).In_ok-sums in
     let said = c.report_job.ensures in
-    reported _ _ _ _ _ _ _ _ _ _ _ _ _ _ _ _ (taken t) (sums_known t) (rows_left t) (numerators_left t) (locals_left t) said.value
-    said.figures_after said.parts_after
+    reported _ _ _ _ _ _ _ _ _ _ _ _ _ _ _ _ _ _ _ _ (taken t) (sums_known t) (rows_left t) (numerators_left t) (locals_left t) said.value
+    said.figures_after said.sides_after said.parts_after said.part_sides_after
