@@ -6,28 +6,32 @@
     ratios.py --compare PROGRAM  runs PROGRAM on all ratios made here, and compares every line
 
 The float is Python's int / int, which rounds correctly. That it did so is looked at too (nearest_float.py), ratio by ratio, in exact
-fractions: the float's two neighbours lie no nearer, and where one lies equally near, the float's last bit is 0.
+fractions: the float's two neighbours lie no nearer, and where one lies equally near, the float's last bit is 0. The sign of its side
+(request A.10) comes from the float itself, compared with the ratio in exact fractions.
 """
+import collections
+import itertools
 import pathlib
 import random
 import struct
 import subprocess
 import sys
 
-from nearest_float import nearest_bits
+from nearest_float import SIGNS, nearest_bits, side_sign
 
 CRATE = pathlib.Path(__file__).resolve().parent.parent / 'crates' / 'ratios'
 SEED = 20261116
 LIMIT = 6 * 10**18
 LEAST, MOST = -2**63, 2**63 - 1
 AT_ONCE = 65536 // 16  # as many ratios as the program reads
+REFUSED = 'refused 18'
 
-# (g) to (j) of document 01, and their bits as it prints them or as its float has them
+# (g) to (j) of document 01, and their lines: the bits as it prints them or as its float has them, and the side found by hand
 PRINTED = [
-    (9007199254740993, 1, 0x4340000000000000),
-    (9007199254740995, 1, 0x4340000000000002),
-    (-1, 3, 0xBFD5555555555555),
-    (1, 10, 0x3FB999999999999A),
+    (9007199254740993, 1, '4340000000000000<'),
+    (9007199254740995, 1, '4340000000000002>'),
+    (-1, 3, 'BFD5555555555555>'),
+    (1, 10, '3FB999999999999A>'),
 ]
 PRINTED_RATIOS = [(p, q) for p, q, _ in PRINTED]
 
@@ -35,10 +39,11 @@ PRINTED_RATIOS = [(p, q) for p, q, _ in PRINTED]
 # ---- what must be written
 
 def line(p, q):
-    """The line of a ratio: a refusal, or the bits of the float."""
+    """The line of a ratio: a refusal, or the bits of the float and the sign of its side."""
     if q < 1 or max(abs(p), q) > LIMIT:
-        return 'refused 18'
-    return f'{nearest_bits(p, q):016X}'
+        return REFUSED
+    float_bits = nearest_bits(p, q)
+    return f'{float_bits:016X}{side_sign(float_bits, p, q)}'
 
 
 # ---- the ratios, kind by kind
@@ -79,9 +84,21 @@ def ties(rng):
 
 
 def exact(rng):
-    """At a float, and next to it: at a power of 2 the two sides differ."""
+    """At a float, and next to it: below a power of 2 the gap is half of that above."""
     for count in range(4000):
         yield from around(rng, digits_53(rng, count % 4 == 0))
+
+
+def wholes(rng):
+    """Whole numbers of more than 53 digits, at a float, halfway between two and next to both: the division leaves no rest, so that the
+    digits that are cut off alone decide the side."""
+    for count in range(1500):
+        gap = 2**rng.randint(1, 9)
+        size = digits_53(rng, count % 4 == 0) * gap
+        for off in (0, gap // 2):
+            for p in (size + off - 1, size + off, size + off + 1):
+                common = rng.randint(1, LIMIT // p)
+                yield signed(rng, p * common), common
 
 
 def powers(rng):
@@ -136,7 +153,7 @@ def zeros(rng):
         yield 0, max(1, any_size(rng))
 
 
-KINDS = [at_random, ties, exact, powers, small, coefficients, limits, refusals, zeros]
+KINDS = [at_random, ties, exact, wholes, powers, small, coefficients, limits, refusals, zeros]
 
 
 def made(kind):
@@ -150,6 +167,25 @@ def packed(ratios):
     return b''.join(struct.pack('<qq', p, q) for p, q in ratios)
 
 
+# ---- the sides that occur
+
+def count_sides(ratios, lines):
+    """How many ratios below 0 have each side, and how many others."""
+    return collections.Counter((p < 0, written[-1]) for (p, _), written in zip(ratios, lines) if written != REFUSED)
+
+
+def must_have_sides(counts, where):
+    """Ends the run where a side does not occur below 0, or among the others, so that none goes uncompared."""
+    for is_negative, sign in itertools.product((False, True), SIGNS):
+        if counts[is_negative, sign] == 0:
+            sys.exit(f'{where}: no ratio {"below 0" if is_negative else "of 0 or above"} has the side `{sign}`')
+
+
+def told_of_sides(counts):
+    """The counts in words."""
+    return ', '.join(f'{counts[False, sign] + counts[True, sign]} `{sign}` of which {counts[True, sign]} below 0' for sign in SIGNS)
+
+
 # ---- the kept files
 
 def kept():
@@ -161,8 +197,9 @@ def kept():
                (LEAST, LEAST)]
     lines = [line(p, q) for p, q in ratios]
     for (p, q, wanted), found in zip(PRINTED, lines):
-        if found != f'{wanted:016X}':
-            sys.exit(f'{p} / {q} gives {found}, and document 01 has {wanted:016X}')
+        if found != wanted:
+            sys.exit(f'{p} / {q} gives {found}, and by document 01 and request A.10 it is {wanted}')
+    must_have_sides(count_sides(ratios, lines), 'the kept ratios')
     return {'stdin': packed(ratios), 'stdout': ''.join(line + '\n' for line in lines).encode()}
 
 
@@ -189,7 +226,7 @@ def run(program, given):
 
 def compare(program):
     """Compares every line of all ratios, kind by kind, and of inputs that are cut off."""
-    every = refused = 0
+    every, refused, sides = 0, 0, collections.Counter()
     for kind in KINDS:
         ratios = made(kind)
         wanted = [line(p, q) for p, q in ratios]
@@ -199,13 +236,15 @@ def compare(program):
         if found != wanted:
             wrong = [(r, w, f) for r, w, f in zip(ratios, wanted, found) if w != f]
             sys.exit(f'{kind.__name__}: {len(wanted)} lines wanted, {len(found)} found; first that differ: {wrong[:3]}')
-        every, refused = every + len(wanted), refused + wanted.count('refused 18')
-        print(f'{kind.__name__:12} {len(wanted):6} ratios equal, {wanted.count("refused 18")} of them refused')
+        every, refused, sides = every + len(wanted), refused + wanted.count(REFUSED), sides + count_sides(ratios, wanted)
+        print(f'{kind.__name__:12} {len(wanted):6} ratios equal, {wanted.count(REFUSED)} of them refused')
     whole = packed(PRINTED_RATIOS)
     for length in range(len(whole)):
         if run(program, whole[:length]) != [line(p, q) for p, q in PRINTED_RATIOS[:length // 16]]:
             sys.exit(f'input cut off after {length} bytes: another number of lines than whole ratios')
     print(f'{every} ratios equal, {refused} of them refused; {len(whole)} inputs cut off, of which each whole ratio has its line')
+    print(f'their sides: {told_of_sides(sides)}')
+    must_have_sides(sides, 'all kinds together')
     if every < 100000:
         sys.exit('fewer than 100,000 ratios')
 

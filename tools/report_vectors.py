@@ -9,7 +9,8 @@
 OTHER is meant to be tools/independent_report.c, compiled with gcc -O2. What is looked at in a text: the form and the order of its lines,
 its W as that of the joins that count, its n, S and M as those of the zones that these touch, the numerators and divisors by the numbers of
 its first lines, a local line for each of these zones and no other, in hot-list order, that local numerators add up to P, classes to the
-joins line, categories to W and the rank to the number of shuffles, and that each float is the nearest to its ratio, in exact fractions.
+joins line, categories to W and the rank to the number of shuffles, that each float is the nearest to its ratio, and that its sign says
+on which side of the ratio the printed float lies, both in exact fractions. That wrong signs would be seen is tried on the samples' reports.
 Where zones are left out, the text must be that of the job of the kept zones alone, with the joins among them, but for the zone numbers;
 where none is kept, the number must be 6, and where the kept values are equal, 7. An image whose number was found by hand must be refused
 with that number, and that of a job that breaks no rule must be accepted; any other must be accepted, or refused with a number that the
@@ -36,7 +37,7 @@ from image_cases import (BAND, FAR, LONGEST, MARK_LAST, REPORT, any_bytes, by_ha
                          job_with_all, kept_of, largest, largest_job, left_out, marked, marked_at_times, marks_of, some_bytes, touching,
                          with_drawn_marks, with_marks, with_spread)
 from job_image import NOT_RETURNED, Job, decode, encode, flat, sections_of
-from nearest_float import nearest_bits
+from nearest_float import SIGNS, nearest_bits, side_sign
 
 SAMPLES = pathlib.Path(__file__).resolve().parent.parent / 'samples'
 SEED = 20261121
@@ -44,16 +45,17 @@ RUNS, RATIO = 300, 1.5  # how often each program is timed, and how much longer t
 NUMBERS = {1, 3, 4, 5, 6, 7, 8, 10, 11, 12, 13, 14, 15, 16, 17}  # every number that the reader can give
 REFUSALS = {f'refused {number}\n': number for number in NUMBERS}  # what is written then; any other text is looked at as a report
 
-WHOLE, ABOVE, NUMBER, BITS = '(?:0|[1-9][0-9]*)', '[1-9][0-9]*', '(?:0|-?[1-9][0-9]*)', '[0-9A-F]{16}'
+WHOLE, ABOVE, NUMBER = '(?:0|[1-9][0-9]*)', '[1-9][0-9]*', '(?:0|-?[1-9][0-9]*)'
+COEFFICIENT = f'[0-9A-F]{{16}}[{SIGNS}]'  # the float's bits and, unspaced, the sign of its side
 FORMS = {
     'zones': f'{ABOVE} {NUMBER} {ABOVE}',
     'joins': f'{ABOVE} {NUMBER} {WHOLE}',
-    'moran': f'{NUMBER} {ABOVE} {BITS}',
-    'geary': f'{WHOLE} {ABOVE} {BITS}',
+    'moran': f'{NUMBER} {ABOVE} {COEFFICIENT}',
+    'geary': f'{WHOLE} {ABOVE} {COEFFICIENT}',
     'expected': f'-1 {ABOVE}',
-    'local': f'{WHOLE} {NUMBER} {ABOVE} {BITS}',
+    'local': f'{WHOLE} {NUMBER} {ABOVE} {COEFFICIENT}',
     'pair': f'[0-7] [0-7] {ABOVE}',
-    'class': f'[0-8] {WHOLE} {NUMBER} {WHOLE} (?:{BITS} {BITS}|- -)',
+    'class': f'[0-8] {WHOLE} {NUMBER} {WHOLE} (?:{COEFFICIENT} {COEFFICIENT}|- -)',
     'rank': f'{WHOLE} {WHOLE} {WHOLE}',
 }
 
@@ -70,9 +72,12 @@ RETURNED, MARK, MARKS, UNTOUCHED = 'all values returned', 'one not returned', 's
 LEAVES, FROM, TO = 'a neighbour that leaves with such a zone', 'a join from such a zone to a kept one', 'to such a zone'
 LOST_PAIR, LOST_CLASS, LOST_RANK = ('joins that do not count, with pair lines', 'with class lines',
                                     'with a rank of less, equal and greater')
+NAMES = MORAN, GEARY, LOCAL, CLASS_MORAN, CLASS_GEARY = 'moran', 'geary', 'local', 'class moran', 'class geary'
+SIDES = {(name, is_negative, sign): f'{name}{" below 0" * is_negative} `{sign}`'  # Geary's c is never below 0
+         for name, is_negative, sign in itertools.product(NAMES, (False, True), SIGNS) if 'geary' not in name or not is_negative}
 REACHED = [PAIR, CLASS, RANK, WEIGHTLESS, NEGATIVE_P, NEGATIVE_L, TIES, NOUGHT, DOWN, UP, EIGHT, BEYOND, THREE, TWO, MANY, LONG, NO_ZONE,
            ONE, SEVERAL, FIRST, LAST, BUT_TWO, ROW, COLUMN, OUT_PAIR, OUT_CLASS, OUT_RANK, RETURNED, MARK, MARKS, UNTOUCHED, LEAVES, FROM,
-           TO, LOST_PAIR, LOST_CLASS, LOST_RANK]
+           TO, LOST_PAIR, LOST_CLASS, LOST_RANK, *SIDES.values()]
 
 
 def must(holds, told):
@@ -287,6 +292,7 @@ def cases():
 # ---- the printed text by itself
 
 float_of = functools.lru_cache(maxsize=None)(lambda p, q: f'{nearest_bits(p, q):016X}')
+sign_of = functools.lru_cache(maxsize=None)(lambda digits, p, q: side_sign(int(digits, 16), p, q))
 
 
 def lines_by_word(text, job):
@@ -310,15 +316,20 @@ def numbers(fields):
     return [int(field) for field in fields]
 
 
+def ratios_of(n, m, w, p, g):
+    """The ratios that Moran's I and Geary's c are, each a numerator and a divisor."""
+    return (p, w * m), ((n - 1) * n * g, 2 * w * m)
+
+
 def look_at_job(lines, job, kept):
     """The lines of the whole job, n, S and M being those of the kept zones; answers n, M, W, P and G."""
     (n, total, m), (w, p, g) = numbers(lines['zones'][0]), numbers(lines['joins'][0])
     values = [job.values[zone] for zone in kept]
     must((n, total) == (len(kept), sum(values)) and w == sum(weight for _, _, weight in counting(job)), 'another n, S or W')
     must(m == n * sum(value * value for value in values) - total * total, 'M is not n times the squares less S squared')
-    must(lines['moran'][0] == [str(p), str(w * m), float_of(p, w * m)], 'moran is not P over W M')
-    over, under = (n - 1) * n * g, 2 * w * m
-    must(lines['geary'][0] == [str(over), str(under), float_of(over, under)], 'geary is not (n-1) n G over 2 W M')
+    moran, geary = ratios_of(n, m, w, p, g)
+    must(numbers(lines['moran'][0][:2]) == [*moran], 'moran is not P over W M')
+    must(numbers(lines['geary'][0][:2]) == [*geary], 'geary is not (n-1) n G over 2 W M')
     must(lines['expected'][0] == ['-1', str(n - 1)], 'expected is not -1 over n-1')
     return n, m, w, p, g
 
@@ -331,7 +342,6 @@ def look_at_locals(lines, kept, m, p):
     must(order == sorted(order), 'the local lines are not in hot-list order')
     must(sum(l for _, l, _ in rows) == p, 'the local numerators do not add up to P')
     must(all(under == m for _, _, under in rows), 'a local divisor that is not M')
-    must(all(fields[3] == float_of(l, m) for fields, (_, l, _) in zip(lines['local'], rows)), 'a local float that is not the nearest')
     return [l for _, l, _ in rows]
 
 
@@ -342,21 +352,47 @@ def look_at_pairs(lines, w):
     must(not rows or sum(row[2] for row in rows) == w, 'the pair lines do not add up to W')
 
 
-def look_at_classes(lines, n, m, sums):
+def look_at_classes(lines, sums):
     """The class lines: from 0 on, adding up to the joins line, `-` exactly where there is no weight; answers the W of each class."""
     rows = [numbers(fields[:4]) for fields in lines['class']]
     must([row[0] for row in rows] == list(range(len(rows))), 'the class lines do not rise from 0')
     must(not rows or [sum(column) for column in zip(*rows)][1:] == sums, 'the classes do not add up to the joins line')
-    for (_, w, p, g), fields in zip(rows, lines['class']):
-        wanted = [float_of(p, w * m), float_of((n - 1) * n * g, 2 * w * m)] if w else ['-', '-']
-        must(fields[4:] == wanted and (w or p == g == 0), f'class {fields[0]}: other coefficients than its sums give')
+    for (k, w, p, g), fields in zip(rows, lines['class']):
+        must((w == 0) == (fields[4:] == ['-', '-']), f'class {k}: `-` with weight, or coefficients without')
+        must(w or p == g == 0, f'class {k}: P or G without weight')
     return [row[1] for row in rows]
+
+
+def coefficients_in(lines, n, m):
+    """Every printed coefficient: its name, what is printed, and its ratio by its own line, which for a class has W, P and G alone."""
+    for name in (MORAN, GEARY):
+        over, under, printed = lines[name][0]
+        yield name, printed, int(over), int(under)
+    for _, over, under, printed in lines['local']:
+        yield LOCAL, printed, int(over), int(under)
+    for _, *sums, moran, geary in lines['class']:
+        if moran != '-':
+            of_moran, of_geary = ratios_of(n, m, *numbers(sums))
+            yield CLASS_MORAN, moran, *of_moran
+            yield CLASS_GEARY, geary, *of_geary
+
+
+def look_at_coefficients(lines, n, m):
+    """Each coefficient: its digits are the float nearest to its ratio, and its sign says on which side the float of these digits lies;
+    answers the sides, each with the name of the coefficient and whether that is below 0."""
+    sides = set()
+    for name, printed, p, q in coefficients_in(lines, n, m):
+        digits, sign = printed[:-1], printed[-1]
+        must(digits == float_of(p, q), f'{name}: {digits} is not the nearest float of {p} / {q}')
+        must(sign == sign_of(digits, p, q), f'{name}: `{sign}` is not how {digits} lies to {p} / {q}')
+        sides.add((name, p < 0, sign))
+    return sides
 
 
 def shape(job, kept, lines):
     """What the zones that are kept and left out are like."""
     left = [zone for zone in range(len(job.values)) if zone not in kept]
-    starts, ends = ({join[side] for join in counting(job)} for side in (0, 1))
+    starts, ends = ({join[end] for join in counting(job)} for end in (0, 1))
     return {NO_ZONE: not left, ONE: len(left) == 1, SEVERAL: len(left) > 1, FIRST: 0 in left, LAST: len(job.values) - 1 in left,
             BUT_TWO: left and len(kept) == 2, ROW: starts - ends, COLUMN: ends - starts, OUT_PAIR: left and lines['pair'],
             OUT_CLASS: left and lines['class'], OUT_RANK: left and lines['rank'] and '0' not in lines['rank'][0]}
@@ -379,15 +415,51 @@ def look(text, data):
     n, m, w, p, g = look_at_job(lines, job, kept)
     local = look_at_locals(lines, kept, m, p)
     look_at_pairs(lines, w)
-    weights = look_at_classes(lines, n, m, [w, p, g])
+    weights = look_at_classes(lines, [w, p, g])
+    sides = look_at_coefficients(lines, n, m)
     rank = [numbers(fields) for fields in lines['rank']]
     must(all(sum(counts) == len(job.shuffles) for counts in rank), 'the rank does not add up to the number of shuffles')
-    parts = [part % 4 for part in (odd_part(p, w * m), odd_part((n - 1) * n * g, 2 * w * m)) if part.bit_length() == 54]
+    parts = [part % 4 for part in itertools.starmap(odd_part, ratios_of(n, m, w, p, g)) if part.bit_length() == 54]
     has = {PAIR: lines['pair'], CLASS: weights, RANK: rank, WEIGHTLESS: 0 in weights, NEGATIVE_P: p < 0, NEGATIVE_L: min(local) < 0,
            TIES: len(set(local)) < n, NOUGHT: p == 0, DOWN: 1 in parts, UP: 3 in parts, EIGHT: len(weights) == 9,
            BEYOND: weights and weights[0] > 0, THREE: rank and min(rank[0]) > 0, TWO: len(job.values) == 2, MANY: n == 64,
-           LONG: len(data) == LONGEST, **shape(job, kept, lines), **shape_of_marks(job, kept, lines)}
+           LONG: len(data) == LONGEST, **shape(job, kept, lines), **shape_of_marks(job, kept, lines),
+           **{told: side in sides for side, told in SIDES.items()}}
     return [word for word in REACHED if has[word]]
+
+
+# ---- that a wrong sign would be seen
+
+def with_wrong_signs(text):
+    """A report with one sign wrong, or with one behind a `-`: another sign, none, two, and one apart from the digits."""
+    for found in re.finditer(f'(?<=[0-9A-F]{{16}})[{SIGNS}]', text):
+        for wrong in (*SIGNS.replace(found[0], ''), '', found[0] * 2, ' ' + found[0]):
+            yield text[:found.start()] + wrong + text[found.end():]
+    for found in re.finditer(r'(?<= )-(?=\s)', text):
+        for wrong in SIGNS:
+            yield text[:found.end()] + wrong + text[found.end():]
+
+
+def is_seen(wrong, data):
+    """Whether looking at the text of an image ends the run."""
+    try:
+        look(wrong, data)
+    except SystemExit:
+        return True
+    return False
+
+
+def look_at_samples():
+    """The reports of the samples by themselves, and again with wrong signs, each of which must be seen; answers how many."""
+    count = 0
+    for path in sorted(SAMPLES.glob('*.image')):
+        text, data = path.with_suffix('.report').read_text(), path.read_bytes()
+        if text not in REFUSALS:
+            look(text, data)
+            wrongs = [*with_wrong_signs(text)]
+            must(all(is_seen(wrong, data) for wrong in wrongs), f'{path.stem}: a wrong sign is not seen')
+            count += len(wrongs)
+    return count
 
 
 # ---- the comparison
@@ -527,7 +599,7 @@ def compare_all(program, other, made):
 
 def compare(program, other):
     """Compares all images and prints what was compared."""
-    begun, made = time.monotonic(), list(cases())
+    begun, wrong, made = time.monotonic(), look_at_samples(), list(cases())
     samples, pieces = compare_samples((program, other)), compare_pieces((program, other))
     given, marked_given, reached, with_left_out = compare_all(program, other, made)
     taken, marked_taken = given.pop(0), marked_given.pop(0)
@@ -538,6 +610,7 @@ def compare(program, other):
     must(set(marked_given) >= NUMBERS - {1}, 'every number but 1 must be reached where values are not returned')
     must(len(made) >= 6000 and taken >= 2000, 'too few images')
     print(f"{samples} samples as they are kept, document 01's report among them; {pieces} inputs in pieces: equal")
+    print(f'{wrong} wrong signs in the reports of the samples, all seen')
     print(f'{with_left_out} accepted with zones left out, each as the job of its kept zones alone')
     print(f'{marked_taken + sum(marked_given.values())} with values not returned, {marked_taken} of them accepted, {marked_given[6]} refused '
           f'with 6 and {marked_given[7]} with 7')

@@ -6,13 +6,15 @@
     samples.py --check PROGRAM  the same, and that PROGRAM writes each report on its image
 
 `report` is document 01's worked report: the job that the document names, in the image put together by hand in image_cases.py, and its
-text as request A.6 changed it. `island` is a job with all parts and of the largest number of zones. `lagoon` is a small one with a
-district that touches nobody, which is left out. `atoll` is one with a value not returned (request A.7), so that this district is left out,
-and with it the one that has no other neighbour. `refused` is a job with one plain mistake. The reports of island, lagoon and atoll are
-those of independent_report.c, which is compiled here with gcc; that program must write the other two reports as well, byte for byte.
+text as requests A.6 and A.10 changed it. `island` is a job with all parts and of the largest number of zones. `lagoon` is a small one
+with a district that touches nobody, which is left out. `atoll` is one with a value not returned (request A.7), so that this district is
+left out, and with it the one that has no other neighbour. `refused` is a job with one plain mistake. The reports of island, lagoon and
+atoll are those of independent_report.c, which is compiled here with gcc; that program must write the other two reports as well, byte for
+byte. The reports together show each side of a float, below 0 and above.
 """
 import itertools
 import pathlib
+import re
 import subprocess
 import sys
 import tempfile
@@ -20,32 +22,34 @@ import tempfile
 from image_cases import REPORT
 from job_image import Job, decode, encode
 from job_text import SAMPLES, image_of, text_of
+from nearest_float import SIGNS
 
 SOURCE = pathlib.Path(__file__).resolve().parent / 'independent_report.c'
 GCC = ['gcc', '-O2', '-Wall', '-Wextra', '-Werror', '-std=c17']
 SEED = 20261120
-SIDE = 8  # the island has as many rows of districts, and as many in a row
+ROWS = 8  # the island has as many rows of districts, and as many in a row
 APART = 40  # how far two districts of a row lie from each other, about
 NEAR = 64 * 64  # the squared distance up to which two districts have a boundary
 
-# the job that document 01 names, and its report: zone 3 touches nobody, so the numbers are those that request A.6 gives
+# the job that document 01 names, and its report: zone 3 touches nobody, so the numbers are those that request A.6 gives, and every float
+# equals its ratio, so that request A.10 puts `=` behind each
 JOB_01 = Job([1, 1, 3, 3], [0, 0, 1, 1], [(0, 1, 3), (1, 0, 3), (1, 2, 1), (2, 1, 1)], [(0, 0), (1, 0), (3, 0), (9, 9)], [1, 4],
              [(0, 1, 2, 3), (2, 1, 0, 3)])
 REPORT_01 = """\
 zones 3 5 8
 joins 8 8 8
-moran 8 64 3FC0000000000000
-geary 48 128 3FD8000000000000
+moran 8 64 3FC0000000000000=
+geary 48 128 3FD8000000000000=
 expected -1 2
-local 0 12 8 3FF8000000000000
-local 1 4 8 3FE0000000000000
-local 2 -8 8 BFF0000000000000
+local 0 12 8 3FF8000000000000=
+local 1 4 8 3FE0000000000000=
+local 2 -8 8 BFF0000000000000=
 pair 0 0 6
 pair 0 1 1
 pair 1 0 1
 class 0 0 0 0 - -
-class 1 6 24 0 3FE0000000000000 0000000000000000
-class 2 2 -16 8 BFF0000000000000 3FF8000000000000
+class 1 6 24 0 3FE0000000000000= 0000000000000000=
+class 2 2 -16 8 BFF0000000000000= 3FF8000000000000=
 rank 1 1 0
 """
 
@@ -201,22 +205,22 @@ def squared(places, start, end):
 def island_places(draw):
     """Rows of districts, each moved a little, the rows shorter at the two ends of the island."""
     places = []
-    for row, column in itertools.product(range(SIDE), repeat=2):
-        wide = APART - (2 * row - SIDE + 1) ** 2 // 8
-        places.append(((2 * column - SIDE + 1) * wide // 2 + 5 * row + draw.between(-9, 9),
-                       (SIDE - 1 - 2 * row) * APART // 2 + draw.between(-9, 9)))
+    for row, column in itertools.product(range(ROWS), repeat=2):
+        wide = APART - (2 * row - ROWS + 1) ** 2 // 8
+        places.append(((2 * column - ROWS + 1) * wide // 2 + 5 * row + draw.between(-9, 9),
+                       (ROWS - 1 - 2 * row) * APART // 2 + draw.between(-9, 9)))
     return places
 
 
 def island_values(draw):
     """Households become more around the harbour town in the south-east, and fewer far from it, with much that is by chance."""
     return [120 - 5 * ((row - 5) ** 2 + (column - 6) ** 2) + draw.between(-400, 400)
-            for row, column in itertools.product(range(SIDE), repeat=2)]
+            for row, column in itertools.product(range(ROWS), repeat=2)]
 
 
 def island_categories(draw):
     """Use by the distance from the harbour town, and here and there another one."""
-    rings = [(row - 5) ** 2 + (column - 6) ** 2 for row, column in itertools.product(range(SIDE), repeat=2)]
+    rings = [(row - 5) ** 2 + (column - 6) ** 2 for row, column in itertools.product(range(ROWS), repeat=2)]
     uses = [sum(ring > end for end in (0, 2, 8, 13, 20, 32, 45)) for ring in rings]
     return [draw.between(2, 7) if draw.between(1, 9) == 1 else use for use in uses]
 
@@ -240,7 +244,7 @@ def island():
     """The job of the island."""
     draw = Draw(SEED)
     places = island_places(draw)
-    bands = [side * side for side in (30, 40, 50, 64, 90, 130, 180, 240)]
+    bands = [far * far for far in (30, 40, 50, 64, 90, 130, 180, 240)]
     return Job(island_values(draw), island_categories(draw), island_joins(draw, places), places, bands,
                [draw.shuffled(len(places)) for _ in range(499)])
 
@@ -287,11 +291,12 @@ def made():
     images = {name: image_of(text) for name, text in texts.items()}
     must_be_document_01(images['report'])
     printed = reports(images)
-    must(printed['report'] == REPORT_01.encode(), "independent_report.c does not write document 01's report as A.6 changed it")
+    must(printed['report'] == REPORT_01.encode(), "independent_report.c does not write document 01's report as A.6 and A.10 changed it")
     must(printed['refused'] == b'refused 5\n', 'independent_report.c does not refuse the job with the mistake')
     must_have_all(printed['island'].decode())
     for name, zones in LEFT_OUT.items():
         must_leave_out(name, zones, decode(images[name]), printed[name].decode())
+    must_show_sides(b''.join(printed.values()).decode())
     files = {f'{name}.txt': text.encode() for name, text in texts.items()}
     files |= {f'{name}.image': image for name, image in images.items()}
     return files | {f'{name}.report': report for name, report in printed.items()}
@@ -317,6 +322,12 @@ def must_leave_out(name, zones, job, report):
     must({line[1] for line in lines if line[0] == 'local'} == {str(zone) for zone in kept}, f'{name}: local lines of other districts')
     must({line[0] for line in lines} >= {'pair', 'class', 'rank'}, f'{name}: lines of some kind lack')
     must('0' not in lines[-1], f'{name}: no shuffles on each side of the rank')
+
+
+def must_show_sides(reports):
+    """Of figures below 0 and of others there must be each side: a reader sees by them that the sign goes by value and not by size."""
+    shown = {(int(bits, 16) >> 63, sign) for bits, sign in re.findall(f'([0-9A-F]{{16}})([{SIGNS}])', reports)}
+    must(shown == {*itertools.product((0, 1), SIGNS)}, 'the reports do not show each side of floats below 0 and above')
 
 
 def make():

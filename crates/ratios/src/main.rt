@@ -1,17 +1,27 @@
-// The nearest float of each ratio of standard input. A line for each: the float's 64 bits in 16 hexadecimal digits, or `refused` and the
-// number.
+// The nearest float of each ratio of standard input. A line for each: the float's 64 bits in 16 hexadecimal digits, and right behind them `=`,
+// `<` or `>` where the float is equal to the ratio, below it or above it; or `refused` and the number.
 //
 // A ratio is p and q in eight bytes each, their lowest byte first. tools/ratios.py makes ratios, and what must be written, by a division
 // of its own.
 #![tactic(auto)]
 
+use nearest::Side;
 use std::io;
 use std::io::Print;
+
+// The sign of a side.
+fn sign(side: Side) -> char {
+    match side {
+        Side::Equal => '=',
+        Side::Below => '<',
+        Side::Above => '>',
+    }
+}
 
 // The line of one ratio.
 fn print_answer(rt: &impl Print, p: i64, q: i64) -> io::Result<()> {
     match nearest::nearest(p, q) {
-        Ok(x) => println!(rt; "{:016X}", x.to_bits()),
+        Ok(x) => println!(rt; "{:016X}{}", x.float.to_bits(), sign(x.side)),
         Err(refusal) => println!(rt; "refused {}", refusals::number_by(refusal)),
     }
 }

@@ -1,5 +1,5 @@
 -- The lines of a job are those that its account, its pair and its hot list give. Assumes nothing.
-use mathlib.Core.Path.{◌≡◌, refl, sym, ap, ◌∙◌}
+use mathlib.Core.Path.{◌≡◌, refl, sym, ap, ap₂, ◌∙◌}
 use mathlib.Core.Bool.{Bool, false, cond}
 use mathlib.Core.List.{List, [], ◌∷◌, ◌++◌, append_assoc}
 use Prim.Native.Nat.{ℕ, zero, suc, ◌<◌}
@@ -17,8 +17,9 @@ use Rattle.whole.proofs.Size.{one_some}
 use Rattle.whole.proofs.Stores.{each_same}
 use Rattle.whole.proofs.Table.{table_length, table_at}
 use Rattle.refusals.specs.declared.Refusal.{Refusal}
-use Rattle.nearest.specs.Answers.{nearest_bits}
-use Rattle.pages.specs.Lines.{line, numbers, bits}
+use Rattle.nearest.specs.Answers.{nearest_bits, nearest_side}
+use Rattle.nearest.specs.Sides.{side_number}
+use Rattle.pages.specs.Lines.{line, numbers}
 use Rattle.kept.specs.Kept.{keeps, kept_count, kept_values, kept_pairs}
 use Rattle.kept.specs.Returned.{reduced}
 use Rattle.account.specs.Measures.{total_of, deviation_of, spread_of, weight_of, cross_of, squares_of}
@@ -29,10 +30,10 @@ use Rattle.account.specs.declared.Sums.{Sums}
 use Rattle.account.proofs.Theorems.{accepted_limits, kept_least, kept_most, weight_one, spread_one, job_locals_length}
 use Rattle.hot_list.specs.HotList.{in_order, hot_list}
 use Rattle.hot_list.proofs.HotTheorems.{hot_list_length, hot_list_each, hot_list_kept_first}
-use Rattle.coefficients.specs.Coefficients.{pair_of, job_pair, class_pair, local_figures}
+use Rattle.coefficients.specs.Coefficients.{pair_of, job_pair, class_pair, local_figures, local_sides}
 use Rattle.coefficients.specs.Coefficients as coefficients
 use Rattle.coefficients.specs.FloatReport.{sums_in, pair_in, pairs_in, no_pair, plain_refusal, plain_sums, plain_whole, plain_classes}
-use Rattle.coefficients.specs.FloatReport.{plain_rows, plain_locals, plain_figures}
+use Rattle.coefficients.specs.FloatReport.{plain_rows, plain_locals, plain_figures, plain_sides}
 use Rattle.coefficients.specs.declared.Pair.{Pair}
 use Rattle.coefficients.specs.declared.Report.{Report}
 use Rattle.coefficients.proofs.Job.{spread_in, kept_in}
@@ -41,7 +42,8 @@ use Rattle.report.specs.Lines.{coefficient}
 use Rattle.report.specs.Text.{whole_lines, job_lines, local_line, local_lines, pair_lines, rank_line, class_lines}
 use Rattle.report.specs.Text.{numbered, where_given, job_text}
 use Rattle.report.specs.Steps.{Within, Sound, Low, Classed}
-use Rattle.report.specs.Steps.{sum_lines, ratio_lines, zone_line}
+use Rattle.report.specs.Steps.{sum_lines, ratio_lines, rounded_by, zone_line}
+use Rattle.report.proofs.LineLaws.{rounded_same}
 use Rattle.report.proofs.Listed.{class_text}
 
 -- ---- items of which those that pass a test stand first: only they have a text
@@ -81,9 +83,22 @@ module _ (n : ℕ) (values : List ℤ) (weights : List ℕ) where
   unfolding local_figures
   figure_at i h = table_at (λ i. nearest_bits (at locals i) M) (length locals) i 0 h
 
-  one_zone : (zone : ℕ) → zone < length locals → zone_line locals figures M zone ≡ local_line locals M zone
+  abbrev sides : List ℕ
+  sides = local_sides M locals
+
+  pub sides_length : length sides ≡ length locals
+  unfolding local_sides
+  sides_length = table_length (λ i. side_number (nearest_side (at locals i) M)) (length locals)
+
+  side_at : (i : ℕ) → i < length locals → get_or sides i 0 ≡ side_number (nearest_side (at locals i) M)
+  unfolding local_sides
+  side_at i h = table_at (λ i. side_number (nearest_side (at locals i) M)) (length locals) i 0 h
+
+  one_zone : (zone : ℕ) → zone < length locals → zone_line locals figures sides M zone ≡ local_line locals M zone
   unfolding zone_line local_line
-  one_zone zone h = ap (λ x. line "local" (numbers (pos zone ∷ at locals zone ∷ M ∷ []) ++ bits x)) (figure_at zone h)
+  one_zone zone h =
+      ap (λ x. line "local" (numbers (pos zone ∷ at locals zone ∷ M ∷ []) ++ x))
+      (ap₂ rounded_by (figure_at zone h) (side_at zone h) ∙ rounded_same _ (nearest_side (at locals zone) M))
 
   below : (k : ℕ) → k < length (hot_list n values weights) → get_or (hot_list n values weights) k 0 < length locals
   below k h =
@@ -91,23 +106,23 @@ module _ (n : ℕ) (values : List ℤ) (weights : List ℕ) where
       omega (arith, job_locals_length n values weights)
 
   all_lines :
-      each (zone_line locals figures M) (take (job_kept n values weights) (in_order n values weights locals)) ≡ local_lines n values weights
+      each (zone_line locals figures sides M) (take (job_kept n values weights) (in_order n values weights locals)) ≡ local_lines n values weights
   unfolding local_lines hot_list
   all_lines =
       sym
-      (first_only (keeps n counting) (zone_line locals figures M) (hot_list n values weights) (job_kept n values weights)
+      (first_only (keeps n counting) (zone_line locals figures sides M) (hot_list n values weights) (job_kept n values weights)
       (λ p h. hot_list_kept_first n values weights p (omega (arith, hot_list_length n values weights))))
-      ∙ each_same (λ zone. cond (keeps n counting zone) (zone_line locals figures M zone) [])
+      ∙ each_same (λ zone. cond (keeps n counting zone) (zone_line locals figures sides M zone) [])
       (λ zone. cond (keeps n counting zone) (local_line locals M zone) [])
       0 (hot_list n values weights)
       (λ k h. ap (λ l. cond (keeps n counting (get_or (hot_list n values weights) k 0)) l []) (one_zone _ (below k h)))
 
   -- as the lists, the spread and the number of zones kept that were handed out hold them
   pub zones_are :
-      {held : List ℤ} {floats : List ℕ} {spread : ℤ} {many : ℕ} → held ≡ locals → floats ≡ figures → spread ≡ M →
+      {held : List ℤ} {floats of_floats : List ℕ} {spread : ℤ} {many : ℕ} → held ≡ locals → floats ≡ figures → of_floats ≡ sides → spread ≡ M →
       many ≡ job_kept n values weights →
-      each (zone_line held floats spread) (take many (in_order (length held) values weights held)) ≡ local_lines n values weights
-  zones_are g h f k = rw (f, g, h, k, job_locals_length n values weights) all_lines
+      each (zone_line held floats of_floats spread) (take many (in_order (length held) values weights held)) ≡ local_lines n values weights
+  zones_are g h s f k = rw (f, g, h, s, k, job_locals_length n values weights) all_lines
 
 -- ---- the sums that the account answers
 module _ (n : ℕ) (values : List ℤ) (weights : List ℕ) (sound : Sound n values weights) where
@@ -185,42 +200,50 @@ module _ (n : ℕ) (values : List ℤ) (weights : List ℕ) (sound : Sound n val
 
 -- ---- the plain report refuses nothing
 
--- it answers the sums and the pair of the job and the pairs of the classes, and leaves the rows, the local numerators and figures
-pub record Reports (n : ℕ) (values : List ℤ) (weights classes : List ℕ) (report : Report) (rows locals : List ℤ) (figures : List ℕ)
-    : Type 0 where
+-- it answers the sums and the pair of the job and the pairs of the classes, and leaves the rows, the local numerators and the figures with their sides
+pub record Reports (n : ℕ) (values : List ℤ) (weights classes : List ℕ) (report : Report) (rows locals : List ℤ)
+    (figures sides : List ℕ) : Type 0 where
   pub sums : listed report.whole.sums ≡ job_figures n values weights
   pub of_job : report.whole.pair ≡ job_pair n values weights
   pub of_classes : report.classes ≡ table (class_pair n values weights classes) 9
   pub in_rows : rows ≡ class_sums n values weights classes
   pub in_locals : locals ≡ job_locals n values weights
   pub of_zones : figures ≡ local_figures (job_spread n values weights) (job_locals n values weights)
+  pub of_sides : sides ≡ local_sides (job_spread n values weights) (job_locals n values weights)
 
 module _ {n : ℕ} {values : List ℤ} {weights classes : List ℕ} (sound : Sound n values weights) (low : Low n classes)
-    (rows locals : List ℤ) (figures : List ℕ) (rows_fit : length rows ≡ 27) (locals_fit : length locals ≡ n)
-    (figures_fit : length figures ≡ n) where
-  pub plain_taken : plain_refusal n values weights classes rows locals figures ≡ 0
+    (rows locals : List ℤ) (figures sides : List ℕ) (rows_fit : length rows ≡ 27) (locals_fit : length locals ≡ n)
+    (figures_fit : length figures ≡ n) (sides_fit : length sides ≡ n) where
+  pub plain_taken : plain_refusal n values weights classes rows locals figures sides ≡ 0
   unfolding plain_refusal
   plain_taken =
-      sound.classed classes ((length rows, 27) ∷ (length locals, n) ∷ (length figures, n) ∷ []) low.classes_fit low.low
-      (rw (eq-eqb (length rows) 27 rows_fit, eq-eqb (length locals) n locals_fit, eq-eqb (length figures) n figures_fit) refl)
+      sound.classed classes ((length rows, 27) ∷ (length locals, n) ∷ (length figures, n) ∷ (length sides, n) ∷ []) low.classes_fit low.low
+      (rw (
+        eq-eqb (length rows) 27 rows_fit,
+        eq-eqb (length locals) n locals_fit,
+        eq-eqb (length figures) n figures_fit,
+        eq-eqb (length sides) n sides_fit,
+      ) refl)
 
   pub reports :
-      {r : Result Report Refusal} {report : Report} {in_rows in_locals : List ℤ} {in_figures : List ℕ} → r ≡ Ok report →
-      sums_in r ≡ plain_sums n values weights classes rows locals figures →
-      pair_in r ≡ plain_whole n values weights classes rows locals figures →
-      pairs_in r ≡ plain_classes n values weights classes rows locals figures →
-      in_rows ≡ plain_rows n values weights classes rows locals figures →
-      in_locals ≡ plain_locals n values weights classes rows locals figures →
-      in_figures ≡ plain_figures n values weights classes rows locals figures →
-      Reports n values weights classes report in_rows in_locals in_figures
-  unfolding sums_in pair_in pairs_in plain_sums plain_whole plain_classes plain_rows plain_locals plain_figures
-  reports told sums whole pairs e f g = record {
+      {r : Result Report Refusal} {report : Report} {in_rows in_locals : List ℤ} {in_figures in_sides : List ℕ} → r ≡ Ok report →
+      sums_in r ≡ plain_sums n values weights classes rows locals figures sides →
+      pair_in r ≡ plain_whole n values weights classes rows locals figures sides →
+      pairs_in r ≡ plain_classes n values weights classes rows locals figures sides →
+      in_rows ≡ plain_rows n values weights classes rows locals figures sides →
+      in_locals ≡ plain_locals n values weights classes rows locals figures sides →
+      in_figures ≡ plain_figures n values weights classes rows locals figures sides →
+      in_sides ≡ plain_sides n values weights classes rows locals figures sides →
+      Reports n values weights classes report in_rows in_locals in_figures in_sides
+  unfolding sums_in pair_in pairs_in plain_sums plain_whole plain_classes plain_rows plain_locals plain_figures plain_sides
+  reports told sums whole pairs e f g h = record {
     sums = sym (ap sums_in told) ∙ sums ∙ worked_when_taken _ _ _ plain_taken;
     of_job = ap (λ l. get_or l 0 no_pair) (sym (ap pair_in told) ∙ whole ∙ worked_when_taken _ _ _ plain_taken);
     of_classes = sym (ap pairs_in told) ∙ pairs ∙ worked_when_taken _ _ _ plain_taken;
     in_rows = e ∙ worked_when_taken _ _ _ plain_taken;
     in_locals = f ∙ worked_when_taken _ _ _ plain_taken;
     of_zones = g ∙ worked_when_taken _ _ _ plain_taken;
+    of_sides = h ∙ worked_when_taken _ _ _ plain_taken;
   }
 
 -- ---- the class lines, where there are bands

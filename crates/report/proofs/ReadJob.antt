@@ -125,7 +125,7 @@ module _ {image : List ℕ} {lent held : Buffers} {counts : Counts} (told : Told
 
   -- what was put of it is what the page must hold
   pub read_prints :
-      {old new : List ℕ} {place : ℕ} → Put old new 0 place 16128 (image_text image) → 16128 ≤ length old →
+      {old new : List ℕ} {place : ℕ} → Put old new 0 place 16203 (image_text image) → 16203 ≤ length old →
       Prints image old new (Ok place)
   unfolding length_in
   read_prints put room =

@@ -1,5 +1,5 @@
 -- What the private functions of the report promise each other. Assumes nothing.
-use Rattle.std.specs.Prelude.{◌≡◌, false, cond, List, [], ◌∷◌, ◌++◌, ℕ, ◌+◌, ◌*◌, ◌-◌, ◌≤◌, ◌<◌, ℤ, pos, negsuc, nat_abs, ◌*ℤ◌, length, get_or, ◌≤ℤ◌, Result}
+use Rattle.std.specs.Prelude.{◌≡◌, false, cond, List, [], ◌∷◌, ◌++◌, ℕ, ◌+◌, ◌*◌, ◌-◌, ◌≤◌, ◌<◌, eqb, ℤ, pos, negsuc, nat_abs, ◌*ℤ◌, length, get_or, ◌≤ℤ◌, Result}
 use Rattle.std.proofs.lemmas.List.Edits.{sets}
 use Rattle.std.specs.Int.Signed.{lt_z}
 use Rattle.whole.specs.Rules.{first_broken, misfits, unless_refused, ratio_limit}
@@ -55,12 +55,13 @@ pub record Within (sums : Sums) : Type 0 where
   pub geary_divisor : nat_abs ((pos 2 *ℤ sums.weight) *ℤ sums.spread) ≤ ratio_limit
 
 -- values, weights and figures of n zones
-pub record Zoned (n values weights figures : ℕ) : Type 0 where
+pub record Zoned (n values weights figures sides : ℕ) : Type 0 where
   pub least : 2 ≤ n
   pub most : n ≤ 64
   pub values_fit : values ≡ n
   pub weights_fit : weights ≡ n * n
   pub figures_fit : figures ≡ n
+  pub sides_fit : sides ≡ n
 
 -- of n zones, those that are listed
 abbrev pub Listed : List ℕ → ℕ → Type 0
@@ -159,10 +160,18 @@ ratio_lines sums pair =
     (numbers ((pos ((sums.kept - 1) * sums.kept) *ℤ sums.squares) ∷ ((pos 2 *ℤ sums.weight) *ℤ sums.spread) ∷ []) ++ coefficient pair.geary)
     ++ line "expected" (numbers (negsuc 0 ∷ pos (sums.kept - 1) ∷ [])))
 
+-- the byte of a sign, by the number of its side in a list
+abbrev pub sign_by : ℕ → ℕ
+sign_by side = cond (eqb side 0) 61 (cond (eqb side 1) 60 62)
+
+-- the bits of a float and that sign
+abbrev pub rounded_by : ℕ → ℕ → List ℕ
+rounded_by b side = bits b ++ (sign_by side ∷ [])
+
 -- the line of a zone
-unfoldable pub zone_line : List ℤ → List ℕ → ℤ → ℕ → List ℕ
-zone_line locals figures spread zone =
-    line "local" (numbers (pos zone ∷ at locals zone ∷ spread ∷ []) ++ bits (get_or figures zone 0))
+unfoldable pub zone_line : List ℤ → List ℕ → List ℕ → ℤ → ℕ → List ℕ
+zone_line locals figures sides spread zone =
+    line "local" (numbers (pos zone ∷ at locals zone ∷ spread ∷ []) ++ rounded_by (get_or figures zone 0) (get_or sides zone 0))
 
 -- the line of two categories
 unfoldable pub table_line : List ℤ → ℕ → ℕ → List ℕ

@@ -58,7 +58,7 @@ module _ (m : ℕ) (x : ℕ → ℤ) (w : ℕ → ℕ → ℕ) where
       ++ (line "geary" (figure [] (pos ((m - 1) * m) *ℤ G) ((pos 2 *ℤ W) *ℤ M))
       ++ line "expected" (numbers (negsuc 0 ∷ pos (m - 1) ∷ [])))))
 
--- zone, L, M and the bits of L / M
+-- zone, L, M and the bits of L / M with their sign
 unfoldable pub local_line : List ℤ → ℤ → ℕ → List ℕ
 local_line locals spread zone = line "local" (figure (pos zone ∷ []) (at locals zone) spread)
 

@@ -6,19 +6,20 @@ ghost use Rattle.report.specs.Steps.{Put, Room, Within, Zoned, Listed};
 ghost use Rattle.coefficients.specs.Steps.{ReadablePair, ReadablePairs};
 ghost use Rattle.report.specs.Steps.{sum_lines, ratio_lines, zone_line, table_line, row_line};
 
-use crate::putting::{self, Line};
+use crate::putting::{self, Line, Local};
 use account::{ClassRow, Sums};
 use coefficients::{Pair, Whole};
 
-// The zones of a job: their values, the weights between them, and of each its local numerator and the bits of its local Moran.
-// These last two stay two lists: the public calls that fill and order them are handed each as one.
+// The zones of a job: their values, the weights between them, and of each its local numerator, the bits of its local Moran and the number of
+// the side that it lies on. These last three stay three lists: the public calls that fill and order them are handed each as one.
 #[derive(Clone, Copy)]
 pub(super) struct Zones<'a> {
     pub(super) values: &'a [i32],
     pub(super) weights: &'a [u8],
     pub(super) locals: &'a [i64],
     pub(super) figures: &'a [u64],
-    ghost zoned: { Zoned (length locals.now) (length values.now) (length weights.now) (length figures.now) },
+    pub(super) sides: &'a [u8],
+    ghost zoned: { Zoned (length locals.now) (length values.now) (length weights.now) (length figures.now) (length sides.now) },
 }
 
 // The number of zones kept, S, M, then W P G. That a figure is no NaN and that at most 64 zones are kept is asked by each function: Pair
@@ -51,8 +52,8 @@ pub(super) fn put_sums(page: &mut [u8], at: usize, sums: Sums) -> usize
 pub(super) fn put_ratios(page: &mut [u8], at: usize, whole: Whole) -> usize
     requires within { Within whole.sums }
     requires readable_pair { ReadablePair whole.pair }
-    requires room { Room page.old at 352 }
-    ensures { Put page.old page.new at result 352 (ratio_lines whole.sums whole.pair) }
+    requires room { Room page.old at 354 }
+    ensures { Put page.old page.new at result 354 (ratio_lines whole.sums whole.pair) }
 {
     let sums = whole.sums;
     let pair = whole.pair;
@@ -82,7 +83,7 @@ pub(super) fn put_ratios(page: &mut [u8], at: usize, whole: Whole) -> usize
     putting::put_line(page, end, &expected)
 }
 
-// The zones in the order given, each with its local numerator, M and its local Moran.
+// The zones in the order given, each with its local numerator, M and its local Moran with its sign.
 pub(super) fn put_zones(
     page: &mut [u8],
     at: usize,
@@ -91,9 +92,9 @@ pub(super) fn put_zones(
     spread: i64,
 ) -> usize
     requires listed { Listed order.now (length zones.now.locals.now) }
-    requires room { Room page.old at (128 * length order.now) }
-    ensures { Put page.old page.new at result (128 * length order.now)
-        (each (zone_line zones.now.locals.now zones.now.figures.now spread) order.now) }
+    requires room { Room page.old at (129 * length order.now) }
+    ensures { Put page.old page.new at result (129 * length order.now)
+        (each (zone_line zones.now.locals.now zones.now.figures.now zones.now.sides.now spread) order.now) }
 {
     let mut place = at;
     for &zone in order {
@@ -102,7 +103,11 @@ pub(super) fn put_zones(
             word: b"local",
             numbers: &[i64::from(zone), zones.locals[of_zone], spread],
         };
-        place = putting::put_field_line(page, place, &line, zones.figures[of_zone]);
+        let local = Local {
+            bits: zones.figures[of_zone],
+            side: zones.sides[of_zone],
+        };
+        place = putting::put_field_line(page, place, &line, local);
     }
     place
 }
@@ -150,8 +155,8 @@ pub(super) fn put_rows(
 ) -> usize
     requires readable_pairs { ReadablePairs pairs }
     requires last_bound { last ≤ 8 }
-    requires room { Room page.old at (128 * suc last) }
-    ensures { Put page.old page.new at result (128 * suc last)
+    requires room { Room page.old at (129 * suc last) }
+    ensures { Put page.old page.new at result (129 * suc last)
         (each (row_line rows.now pairs) (numbered (suc last))) }
 {
     let of_classes = ClassRow::all(rows);

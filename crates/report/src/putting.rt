@@ -2,10 +2,10 @@
 // put.
 // Page and place stay two, as the public calls of `pages` below take them: with a struct of both, tried, the check no longer found the
 // room for each of fifteen further calls by itself.
-ghost use Rattle.std.specs.Prelude.{⊤, List, [], ◌∷◌, ◌++◌, ℕ, ◌≤◌, length};
-ghost use Rattle.pages.specs.Lines.{numbers, bits};
+ghost use Rattle.std.specs.Prelude.{◌≡◌, ⊤, List, [], ◌∷◌, ◌++◌, ℕ, ◌≤◌, length};
+ghost use Rattle.pages.specs.Lines.{numbers};
 ghost use Rattle.report.specs.Lines.{coefficient};
-ghost use Rattle.report.specs.Steps.{Put, Room};
+ghost use Rattle.report.specs.Steps.{Put, Room, sign_by, rounded_by};
 ghost use Rattle.coefficients.specs.Steps.{Readable, ReadablePair};
 
 use coefficients::{Coefficient, Pair};
@@ -37,14 +37,36 @@ pub(super) fn put_line(page: &mut [u8], at: usize, line: &Line) -> usize
     pages::put_line(page, at, line.word, line.numbers)
 }
 
-// The bits of a coefficient, or that there is none.
+// The sign of a side, by the number that a list holds it by: equal, below, above.
+fn sign(side: u8) -> u8
+    ensures { result ≡ sign_by side }
+{
+    match side {
+        0 => b'=',
+        1 => b'<',
+        _ => b'>',
+    }
+}
+
+// The bits of a float, and right after them the sign of its side.
+fn put_rounded(page: &mut [u8], at: usize, bits: u64, side: u8) -> usize
+    requires room { Room page.old at 18 }
+    ensures { Put page.old page.new at result 18 (rounded_by bits side) }
+{
+    let place = pages::put_bits(page, at, bits);
+    pages::put_byte(page, place, sign(side))
+}
+
+// The bits of a coefficient and its sign, or that there is none.
 fn put_coefficient(page: &mut [u8], at: usize, figure: Coefficient) -> usize
     requires readable { Readable figure }
-    requires room { Room page.old at 17 }
-    ensures { Put page.old page.new at result 17 (coefficient figure) }
+    requires room { Room page.old at 18 }
+    ensures { Put page.old page.new at result 18 (coefficient figure) }
 {
     match figure {
-        Coefficient::Figure(x) => pages::put_bits(page, at, x.to_bits()),
+        Coefficient::Figure(x, side) => {
+            put_rounded(page, at, x.to_bits(), nearest::side_number(side))
+        }
         Coefficient::Weightless => pages::put(page, at, b" -"),
     }
 }
@@ -65,18 +87,24 @@ pub(super) trait Field: Copy {
 
     fn put(self, page: &mut [u8], at: usize) -> usize
         requires printable { printable self }
-        requires room { Room page.old at 34 }
-        ensures { Put page.old page.new at result 34 (text self) };
+        requires room { Room page.old at 36 }
+        ensures { Put page.old page.new at result 36 (text self) };
 }
 
-// The bits of a float.
-impl Field for u64 {
-    ghost text = { bits };
+// The local Moran of a zone: its bits, and the number of its side.
+#[derive(Clone, Copy)]
+pub(super) struct Local {
+    pub(super) bits: u64,
+    pub(super) side: u8,
+}
 
-    ghost printable = { λ x. ⊤ };
+impl Field for Local {
+    ghost text = { λ local. rounded_by local.bits local.side };
+
+    ghost printable = { λ local. ⊤ };
 
     fn put(self, page: &mut [u8], at: usize) -> usize {
-        pages::put_bits(page, at, self)
+        put_rounded(page, at, self.bits, self.side)
     }
 }
 
@@ -108,8 +136,8 @@ impl Field for Pair {
 // A line of numbers and what stands behind them.
 pub(super) fn put_field_line<F: Field>(page: &mut [u8], at: usize, line: &Line, field: F) -> usize
     requires printable { F.printable field }
-    requires room { Room page.old at 128 }
-    ensures { Put page.old page.new at result 128
+    requires room { Room page.old at 129 }
+    ensures { Put page.old page.new at result 129
         (line.now.word.now ++ ((numbers line.now.numbers.now ++ F.text field) ++ (10 ∷ []))) }
 {
     let place = put_start(page, at, line);

@@ -13,7 +13,7 @@ use refusals::Refusal;
 // worked out in its own way, so that a function for all would be no shorter.
 fn put_read(page: &mut Page, counts: Counts, held: &Lists) -> usize
     requires { Held counts (listed held.now) }
-    ensures { Put page.old page.new 0 result 16128
+    ensures { Put page.old page.new 0 result 16203
         (job_text counts.values (lent_job (given_of counts) (listed held.now))) }
 {
     let n = counts.values;

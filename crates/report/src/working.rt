@@ -29,9 +29,9 @@ fn class_pairs(n: usize, places: &[i32], bands: &[u32], classes: &mut [u8])
 // The zones kept, so many of them, in hot-list order.
 fn put_hot_list(page: &mut [u8], at: usize, zones: &Zones, many: usize, spread: i64) -> usize
     requires few { many ≤ length zones.now.locals.now }
-    requires room { Room page.old at 8192 }
-    ensures { Put page.old page.new at result 8192
-        (each (zone_line zones.now.locals.now zones.now.figures.now spread)
+    requires room { Room page.old at 8256 }
+    ensures { Put page.old page.new at result 8256
+        (each (zone_line zones.now.locals.now zones.now.figures.now zones.now.sides.now spread)
         (take many (in_order (length zones.now.locals.now) zones.now.values.now zones.now.weights.now zones.now.locals.now))) }
 {
     let n = zones.locals.len();
@@ -52,9 +52,9 @@ fn put_account(page: &mut Page, whole: Whole, zones: &Zones) -> usize
     requires within { Within whole.sums }
     requires readable_pair { ReadablePair whole.pair }
     requires few { whole.sums.kept ≤ length zones.now.locals.now }
-    ensures { Put page.old page.new 0 result 8736
+    ensures { Put page.old page.new 0 result 8802
         ((sum_lines whole.sums ++ ratio_lines whole.sums whole.pair)
-        ++ each (zone_line zones.now.locals.now zones.now.figures.now whole.sums.spread)
+        ++ each (zone_line zones.now.locals.now zones.now.figures.now zones.now.sides.now whole.sums.spread)
         (take whole.sums.kept
         (in_order (length zones.now.locals.now) zones.now.values.now zones.now.weights.now zones.now.locals.now))) }
 {
@@ -92,8 +92,8 @@ fn put_classes(
 ) -> usize
     requires readable_pairs { ReadablePairs pairs }
     requires bands_bound { bands ≤ 8 }
-    requires room { Room page.old at 1152 }
-    ensures { Put page.old page.new at result 1152
+    requires room { Room page.old at 1161 }
+    ensures { Put page.old page.new at result 1161
         (cond (eqb bands 0) [] (each (row_line rows.now pairs) (numbered (suc bands)))) }
 {
     if bands == 0 {
@@ -128,7 +128,7 @@ fn put_rank(page: &mut [u8], at: usize, values: &[i32], weights: &[u8], shuffles
 // The lines of a job.
 pub(super) fn put_job(page: &mut Page, lists: &Lists) -> usize
     requires { SoundJob (length lists.now.values.now) (job_in lists.now) }
-    ensures { Put page.old page.new 0 result 16128
+    ensures { Put page.old page.new 0 result 16203
         (job_text (length lists.now.values.now) (job_in lists.now)) }
 {
     let Lists {
@@ -149,14 +149,18 @@ pub(super) fn put_job(page: &mut Page, lists: &Lists) -> usize
     let locals = &mut local_space[..n];
     let mut figure_space: [u64; 64] = [0; 64];
     let figures = &mut figure_space[..n];
+    let mut side_space: [u8; 64] = [0; 64];
+    let sides = &mut side_space[..n];
     let report = coefficients::plain_report(
-        n, values, weights, classes, &mut rows, locals, figures,
-    ).unwrap();
+        n, values, weights, classes, &mut rows, locals, figures, sides,
+    )
+    .unwrap();
     let zones = Zones {
         values,
         weights,
         locals,
         figures,
+        sides,
     };
     let at_pairs = put_account(page, report.whole, &zones);
     let at_classes = put_pairs(page, at_pairs, values, categories, weights);

@@ -38,7 +38,7 @@ known c = search rules
 -- the lines with that of the turn
 turn :
     (c : After-put_field_line-place) →
-    Put c.args.page.now c.put_field_line-place.new.page c.args.at c.put_field_line-place.result (128 * (c.loop-k.k + 1))
+    Put c.args.page.now c.put_field_line-place.new.page c.args.at c.put_field_line-place.result (129 * (c.loop-k.k + 1))
     (each (row_line c.args.rows.now c.args.pairs) (take (c.loop-k.k + 1) (numbered (suc c.args.last))))
 turn c =
     let rows = c.args.rows.now in
@@ -49,7 +49,7 @@ turn c =
     let put = put_as c.put_field_line-place.ensures (row_text rows c.args.pairs k class
     (to_z-of_z w64 _ (search rules) ∙ ap weight_in row) (to_z-of_z w64 _ (search rules) ∙ ap cross_in row)
     (to_z-of_z w64 _ (search rules) ∙ ap squares_in row) pair) in
-    put_numbered_next (row_line _ _) {size = 128} (suc c.args.last) k (omega arith) c.loop-k.invariant put
+    put_numbered_next (row_line _ _) {size = 129} (suc c.args.last) k (omega arith) c.loop-k.invariant put
 
 pub loop-k-init : goal.loop-k-init
 loop-k-init c = put_each_none (row_line _ _)
@@ -64,5 +64,5 @@ loop-k-preserved c = turn ((goal.at.loop-k-preserved c).After-put_field_line-pla
 
 pub returns-2 : goal.returns-2
 returns-2 c =
-    put_numbered_all (row_line _ _) 128 (suc c.args.last) (c.loop-k.k + 1) (omega arith)
+    put_numbered_all (row_line _ _) 129 (suc c.args.last) (c.loop-k.k + 1) (omega arith)
     (turn ((goal.at.returns-2 c).After-put_field_line-place))

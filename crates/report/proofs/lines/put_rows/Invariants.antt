@@ -7,4 +7,4 @@ use Rattle.report.proofs.lines.put_rows.Given as goal
 
 abbrev pub invariant-loop-k : goal.invariant-loop-k
 invariant-loop-k l =
-    Put l.initial.page l.page l.at l.place (128 * l.k) (each (row_line l.rows l.pairs) (take l.k (numbered (suc l.last))))
+    Put l.initial.page l.page l.at l.place (129 * l.k) (each (row_line l.rows l.pairs) (take l.k (numbered (suc l.last))))

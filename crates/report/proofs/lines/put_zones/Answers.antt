@@ -11,7 +11,7 @@ use Rattle.report.proofs.LineLaws.{read_back, zone_text}
 use Rattle.report.proofs.lines.put_zones.Goals as goal
 
 pub loop-zone-init : goal.loop-zone-init
-loop-zone-init c = put_each_none (zone_line _ _ _)
+loop-zone-init c = put_each_none (zone_line _ _ _ _)
 
 pub loop-zone-preserved : goal.loop-zone-preserved
 loop-zone-preserved c =
@@ -22,6 +22,6 @@ loop-zone-preserved c =
     let number = read_back c.from.type_inv (c.from.ensures ∙ ap pos (sym is_zone)) in
     let zones = a.zones.now in
     let numerator = to_z-of_z w64 (get_or zones.locals.now zone (pos 0)) (search rules) in
-    let text = zone_text zones.locals.now zones.figures.now _ zone number numerator refl ∙ ap (zone_line _ _ _) is_zone in
-    put_each_next (zone_line _ _ _) {size = 128} a.order.now l.zone-index 0 c.loop-zone-test.true l.invariant
+    let text = zone_text zones.locals.now zones.figures.now zones.sides.now _ zone number numerator refl refl ∙ ap (zone_line _ _ _ _) is_zone in
+    put_each_next (zone_line _ _ _ _) {size = 129} a.order.now l.zone-index 0 c.loop-zone-test.true l.invariant
     (put_as c.put_field_line-place.ensures text)

@@ -19,7 +19,7 @@ returns c =
     let spread_read : r64 a.whole.sums.spread ≡ a.whole.sums.spread = to_z-of_z w64 a.whole.sums.spread (search rules) in
     let zones =
     put_as c.put_hot_list.ensures
-    (ap (λ m. each (zone_line z.locals.now z.figures.now m)
+    (ap (λ m. each (zone_line z.locals.now z.figures.now z.sides.now m)
     (take a.whole.sums.kept (in_order (length z.locals.now) z.values.now z.weights.now z.locals.now)))
     spread_read) in
     put_then (put_then c.put_sums-place.ensures c.put_ratios-end.ensures) zones

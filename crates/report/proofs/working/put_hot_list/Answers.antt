@@ -42,15 +42,15 @@ module _ (n : ℕ) (values : List ℤ) (weights : List ℕ) (locals : List ℤ) 
     there : {m : ℕ} → m ≡ n → Listed (take many (zones ++ rest)) m
     there l k h = rw front_is (omega (arith, below k (omega (arith, h, front_length)), l))
 
-    -- 128 bytes for each of at most 64 zones
-    narrow : n ≤ 64 → 128 * length (take many (zones ++ rest)) ≤ 8192
+    -- 129 bytes for each of at most 64 zones
+    narrow : n ≤ 64 → 129 * length (take many (zones ++ rest)) ≤ 8256
     narrow h = omega (arith, h, few, front_length)
 
     -- the lines of those zones, by the spread as it is read
     lines :
-        (figures : List ℕ) (spread read : ℤ) → read ≡ spread →
-        each (zone_line locals figures read) (take many (zones ++ rest)) ≡ each (zone_line locals figures spread) shown
-    lines figures spread read f = rw (f, front_is) refl
+        (figures sides : List ℕ) (spread read : ℤ) → read ≡ spread →
+        each (zone_line locals figures sides read) (take many (zones ++ rest)) ≡ each (zone_line locals figures sides spread) shown
+    lines figures sides spread read f = rw (f, front_is) refl
 
 -- what the order's call has left
 module _ (c : After-order) where
@@ -111,5 +111,5 @@ returns c =
     put_as
     (put_most c.put_zones.ensures (narrow (n after_order) (values after_order) (weights after_order) (locals after_order) _ few (zones after_order) _
     (zones_left after_order) (of_zones after_order).zoned.most))
-    (lines (n after_order) (values after_order) (weights after_order) (locals after_order) _ few (zones after_order) _ (zones_left after_order) _ _ _
+    (lines (n after_order) (values after_order) (weights after_order) (locals after_order) _ few (zones after_order) _ (zones_left after_order) _ _ _ _
     (to_z-of_z w64 c.args.spread (s after_order).ranges.spread))

@@ -16,7 +16,7 @@ use Rattle.image.specs.Image.{Job}
 use Rattle.report.specs.Steps.{Sound, Classed, job_in}
 use Rattle.report.proofs.Puts.{put_as, put_then}
 use Rattle.report.proofs.Listed.{class_lines_are as class-rows-are}
-use Rattle.report.proofs.JobText.{figures_length, zones_are, sums_within, job_lines_are}
+use Rattle.report.proofs.JobText.{figures_length, sides_length, zones_are, sums_within, job_lines_are}
 use Rattle.report.proofs.JobText.{Reports, plain_taken, reports, class_lines_are, job_text_is}
 use Rattle.refusals.proofs.Unrefused.{unrefused}
 use Rattle.report.proofs.working.put_job.Goals as goal
@@ -62,7 +62,7 @@ module _ (c : After-plain_report) where
   answered =
       unrefused _
       (c.plain_report.ensures.number
-      ∙ plain_taken sound classed.within _ _ _ refl (length-take-le _ _ sound.zones) (length-take-le _ _ sound.zones))
+      ∙ plain_taken sound classed.within _ _ _ _ refl (length-take-le _ _ sound.zones) (length-take-le _ _ sound.zones) (length-take-le _ _ sound.zones))
 
 -- what it has answered and left
 module _ (c : After-unwrap-report) where
@@ -71,13 +71,13 @@ module _ (c : After-unwrap-report) where
 
   said :
       Reports (n before) (values before) (weights before) (classes before) c.unwrap-report.result
-      before.plain_report.new.rows before.plain_report.new.locals before.plain_report.new.figures
+      before.plain_report.new.rows before.plain_report.new.locals before.plain_report.new.figures before.plain_report.new.sides
   said =
       let told = before.plain_report.ensures in
-      reports (sound before) (classed before).within _ _ _ refl (length-take-le _ _ (sound before).zones)
-      (length-take-le _ _ (sound before).zones) c.unwrap-report.ensures told.sums told.whole
+      reports (sound before) (classed before).within _ _ _ _ refl (length-take-le _ _ (sound before).zones)
+      (length-take-le _ _ (sound before).zones) (length-take-le _ _ (sound before).zones) c.unwrap-report.ensures told.sums told.whole
       told.pairs told.rows
-      told.locals told.figures
+      told.locals told.figures told.sides
 
 pub unwrap-report-requires : goal.unwrap-report-requires
 unwrap-report-requires c = answered ((goal.at.unwrap-report-requires c).After-plain_report)
@@ -112,6 +112,7 @@ invariant_of-zones c =
         values_fit = (sound b).values_fit ∙ sym locals_fit;
         weights_fit = (sound b).weights_fit ∙ ap (λ m. m * m) (sym locals_fit);
         figures_fit = ap length (said u).of_zones ∙ figures_length (n b) (values b) (weights b) ∙ ap length (sym (said u).in_locals);
+        sides_fit = ap length (said u).of_sides ∙ sides_length (n b) (values b) (weights b) ∙ ap length (sym (said u).in_locals);
       };
     }
 
@@ -129,7 +130,7 @@ returns c =
     let bands = length j.bands in
     let sums = u.unwrap-report.result.whole.sums in
     let zones =
-    zones_are (n b) (values b) (weights b) (said u).in_locals (said u).of_zones
+    zones_are (n b) (values b) (weights b) (said u).in_locals (said u).of_zones (said u).of_sides
     (spread_in (n b) (values b) (weights b) sums (said u).sums)
     (kept_in (n b) (values b) (weights b) sums (said u).sums) in
     let lines = job_lines_are (n b) (values b) (weights b) (sound b) sums (said u).sums _ (said u).of_job in
