@@ -28,8 +28,8 @@ pub record HasPair (n : ℕ) (spread : ℤ) (row : ClassRow) (pair : Pair) : Typ
   pub geary : pos 1 ≤ℤ row.weight → Shows (pos ((n - 1) * n) *ℤ row.squares) ((pos 2 *ℤ row.weight) *ℤ spread) pair.geary
   pub none : (pos 1 ≤ℤ row.weight → ⊥) → pair ≡ no_pair
 
--- the i-th of a list of floats, which holds their bits, is the nearest to L / M, and the i-th of a list of sides, which holds their numbers,
--- is the true side of L / M that this float lies on
+-- the i-th of a list of floats, which holds their bits, is the nearest to L / M, and the i-th of a list of sides, which holds their
+-- numbers, is the true side of L / M that this float lies on
 abbrev pub LocalFigure : ℤ → ℤ → List ℕ → List ℕ → ℕ → Type 0
 LocalFigure numerator spread figures sides i =
     IsNearest numerator spread (get_or figures i 0) × (get_or sides i 0 ≡ side_number (side_of numerator spread (get_or figures i 0)))

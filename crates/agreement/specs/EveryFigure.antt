@@ -22,12 +22,13 @@ pub record Lent : Type 0 where
   pub rows : List ℤ
   pub class_locals : List ℤ
   pub own : List ℤ
-  -- to the float report: for the bits of the local Moran of each zone and the number of its side, and for those of each zone in each class
+  -- to the float report: for the bits of the local Moran of each zone and the number of its side, and for both of each zone in each class
   pub figures : List ℕ
   pub sides : List ℕ
   pub parts : List ℕ
   pub part_sides : List ℕ
-  -- to the plain report: for the nine class rows, the local numerators, and the bits of the local Moran of each zone and the number of its side
+  -- to the plain report: for the nine class rows, the local numerators, and the bits of the local Moran of each zone and the number of
+  -- its side
   pub plain_rows : List ℤ
   pub plain_locals : List ℤ
   pub plain_figures : List ℕ

@@ -26,9 +26,9 @@ pub struct Every {
 }
 
 // Makes the four calls on the job, whose pairs have the classes lent. `locals` is lent to the account; `rows`, `class_locals` and `own` to
-// the class account; `figures`, `sides`, `parts` and `part_sides` to the float report; and `plain_rows`, `plain_locals`, `plain_figures` and
-// `plain_sides` to the plain report. Where one of the calls would refuse the job or its classes, or a list is not of its length, all four
-// are refused, and every list is left as it was.
+// the class account; `figures`, `sides`, `parts` and `part_sides` to the float report; and `plain_rows`, `plain_locals`, `plain_figures`
+// and `plain_sides` to the plain report. Where one of the calls would refuse the job or its classes, or a list is not of its length, all
+// four are refused, and every list is left as it was.
 pub fn every_figure(
     n: usize,
     values: &[i32],
