@@ -16,7 +16,8 @@ use Rattle.whole.specs.Table.{table, at}
 use Rattle.whole.proofs.Size.{some_size, one_some, one_of}
 use Rattle.whole.proofs.Sum.{sum_cong}
 use Rattle.whole.proofs.Table.{table_at}
-use Rattle.nearest.specs.Answers.{nearest_refusal, nearest_bits}
+use Rattle.nearest.specs.Answers.{nearest_refusal, nearest_bits, nearest_side}
+use Rattle.nearest.specs.Sides.{side_number}
 use Rattle.nearest.proofs.Theorems.{float_nearest}
 use Rattle.account.specs.Answers as account
 use Rattle.account.specs.Classes.{row_at, class_row_of, class_sums, class_locals_of, class_rules}
@@ -26,7 +27,7 @@ use Rattle.account.proofs.Accepted.{accepted}
 use Rattle.account.proofs.Marked.{kept_and_missing}
 use Rattle.account.proofs.ClassTheorems as classes-promise
 use Rattle.account.proofs.Theorems as account-promise
-use Rattle.coefficients.specs.Coefficients.{coefficient, pair_of, job_pair, class_pair, local_figures}
+use Rattle.coefficients.specs.Coefficients.{coefficient, pair_of, job_pair, class_pair, local_figures, local_sides}
 use Rattle.coefficients.specs.FloatReport.{no_pair}
 use Rattle.coefficients.specs.Steps.{Ratio, Formable}
 use Rattle.coefficients.proofs.Job as job
@@ -34,18 +35,19 @@ use Rattle.coefficients.proofs.Ratios.{ratio_taken, moran_ratio, geary_ratio}
 use Rattle.agreement.specs.EveryFigure.{job_sums, job_report, job_answers, job_lists}
 use Rattle.agreement.specs.Demand3.{Shows, HasPair, LocalFigure, Demand3}
 
--- ---- a coefficient and a local figure are the nearest float
+-- ---- a coefficient and a local figure are the nearest float, and their side is the true one
 shown : (weight p q : ℤ) → is_zero weight ≡ false → Ratio p q → Shows p q (coefficient weight p q)
-unfolding coefficient
-shown weight p q e r = rw e (float_nearest p q (ratio_taken p q r))
+unfolding coefficient nearest_side
+shown weight p q e r = rw e (float_nearest p q (ratio_taken p q r), refl)
 
 local_figure :
     (spread : ℤ) (numerators : List ℤ) (i : ℕ) → i < length numerators → Ratio (at numerators i) spread →
-    LocalFigure (at numerators i) spread (local_figures spread numerators) i
-unfolding local_figures
+    LocalFigure (at numerators i) spread (local_figures spread numerators) (local_sides spread numerators) i
+unfolding local_figures local_sides nearest_side
 local_figure spread numerators i h r =
-    rw (table_at (λ i. nearest_bits (at numerators i) spread) (length numerators) i 0 h)
-    (float_nearest (at numerators i) spread (ratio_taken (at numerators i) spread r))
+    let figure = table_at (λ i. nearest_bits (at numerators i) spread) (length numerators) i 0 h in
+    let side = table_at (λ i. side_number (nearest_side (at numerators i) spread)) (length numerators) i 0 h in
+    rw (figure, side) (float_nearest (at numerators i) spread (ratio_taken (at numerators i) spread r), refl)
 
 -- ---- sums have their pair exactly when there is weight, and then 18 does not apply to it
 module _ (n : ℕ) (spread : ℤ) (row : ClassRow) (s : Formable n spread row) where
@@ -109,13 +111,14 @@ module _ (n : ℕ) (values : List ℤ) (weights classes : List ℕ) (lent : List
       (has_pair kept spread (class_row_of n values weights classes k) (job.class_formable n values weights classes lent taken k))
 
   -- the local figures
-  local_has : (i : ℕ) → i < n → LocalFigure (at locals i) spread (local_figures spread locals) i
+  local_has : (i : ℕ) → i < n → LocalFigure (at locals i) spread (local_figures spread locals) (local_sides spread locals) i
   local_has i h =
       let place : i < length locals = omega (arith, account-promise.job_locals_length n values weights) in
       local_figure spread locals i place (job.local_ratio n values weights classes lent taken i h)
 
   class_local_has :
-      (k i : ℕ) → k < 9 → i < n → LocalFigure (at of_classes (k * n + i)) spread (local_figures spread of_classes) (k * n + i)
+      (k i : ℕ) → k < 9 → i < n →
+      LocalFigure (at of_classes (k * n + i)) spread (local_figures spread of_classes) (local_sides spread of_classes) (k * n + i)
   class_local_has k i h p =
       let within : k * n + i < 9 * n = omega (arith, N.mul-le-mul_right n h) in
       let place : k * n + i < length of_classes = omega (arith, classes-promise.class_locals_length n values weights classes) in
@@ -171,4 +174,5 @@ module _ (n : ℕ) (values : List ℤ) (weights classes : List ℕ) (lent : List
     plain_rows = refl;
     plain_locals = refl;
     plain_figures = refl;
+    plain_sides = refl;
   }

@@ -41,13 +41,13 @@ module _ (n : ℕ) (values : List ℤ) (weights classes : List ℕ) where
     account_none = account_taken n values weights classes lent taken
 
     pub report_none :
-        (figures parts : List ℕ) → length figures ≡ n → length parts ≡ 9 * n →
-        report_refusal n values weights classes figures parts ≡ 0
+        (figures sides parts part_sides : List ℕ) → length figures ≡ n → length sides ≡ n → length parts ≡ 9 * n →
+        length part_sides ≡ 9 * n → report_refusal n values weights classes figures sides parts part_sides ≡ 0
     unfolding report_refusal
-    report_none figures parts e g = fit_alike _ lent (e, (g, tt)) f ∙ taken
+    report_none figures sides parts part_sides e g h i = fit_alike _ lent (e, (g, (h, (i, tt)))) f ∙ taken
 
     pub plain_none :
-        (rows locals : List ℤ) (figures : List ℕ) → length rows ≡ 27 → length locals ≡ n → length figures ≡ n →
-        plain_refusal n values weights classes rows locals figures ≡ 0
+        (rows locals : List ℤ) (figures sides : List ℕ) → length rows ≡ 27 → length locals ≡ n → length figures ≡ n →
+        length sides ≡ n → plain_refusal n values weights classes rows locals figures sides ≡ 0
     unfolding plain_refusal
-    plain_none rows locals figures e g h = fit_alike _ lent (e, (g, (h, tt))) f ∙ taken
+    plain_none rows locals figures sides e g h i = fit_alike _ lent (e, (g, (h, (i, tt)))) f ∙ taken

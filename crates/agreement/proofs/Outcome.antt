@@ -16,10 +16,10 @@ use Rattle.agreement.proofs.Demand3.{demand_3}
 
 -- the same lists by other names
 pub lists_same :
-    {a b c d a' b' c' d' : List ℤ} {e f e' f' : List ℕ} {g h g' h' : List ℤ} {i i' : List ℕ} →
-    a ≡ a' → b ≡ b' → c ≡ c' → d ≡ d' → e ≡ e' → f ≡ f' → g ≡ g' → h ≡ h' → i ≡ i' →
-    lists a b c d e f g h i ≡ lists a' b' c' d' e' f' g' h' i'
-lists_same p q r s t u v w x = rw (p, q, r, s, t, u, v, w, x) refl
+    {a b c d a' b' c' d' : List ℤ} {e f g h e' f' g' h' : List ℕ} {i j i' j' : List ℤ} {k l k' l' : List ℕ} →
+    a ≡ a' → b ≡ b' → c ≡ c' → d ≡ d' → e ≡ e' → f ≡ f' → g ≡ g' → h ≡ h' → i ≡ i' → j ≡ j' → k ≡ k' → l ≡ l' →
+    lists a b c d e f g h i j k l ≡ lists a' b' c' d' e' f' g' h' i' j' k' l'
+lists_same m n o p q r s t u v w x = rw (m, n, o, p, q, r, s, t, u, v, w, x) refl
 
 module _ (n : ℕ) (values : List ℤ) (weights classes : List ℕ) (lent : Lent) where
   abbrev refusal : ℕ

@@ -12,8 +12,10 @@ use Rattle.account.specs.Classes.{class_refusal, class_account_figures}
 use Rattle.account.specs.Classes.{class_account_rows, class_account_locals, class_account_own}
 use Rattle.account.specs.Refusals.{account_refusal}
 use Rattle.account.proofs.ClassTheorems.{account_taken, class_taken}
-use Rattle.coefficients.specs.FloatReport.{report_refusal, report_sums, report_whole, report_classes, report_figures, report_parts}
-use Rattle.coefficients.specs.FloatReport.{plain_refusal, plain_sums, plain_whole, plain_classes, plain_rows, plain_locals, plain_figures}
+use Rattle.coefficients.specs.FloatReport.{report_refusal, report_sums, report_whole, report_classes}
+use Rattle.coefficients.specs.FloatReport.{report_figures, report_sides, report_parts, report_part_sides}
+use Rattle.coefficients.specs.FloatReport.{plain_refusal, plain_sums, plain_whole, plain_classes}
+use Rattle.coefficients.specs.FloatReport.{plain_rows, plain_locals, plain_figures, plain_sides}
 use Rattle.agreement.specs.EveryFigure.{Lent, lent_lengths, every_refusal}
 use Rattle.agreement.proofs.Fitting.{fit_alike}
 -- stated where it is proved: an answer of the report is known by its number, its sums, its pair and those of its classes, so that its
@@ -46,25 +48,35 @@ accounts_agree n values weights classes rows of_classes own locals z l =
       ),
     )
 
--- ---- the plain report is refused as the float report is, and promises the same sums, pairs and local figures
-module _ (n : ℕ) (values : List ℤ) (weights classes : List ℕ) (rows locals : List ℤ) (figures parts : List ℕ) (rows_fit : length rows ≡ 27)
-    (locals_fit : length locals ≡ n) (figures_fit : length figures ≡ n) (parts_fit : length parts ≡ 9 * n) where
-  refused_alike : plain_refusal n values weights classes rows locals figures ≡ report_refusal n values weights classes figures parts
+-- ---- the plain report is refused as the float report is, and promises the same sums, pairs, local figures and sides
+module _ (n : ℕ) (values : List ℤ) (weights classes : List ℕ) (rows locals : List ℤ) (figures sides parts part_sides : List ℕ)
+    (rows_fit : length rows ≡ 27) (locals_fit : length locals ≡ n) (figures_fit : length figures ≡ n) (sides_fit : length sides ≡ n)
+    (parts_fit : length parts ≡ 9 * n) (part_sides_fit : length part_sides ≡ 9 * n) where
+  refused_alike :
+      plain_refusal n values weights classes rows locals figures sides
+      ≡ report_refusal n values weights classes figures sides parts part_sides
   unfolding plain_refusal report_refusal
   refused_alike =
-      fit_alike n values weights classes ((length rows, 27) ∷ (length locals, n) ∷ (length figures, n) ∷ [])
-      ((length figures, n) ∷ (length parts, 9 * n) ∷ [])
-      (rows_fit, (locals_fit, (figures_fit, tt)))
-      (figures_fit, (parts_fit, tt))
+      fit_alike n values weights classes ((length rows, 27) ∷ (length locals, n) ∷ (length figures, n) ∷ (length sides, n) ∷ [])
+      ((length figures, n) ∷ (length sides, n) ∷ (length parts, 9 * n) ∷ (length part_sides, 9 * n) ∷ [])
+      (rows_fit, (locals_fit, (figures_fit, (sides_fit, tt))))
+      (figures_fit, (sides_fit, (parts_fit, (part_sides_fit, tt))))
 
   pub plain_same :
-      (plain_refusal n values weights classes rows locals figures ≡ report_refusal n values weights classes figures parts)
-      × ((plain_sums n values weights classes rows locals figures ≡ report_sums n values weights classes figures parts)
-      × ((plain_whole n values weights classes rows locals figures ≡ report_whole n values weights classes figures parts)
-      × ((plain_classes n values weights classes rows locals figures ≡ report_classes n values weights classes figures parts)
-      × (plain_figures n values weights classes rows locals figures ≡ report_figures n values weights classes figures parts))))
-  unfolding plain_sums plain_whole plain_classes plain_figures report_sums report_whole report_classes report_figures
-  plain_same = rw refused_alike (refl, (refl, (refl, (refl, refl))))
+      (plain_refusal n values weights classes rows locals figures sides
+      ≡ report_refusal n values weights classes figures sides parts part_sides)
+      × ((plain_sums n values weights classes rows locals figures sides
+      ≡ report_sums n values weights classes figures sides parts part_sides)
+      × ((plain_whole n values weights classes rows locals figures sides
+      ≡ report_whole n values weights classes figures sides parts part_sides)
+      × ((plain_classes n values weights classes rows locals figures sides
+      ≡ report_classes n values weights classes figures sides parts part_sides)
+      × ((plain_figures n values weights classes rows locals figures sides
+      ≡ report_figures n values weights classes figures sides parts part_sides)
+      × (plain_sides n values weights classes rows locals figures sides
+      ≡ report_sides n values weights classes figures sides parts part_sides)))))
+  unfolding plain_sums plain_whole plain_classes plain_figures plain_sides report_sums report_whole report_classes report_figures report_sides
+  plain_same = rw refused_alike (refl, (refl, (refl, (refl, (refl, refl)))))
 
 -- ---- a refusal leaves every lent list as it was
 pub account_leaves :
@@ -84,18 +96,23 @@ class_account_leaves n values weights classes rows of_classes own f =
     (kept_when_refused _ _ _ f, (kept_when_refused _ _ _ f, kept_when_refused _ _ _ f))
 
 pub report_leaves :
-    (n : ℕ) (values : List ℤ) (weights classes figures parts : List ℕ) →
-    (report_refusal n values weights classes figures parts ≡ 0 → ⊥) →
-    (report_figures n values weights classes figures parts ≡ figures) × (report_parts n values weights classes figures parts ≡ parts)
-unfolding report_figures report_parts
-report_leaves n values weights classes figures parts f = (kept_when_refused _ _ _ f, kept_when_refused _ _ _ f)
+    (n : ℕ) (values : List ℤ) (weights classes figures sides parts part_sides : List ℕ) →
+    (report_refusal n values weights classes figures sides parts part_sides ≡ 0 → ⊥) →
+    (report_figures n values weights classes figures sides parts part_sides ≡ figures)
+    × ((report_sides n values weights classes figures sides parts part_sides ≡ sides)
+    × ((report_parts n values weights classes figures sides parts part_sides ≡ parts)
+    × (report_part_sides n values weights classes figures sides parts part_sides ≡ part_sides)))
+unfolding report_figures report_sides report_parts report_part_sides
+report_leaves n values weights classes figures sides parts part_sides f =
+    (kept_when_refused _ _ _ f, (kept_when_refused _ _ _ f, (kept_when_refused _ _ _ f, kept_when_refused _ _ _ f)))
 
 pub plain_leaves :
-    (n : ℕ) (values : List ℤ) (weights classes : List ℕ) (rows locals : List ℤ) (figures : List ℕ) →
-    (plain_refusal n values weights classes rows locals figures ≡ 0 → ⊥) →
-    (plain_rows n values weights classes rows locals figures ≡ rows)
-    × ((plain_locals n values weights classes rows locals figures ≡ locals)
-    × (plain_figures n values weights classes rows locals figures ≡ figures))
-unfolding plain_rows plain_locals plain_figures
-plain_leaves n values weights classes rows locals figures f =
-    (kept_when_refused _ _ _ f, (kept_when_refused _ _ _ f, kept_when_refused _ _ _ f))
+    (n : ℕ) (values : List ℤ) (weights classes : List ℕ) (rows locals : List ℤ) (figures sides : List ℕ) →
+    (plain_refusal n values weights classes rows locals figures sides ≡ 0 → ⊥) →
+    (plain_rows n values weights classes rows locals figures sides ≡ rows)
+    × ((plain_locals n values weights classes rows locals figures sides ≡ locals)
+    × ((plain_figures n values weights classes rows locals figures sides ≡ figures)
+    × (plain_sides n values weights classes rows locals figures sides ≡ sides)))
+unfolding plain_rows plain_locals plain_figures plain_sides
+plain_leaves n values weights classes rows locals figures sides f =
+    (kept_when_refused _ _ _ f, (kept_when_refused _ _ _ f, (kept_when_refused _ _ _ f, kept_when_refused _ _ _ f)))

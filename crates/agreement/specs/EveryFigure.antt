@@ -1,4 +1,4 @@
--- What the four calls on one job answer together, and what they leave in the nine lists that they are lent. Assumes nothing.
+-- What the four calls on one job answer together, and what they leave in the twelve lists that they are lent. Assumes nothing.
 use Rattle.std.specs.Prelude.{List, [], ◌∷◌, ℕ, ◌*◌, ℤ, length, Result, Ok, Err}
 use Rattle.whole.specs.Rules.{first_broken, unless_refused}
 use Rattle.whole.specs.Table.{table, at}
@@ -8,13 +8,13 @@ use Rattle.kept.specs.Returned.{missing_count}
 use Rattle.account.specs.Answers.{job_kept, job_figures, job_locals}
 use Rattle.account.specs.Classes.{class_sums, class_locals_of, class_rules}
 use Rattle.account.specs.declared.Sums.{Sums}
-use Rattle.coefficients.specs.Coefficients.{job_pair, class_pair, local_figures}
+use Rattle.coefficients.specs.Coefficients.{job_pair, class_pair, local_figures, local_sides}
 use Rattle.coefficients.specs.declared.Report.{Report}
 use Rattle.agreement.specs.declared.Every.{Every}
 
 -- ---- what is lent
 
--- the nine lent lists
+-- the twelve lent lists
 pub record Lent : Type 0 where
   -- to the account: for the local numerators
   pub locals : List ℤ
@@ -22,26 +22,34 @@ pub record Lent : Type 0 where
   pub rows : List ℤ
   pub class_locals : List ℤ
   pub own : List ℤ
-  -- to the float report: for the bits of the local Moran of each zone, and of each zone in each class
+  -- to the float report: for the bits of the local Moran of each zone and the number of its side, and for both of each zone in each class
   pub figures : List ℕ
+  pub sides : List ℕ
   pub parts : List ℕ
-  -- to the plain report: for the nine class rows, the local numerators, and the bits of the local Moran of each zone
+  pub part_sides : List ℕ
+  -- to the plain report: for the nine class rows, the local numerators, and the bits of the local Moran of each zone and the number of
+  -- its side
   pub plain_rows : List ℤ
   pub plain_locals : List ℤ
   pub plain_figures : List ℕ
+  pub plain_sides : List ℕ
 
--- nine lists by their names
-abbrev pub lists : List ℤ → List ℤ → List ℤ → List ℤ → List ℕ → List ℕ → List ℤ → List ℤ → List ℕ → Lent
-lists locals rows class_locals own figures parts plain_rows plain_locals plain_figures = record {
+-- twelve lists by their names
+abbrev pub lists :
+    List ℤ → List ℤ → List ℤ → List ℤ → List ℕ → List ℕ → List ℕ → List ℕ → List ℤ → List ℤ → List ℕ → List ℕ → Lent
+lists locals rows class_locals own figures sides parts part_sides plain_rows plain_locals plain_figures plain_sides = record {
   locals = locals;
   rows = rows;
   class_locals = class_locals;
   own = own;
   figures = figures;
+  sides = sides;
   parts = parts;
+  part_sides = part_sides;
   plain_rows = plain_rows;
   plain_locals = plain_locals;
   plain_figures = plain_figures;
+  plain_sides = plain_sides;
 }
 
 -- their lengths, with those that they must have
@@ -52,10 +60,13 @@ lent_lengths n lent =
     ∷ (length lent.class_locals, 9 * n)
     ∷ (length lent.own, n)
     ∷ (length lent.figures, n)
+    ∷ (length lent.sides, n)
     ∷ (length lent.parts, 9 * n)
+    ∷ (length lent.part_sides, 9 * n)
     ∷ (length lent.plain_rows, 27)
     ∷ (length lent.plain_locals, n)
     ∷ (length lent.plain_figures, n)
+    ∷ (length lent.plain_sides, n)
     ∷ []
 
 -- ---- what is worked
@@ -98,10 +109,13 @@ job_lists n values weights classes = record {
   class_locals = class_locals_of n values weights classes;
   own = job_locals n values weights;
   figures = local_figures (job_spread n values weights) (job_locals n values weights);
+  sides = local_sides (job_spread n values weights) (job_locals n values weights);
   parts = local_figures (job_spread n values weights) (class_locals_of n values weights classes);
+  part_sides = local_sides (job_spread n values weights) (class_locals_of n values weights classes);
   plain_rows = class_sums n values weights classes;
   plain_locals = job_locals n values weights;
   plain_figures = local_figures (job_spread n values weights) (job_locals n values weights);
+  plain_sides = local_sides (job_spread n values weights) (job_locals n values weights);
 }
 
 -- ---- the call
@@ -112,7 +126,7 @@ answer_in (Ok every) = every ∷ []
 answer_in (Err refusal) = []
 
 module _ (n : ℕ) (values : List ℤ) (weights classes : List ℕ) (lent : Lent) where
-  -- its refusal, 0 where no rule is broken: 1 to 7, then 9, with the lengths of the nine lent lists
+  -- its refusal, 0 where no rule is broken: 1 to 7, then 9, with the lengths of the twelve lent lists
   unfoldable pub every_refusal : ℕ
   every_refusal = first_broken (class_rules n values weights classes (lent_lengths n lent))
 

@@ -26,9 +26,9 @@ pub struct Every {
 }
 
 // Makes the four calls on the job, whose pairs have the classes lent. `locals` is lent to the account; `rows`, `class_locals` and `own` to
-// the class account; `figures` and `parts` to the float report; and `plain_rows`, `plain_locals` and `plain_figures` to the plain report.
-// Where one of the calls would refuse the job or its classes, or a list is not of its length, all four are refused, and every list is left
-// as it was.
+// the class account; `figures`, `sides`, `parts` and `part_sides` to the float report; and `plain_rows`, `plain_locals`, `plain_figures`
+// and `plain_sides` to the plain report. Where one of the calls would refuse the job or its classes, or a list is not of its length, all
+// four are refused, and every list is left as it was.
 pub fn every_figure(
     n: usize,
     values: &[i32],
@@ -39,34 +39,37 @@ pub fn every_figure(
     class_locals: &mut [i64],
     own: &mut [i64],
     figures: &mut [u64],
+    sides: &mut [u8],
     parts: &mut [u64],
+    part_sides: &mut [u8],
     plain_rows: &mut [i64],
     plain_locals: &mut [i64],
     plain_figures: &mut [u64],
+    plain_sides: &mut [u8],
 ) -> Result<Every, Refusal>
     ensures number { number_of result ≡ every_refusal n values.now weights.now classes.now
         (lists locals.old rows.old class_locals.old own.old
-        figures.old parts.old
-        plain_rows.old plain_locals.old plain_figures.old) }
+        figures.old sides.old parts.old part_sides.old
+        plain_rows.old plain_locals.old plain_figures.old plain_sides.old) }
     ensures answer { answer_in result ≡ every_answer n values.now weights.now classes.now
         (lists locals.old rows.old class_locals.old own.old
-        figures.old parts.old
-        plain_rows.old plain_locals.old plain_figures.old) }
+        figures.old sides.old parts.old part_sides.old
+        plain_rows.old plain_locals.old plain_figures.old plain_sides.old) }
     ensures lent { lists locals.new rows.new class_locals.new own.new
-        figures.new parts.new
-        plain_rows.new plain_locals.new plain_figures.new
+        figures.new sides.new parts.new part_sides.new
+        plain_rows.new plain_locals.new plain_figures.new plain_sides.new
         ≡ every_left n values.now weights.now classes.now
         (lists locals.old rows.old class_locals.old own.old
-        figures.old parts.old
-        plain_rows.old plain_locals.old plain_figures.old) }
+        figures.old sides.old parts.old part_sides.old
+        plain_rows.old plain_locals.old plain_figures.old plain_sides.old) }
     ensures demand3 { every_refusal n values.now weights.now classes.now
         (lists locals.old rows.old class_locals.old own.old
-        figures.old parts.old
-        plain_rows.old plain_locals.old plain_figures.old) ≡ 0 →
+        figures.old sides.old parts.old part_sides.old
+        plain_rows.old plain_locals.old plain_figures.old plain_sides.old) ≡ 0 →
         IsOkAnd result (λ out. Demand3 n out
         (lists locals.new rows.new class_locals.new own.new
-        figures.new parts.new
-        plain_rows.new plain_locals.new plain_figures.new)) }
+        figures.new sides.new parts.new part_sides.new
+        plain_rows.new plain_locals.new plain_figures.new plain_sides.new)) }
 {
     judges::judge_lent(
         n,
@@ -76,10 +79,13 @@ pub fn every_figure(
             (class_locals.len(), Places::ClassZones),
             (own.len(), Places::Zones),
             (figures.len(), Places::Zones),
+            (sides.len(), Places::Zones),
             (parts.len(), Places::ClassZones),
+            (part_sides.len(), Places::ClassZones),
             (plain_rows.len(), Places::Fixed(27)),
             (plain_locals.len(), Places::Zones),
             (plain_figures.len(), Places::Zones),
+            (plain_sides.len(), Places::Zones),
         ],
     )?;
     let sums = account::class_account(n, values, weights, classes, rows, class_locals, own)?;
@@ -91,9 +97,12 @@ pub fn every_figure(
         sums,
         locals,
         figures,
+        sides,
         parts,
+        part_sides,
         plain_rows,
         plain_locals,
         plain_figures,
+        plain_sides,
     ))
 }

@@ -17,21 +17,28 @@ pub(super) fn work_others(
     sums: Sums,
     locals: &mut [i64],
     figures: &mut [u64],
+    sides: &mut [u8],
     parts: &mut [u64],
+    part_sides: &mut [u8],
     plain_rows: &mut [i64],
     plain_locals: &mut [i64],
     plain_figures: &mut [u64],
+    plain_sides: &mut [u8],
 ) -> Every
     requires callable { Callable n values.now weights.now classes.now
-        locals.old figures.old parts.old plain_rows.old plain_locals.old plain_figures.old }
+        locals.old figures.old sides.old parts.old part_sides.old
+        plain_rows.old plain_locals.old plain_figures.old plain_sides.old }
     requires sums_value { sums ≡ job_sums n values.now weights.now }
     ensures value { result ≡ job_answers n values.now weights.now classes.now }
     ensures others_left { OthersLeft n values.now weights.now classes.now
-        locals.new figures.new parts.new
-        plain_rows.new plain_locals.new plain_figures.new }
+        locals.new figures.new sides.new parts.new part_sides.new
+        plain_rows.new plain_locals.new plain_figures.new plain_sides.new }
 {
     let accounted = account::account(n, values, weights, locals).unwrap();
-    let report = coefficients::float_report(n, values, weights, classes, figures, parts).unwrap();
+    let report = coefficients::float_report(
+        n, values, weights, classes, figures, sides, parts, part_sides,
+    )
+    .unwrap();
     let plain = coefficients::plain_report(
         n,
         values,
@@ -40,6 +47,7 @@ pub(super) fn work_others(
         plain_rows,
         plain_locals,
         plain_figures,
+        plain_sides,
     )
     .unwrap();
     Every {

@@ -1,5 +1,6 @@
 -- The ways out of the float calls: the number of each, and what an answer below puts into the lent lists. Assumes nothing.
 use mathlib.Core.Path.{◌≡◌, refl, sym, ap, ◌∙◌}
+use mathlib.Core.Logic.{◌⊎◌, inl, inr}
 use mathlib.Core.Bool.{Bool, true, false, not, cond, ◌||◌}
 use mathlib.Core.List.{List, [], ◌∷◌}
 use Prim.Native.Nat.{ℕ, ◌*◌, ◌≤◌, ◌<◌}
@@ -11,12 +12,15 @@ use lib.IntN.{ℤ}
 use lib.ListN.{length, get_or, set}
 use Rattle.std.specs.Prelude.{Ok}
 use Rattle.whole.specs.Integer.{is_zero}
-use Rattle.whole.specs.Rules.{first_broken, size_rules}
+use Rattle.whole.specs.Rules.{first_broken, size_rules, unless_refused}
 use Rattle.whole.specs.Table.{table}
 use Rattle.whole.proofs.Rules.{beside, fits, sizes_hold}
 use Rattle.whole.proofs.Table.{table_cong, table_held}
 use Rattle.refusals.proofs.Refusals.{worked_by}
-use Rattle.nearest.specs.Answers.{figures_of, nearest_refusal, nearest_float, nearest_figures}
+use Rattle.nearest.specs.Answers.{figures_of, nearest_refusal, nearest_rounded, nearest_figures}
+use Rattle.nearest.specs.Sides.{side_number}
+use Rattle.nearest.specs.declared.Rounded.{Rounded}
+use Rattle.nearest.specs.declared.Side.{Side}
 use Rattle.account.specs.Classes.{class_row_of}
 use Rattle.account.specs.Refusals.{job_lengths}
 use Rattle.coefficients.specs.Coefficients.{coefficient, pair_of, job_pair, class_pair}
@@ -27,8 +31,8 @@ use Rattle.coefficients.specs.declared.Pair.{Pair}
 use Rattle.coefficients.specs.declared.Report.{Report}
 use Rattle.coefficients.proofs.Answered.{alike, sizes_number}
 use Rattle.coefficients.proofs.Readable.{job_readable, classes_readable}
-use Rattle.exports.specs.Floats.{nearest_number, nearest_after, pairs_over}
-use Rattle.exports.specs.Floats.{report_number, globals_after, pairs_after, has_pair_after}
+use Rattle.exports.specs.Floats.{nearest_number, nearest_after, side_after, bits_put, side_put, pairs_over}
+use Rattle.exports.specs.Floats.{report_number, globals_after, global_sides_after, pairs_after, pair_sides_after, has_pair_after}
 use Rattle.exports.specs.Steps.{put_figure, tells}
 use Rattle.exports.proofs.PairList.{one_pair, pairs_same}
 
@@ -40,100 +44,138 @@ sole [] v e = let z : ⊥ = omega (arith, e) in absurd z
 sole (x ∷ []) v e = refl
 sole (x ∷ y ∷ l) v e = let z : ⊥ = omega (arith, e) in absurd z
 
-module _ (p q : ℤ) (out : List ℕ) where
-  pub nearest_by_length : (length out ≡ 1 → ⊥) → 2 ≡ nearest_number p q out
+module _ (p q : ℤ) (out side : List ℕ) where
+  -- where one of the two has another length
+  pub nearest_by_length : (length out ≡ 1 → ⊥) ⊎ ((length out ≡ 1) × (length side ≡ 1 → ⊥)) → 2 ≡ nearest_number p q out side
   unfolding nearest_number
-  nearest_by_length f = rw (ne_eqb (length out) 1 f) refl
+  nearest_by_length (inl f) = rw (ne_eqb (length out) 1 f) refl
+  nearest_by_length (inr e) = rw (eq-eqb (length out) 1 e.0, ne_eqb (length side) 1 e.1) refl
 
-  module _ (fit : length out ≡ 1) where
-    pub nearest_below : nearest_refusal p q ≡ nearest_number p q out
+  module _ (fit : length out ≡ 1) (side_fit : length side ≡ 1) where
+    pub nearest_below : nearest_refusal p q ≡ nearest_number p q out side
     unfolding nearest_number nearest_refusal
-    nearest_below = rw (eq-eqb (length out) 1 fit) refl
+    nearest_below = rw (eq-eqb (length out) 1 fit, eq-eqb (length side) 1 side_fit) refl
 
-    -- what is promised below of an answer that is the float x
-    pub nearest_put :
-        (x : Float) → 0 ≡ nearest_refusal p q → figures_of (Ok x) ≡ nearest_figures p q → set out 0 (to_bits binary64 x) ≡ nearest_after p q out
-    unfolding figures_of nearest_figures nearest_after
-    nearest_put x taken figures =
-        let f : x ∷ [] ≡ nearest_float p q ∷ [] = figures ∙ worked_by _ _ _ taken in
-        let same : x ≡ nearest_float p q = cc in
-        sole out (to_bits binary64 x) fit
-        ∙ ap (λ (v : Float). to_bits binary64 v ∷ []) same
-        ∙ sym (worked_by _ _ _ (taken ∙ nearest_below))
+    -- what is promised below of an answer that is the float x with its side
+    module _ (x : Rounded) (taken : 0 ≡ nearest_refusal p q) (figures : figures_of (Ok x) ≡ nearest_figures p q) where
+      is_nearest : x ≡ nearest_rounded p q
+      unfolding figures_of nearest_figures
+      is_nearest = let f : x ∷ [] ≡ nearest_rounded p q ∷ [] = figures ∙ worked_by _ _ _ taken in cc
+
+      pub nearest_put : set out 0 (to_bits binary64 x.float) ≡ nearest_after p q out side
+      unfolding nearest_after
+      nearest_put =
+          sole out (to_bits binary64 x.float) fit
+          ∙ ap (λ (v : Rounded). to_bits binary64 v.float ∷ []) is_nearest
+          ∙ sym (worked_by _ _ _ (taken ∙ nearest_below))
+
+      pub side_put_too : set side 0 (side_number x.side) ≡ side_after p q out side
+      unfolding side_after
+      side_put_too =
+          sole side (side_number x.side) side_fit
+          ∙ ap (λ (v : Rounded). side_number v.side ∷ []) is_nearest
+          ∙ sym (worked_by _ _ _ (taken ∙ nearest_below))
 
 -- ---- the float report
 
 -- whether a class has its pair is whether it has weight
-tells_weight : (b : Bool) (x : Float) → tells (cond b Weightless (Figure x)) ≡ cond b 0 1
-tells_weight true x = refl
-tells_weight false x = refl
+tells_weight : (b : Bool) (x : Float) (side : Side) → tells (cond b Weightless (Figure x side)) ≡ cond b 0 1
+tells_weight true x side = refl
+tells_weight false x side = refl
 
--- where some lists do not fit, they and two others do not
+-- where some lists do not fit, they and three others do not
 among :
-    (a b c d e : Bool) (others : Bool) → (a || (b || (d || others))) ≡ true → (a || (b || (c || (d || (e || others))))) ≡ true
-among true b c d e others h = refl
-among false true c d e others h = refl
-among false false c true e others h = beside c true refl
-among false false c false e others h = beside c (e || others) (beside e others h)
+    (a b c d e f g others : Bool) → (a || (b || (d || (e || others)))) ≡ true →
+    (a || (b || (c || (d || (e || (f || (g || others))))))) ≡ true
+among true b c d e f g others h = refl
+among false true c d e f g others h = refl
+among false false c true e f g others h = beside c true refl
+among false false c false true f g others h = beside c true refl
+among false false c false false f g others h = beside c (f || (g || others)) (beside f (g || others) (beside g others h))
 
-module _ (n : ℕ) (values : List ℤ) (weights classes : List ℕ) (globals locals pairs has_pair : List ℕ) where
-  -- the lists of four places and more that the call is lent
+module _ (n : ℕ) (values : List ℤ) (weights classes globals global_sides locals local_sides pairs pair_sides has_pair : List ℕ) where
+  -- the lists that the call is lent
   abbrev lent : List (ℕ × ℕ)
-  lent = (length globals, 2) ∷ (length locals, n) ∷ (length pairs, 18) ∷ (length has_pair, 9) ∷ []
+  lent =
+      (length globals, 2)
+      ∷ (length global_sides, 2)
+      ∷ (length locals, n)
+      ∷ (length local_sides, n)
+      ∷ (length pairs, 18)
+      ∷ (length pair_sides, 18)
+      ∷ (length has_pair, 9)
+      ∷ []
 
   -- those that are judged first
+  abbrev from_pairs : List (ℕ × ℕ)
+  from_pairs = (length pairs, 18) ∷ (length pair_sides, 18) ∷ (length has_pair, 9) ∷ []
+
   abbrev judged : List (ℕ × ℕ)
-  judged = job_lengths n (length values) (length weights) ((length globals, 2) ∷ (length pairs, 18) ∷ (length has_pair, 9) ∷ [])
+  judged = job_lengths n (length values) (length weights) ((length globals, 2) ∷ (length global_sides, 2) ∷ from_pairs)
 
   abbrev said : ℕ
-  said = report_number n values weights classes globals locals pairs has_pair
+  said = report_number n values weights classes globals global_sides locals local_sides pairs pair_sides has_pair
 
   pub report_by_sizes : (r : ℕ) → r ≡ first_broken (size_rules n judged) → (r ≡ 0 → ⊥) → r ≡ said
   unfolding report_number
   report_by_sizes r =
       sizes_number n values weights classes lent judged r
       (among (not (eqb (length values) n)) (not (eqb (length weights) (n * n))) (not (eqb (length classes) (n * n)))
-      (not (eqb (length globals) 2)) (not (eqb (length locals) n)) _)
+      (not (eqb (length globals) 2)) (not (eqb (length global_sides) 2)) (not (eqb (length locals) n)) (not (eqb (length local_sides) n)) _)
 
   -- where those have no number, there are at most 64 zones, and the lists fit
   pub record Judged : Type 0 where
     pub zones : n ≤ 64
     pub globals_fit : length globals ≡ 2
+    pub global_sides_fit : length global_sides ≡ 2
     pub pairs_fit : length pairs ≡ 18
+    pub pair_sides_fit : length pair_sides ≡ 18
     pub has_fit : length has_pair ≡ 9
 
   pub report_judged : 0 ≡ first_broken (size_rules n judged) → Judged
   report_judged e =
       let all = sizes_hold n judged (sym e) in
       let from_has : List (ℕ × ℕ) = (length has_pair, 9) ∷ [] in
-      let from_pairs : List (ℕ × ℕ) = (length pairs, 18) ∷ from_has in
-      let from_globals : List (ℕ × ℕ) = (length globals, 2) ∷ from_pairs in
+      let from_pair_sides : List (ℕ × ℕ) = (length pair_sides, 18) ∷ from_has in
+      let from_global_sides : List (ℕ × ℕ) = (length global_sides, 2) ∷ from_pairs in
+      let from_globals : List (ℕ × ℕ) = (length globals, 2) ∷ from_global_sides in
       let of_values = fits (length values) n ((length weights, n * n) ∷ from_globals) all.fitting in
-      let of_globals = fits (length globals) 2 from_pairs (fits (length weights) (n * n) from_globals of_values.1).1 in
-      let of_pairs = fits (length pairs) 18 from_has of_globals.1 in
-      record { zones = all.zones; globals_fit = of_globals.0; pairs_fit = of_pairs.0; has_fit = (fits (length has_pair) 9 [] of_pairs.1).0 }
+      let of_globals = fits (length globals) 2 from_global_sides (fits (length weights) (n * n) from_globals of_values.1).1 in
+      let of_global_sides = fits (length global_sides) 2 from_pairs of_globals.1 in
+      let of_pairs = fits (length pairs) 18 from_pair_sides of_global_sides.1 in
+      let of_pair_sides = fits (length pair_sides) 18 from_has of_pairs.1 in
+      record {
+        zones = all.zones;
+        globals_fit = of_globals.0;
+        global_sides_fit = of_global_sides.0;
+        pairs_fit = of_pairs.0;
+        pair_sides_fit = of_pair_sides.0;
+        has_fit = (fits (length has_pair) 9 [] of_pair_sides.1).0;
+      }
 
   module _ (fit : Judged) where
     -- and the plain report, whose own lists fit, has the call's number
     pub report_below :
-        (rows own : List ℤ) → length rows ≡ 27 → length own ≡ n → plain_refusal n values weights classes rows own locals ≡ said
+        (rows own : List ℤ) → length rows ≡ 27 → length own ≡ n → plain_refusal n values weights classes rows own locals local_sides ≡ said
     unfolding report_number plain_refusal
     report_below rows own r o =
-        alike n values weights classes ((length rows, 27) ∷ (length own, n) ∷ (length locals, n) ∷ []) lent
+        alike n values weights classes ((length rows, 27) ∷ (length own, n) ∷ (length locals, n) ∷ (length local_sides, n) ∷ []) lent
         (rw (
           eq-eqb (length rows) 27 r,
           eq-eqb (length own) n o,
           eq-eqb (length globals) 2 fit.globals_fit,
+          eq-eqb (length global_sides) 2 fit.global_sides_fit,
           eq-eqb (length pairs) 18 fit.pairs_fit,
+          eq-eqb (length pair_sides) 18 fit.pair_sides_fit,
           eq-eqb (length has_pair) 9 fit.has_fit,
         ) refl)
 
     -- its report is that of the job
     module _
         (report : Report) (rows own : List ℤ)
-        (taken : 0 ≡ plain_refusal n values weights classes rows own locals)
-        (whole : pair_in (Ok report) ≡ plain_whole n values weights classes rows own locals)
-        (in_classes : pairs_in (Ok report) ≡ plain_classes n values weights classes rows own locals) where
+        (taken : 0 ≡ plain_refusal n values weights classes rows own locals local_sides)
+        (whole : pair_in (Ok report) ≡ plain_whole n values weights classes rows own locals local_sides)
+        (in_classes : pairs_in (Ok report) ≡ plain_classes n values weights classes rows own locals local_sides) where
       pair_is : report.whole.pair ≡ job_pair n values weights
       unfolding pair_in plain_whole
       pair_is =
@@ -156,28 +198,53 @@ module _ (n : ℕ) (values : List ℤ) (weights classes : List ℕ) (globals loc
           (k : ℕ) →
           tells (class_pair n values weights classes k).moran ≡ cond (is_zero (class_row_of n values weights classes k).weight) 0 1
       unfolding class_pair pair_of coefficient
-      weight_told k = tells_weight (is_zero (class_row_of n values weights classes k).weight) _
+      weight_told k = tells_weight (is_zero (class_row_of n values weights classes k).weight) _ _
 
       -- and is put into the lent lists
       module _ (none : 0 ≡ said) where
-        pub globals_put :
-            put_figure (put_figure globals 0 report.whole.pair.moran) 1 report.whole.pair.geary
-            ≡ globals_after n values weights classes globals locals pairs has_pair
-        unfolding globals_after
-        globals_put =
-            one_pair report.whole.pair globals fit.globals_fit
-            ∙ ap (λ (v : Pair). pairs_over 1 (λ k. v) globals) pair_is
+        -- the pair of the job over two places, and those of the classes over eighteen
+        pair_put :
+            (puts : Float → Side → ℕ) (held : List ℕ) → length held ≡ 2 →
+            put_figure puts (put_figure puts held 0 report.whole.pair.moran) 1 report.whole.pair.geary
+            ≡ unless_refused said (pairs_over puts 1 (λ k. job_pair n values weights) held) held
+        pair_put puts held e =
+            one_pair puts report.whole.pair held e
+            ∙ ap (λ (v : Pair). pairs_over puts 1 (λ k. v) held) pair_is
             ∙ sym (worked_by _ _ _ none)
 
+        nine_put :
+            (puts : Float → Side → ℕ) (held : List ℕ) →
+            pairs_over puts 9 (λ k. get_or report.classes k no_pair) held
+            ≡ unless_refused said (pairs_over puts 9 (class_pair n values weights classes) held) held
+        nine_put puts held = pairs_same puts 9 _ _ held class_is ∙ sym (worked_by _ _ _ none)
+
+        pub globals_put :
+            put_figure bits_put (put_figure bits_put globals 0 report.whole.pair.moran) 1 report.whole.pair.geary
+            ≡ globals_after n values weights classes globals global_sides locals local_sides pairs pair_sides has_pair
+        unfolding globals_after
+        globals_put = pair_put bits_put globals fit.globals_fit
+
+        pub global_sides_put :
+            put_figure side_put (put_figure side_put global_sides 0 report.whole.pair.moran) 1 report.whole.pair.geary
+            ≡ global_sides_after n values weights classes globals global_sides locals local_sides pairs pair_sides has_pair
+        unfolding global_sides_after
+        global_sides_put = pair_put side_put global_sides fit.global_sides_fit
+
         pub pairs_put :
-            pairs_over 9 (λ k. get_or report.classes k no_pair) pairs
-            ≡ pairs_after n values weights classes globals locals pairs has_pair
+            pairs_over bits_put 9 (λ k. get_or report.classes k no_pair) pairs
+            ≡ pairs_after n values weights classes globals global_sides locals local_sides pairs pair_sides has_pair
         unfolding pairs_after
-        pairs_put = pairs_same 9 _ _ pairs class_is ∙ sym (worked_by _ _ _ none)
+        pairs_put = nine_put bits_put pairs
+
+        pub pair_sides_put :
+            pairs_over side_put 9 (λ k. get_or report.classes k no_pair) pair_sides
+            ≡ pair_sides_after n values weights classes globals global_sides locals local_sides pairs pair_sides has_pair
+        unfolding pair_sides_after
+        pair_sides_put = nine_put side_put pair_sides
 
         pub having_put :
             table (λ k. tells (get_or report.classes k no_pair).moran) 9
-            ≡ has_pair_after n values weights classes globals locals pairs has_pair
+            ≡ has_pair_after n values weights classes globals global_sides locals local_sides pairs pair_sides has_pair
         unfolding has_pair_after
         having_put =
             table_cong _ _ 9 0 (λ k p. ap (λ (v : Pair). tells v.moran) (class_is k p) ∙ weight_told k)

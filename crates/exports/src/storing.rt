@@ -8,7 +8,7 @@ ghost use Rattle.account.specs.Rank.{three};
 ghost use Rattle.reader.specs.Answers.{six};
 ghost use Rattle.coefficients.specs.FloatReport.{no_pair};
 ghost use Rattle.coefficients.specs.Steps.{Readable, ReadablePair, ReadablePairs};
-ghost use Rattle.exports.specs.Floats.{pairs_over};
+ghost use Rattle.exports.specs.Floats.{bits_put, side_put, pairs_over};
 ghost use Rattle.exports.specs.Images.{given_by};
 ghost use Rattle.exports.specs.Steps.{put_figure, tells};
 
@@ -86,40 +86,48 @@ pub(super) fn given(counts: &[u64]) -> Given
     }
 }
 
-// The bits of a coefficient into its place, which is left as it was where there is none.
-fn put_coefficient(figures: &mut [u64], place: usize, coefficient: Coefficient)
+// The bits of a coefficient and the number of its side, each into its place, which is left as it was where there is none.
+fn put_coefficient(figures: &mut [u64], sides: &mut [u8], place: usize, coefficient: Coefficient)
     requires place_in_bounds { place < length figures.old }
+    requires side_in_bounds { place < length sides.old }
     requires readable { Readable coefficient }
-    ensures { figures.new ≡ put_figure figures.old place coefficient }
+    ensures figures { figures.new ≡ put_figure bits_put figures.old place coefficient }
+    ensures sides { sides.new ≡ put_figure side_put sides.old place coefficient }
 {
-    if let Coefficient::Figure(x) = coefficient {
+    if let Coefficient::Figure(x, side) = coefficient {
         figures[place] = x.to_bits();
+        sides[place] = nearest::side_number(side);
     }
 }
 
-// Moran and Geary of pair k. C lends the pairs as a flat list; `as_chunks_mut` promises nothing of what it ends as.
-pub(super) fn put_pair(figures: &mut [u64], k: usize, pair: Pair)
+// Moran and Geary of pair k. C lends the pairs as flat lists; `as_chunks_mut` promises nothing of what it ends as.
+pub(super) fn put_pair(figures: &mut [u64], sides: &mut [u8], k: usize, pair: Pair)
     requires k_bound { k < 9 }
     requires k_in_bounds { k * 2 + 1 < length figures.old }
+    requires k_side_in_bounds { k * 2 + 1 < length sides.old }
     requires readable_pair { ReadablePair pair }
-    ensures { figures.new
-        ≡ put_figure (put_figure figures.old (k * 2) pair.moran) (k * 2 + 1) pair.geary }
+    ensures figures { figures.new
+        ≡ put_figure bits_put (put_figure bits_put figures.old (k * 2) pair.moran) (k * 2 + 1) pair.geary }
+    ensures sides { sides.new
+        ≡ put_figure side_put (put_figure side_put sides.old (k * 2) pair.moran) (k * 2 + 1) pair.geary }
 {
     let moran = pair.moran;
     let geary = pair.geary;
     let place = k * 2;
-    put_coefficient(figures, place, moran);
-    put_coefficient(figures, place + 1, geary);
+    put_coefficient(figures, sides, place, moran);
+    put_coefficient(figures, sides, place + 1, geary);
 }
 
 // The pairs of the nine classes.
-pub(super) fn put_pairs(figures: &mut [u64], pairs: &[Pair; 9])
+pub(super) fn put_pairs(figures: &mut [u64], sides: &mut [u8], pairs: &[Pair; 9])
     requires figures_len { length figures.old ≡ 18 }
+    requires sides_len { length sides.old ≡ 18 }
     requires readable_pairs { ReadablePairs pairs.now }
-    ensures { figures.new ≡ pairs_over 9 (λ k. get_or pairs.now k no_pair) figures.old }
+    ensures figures { figures.new ≡ pairs_over bits_put 9 (λ k. get_or pairs.now k no_pair) figures.old }
+    ensures sides { sides.new ≡ pairs_over side_put 9 (λ k. get_or pairs.now k no_pair) sides.old }
 {
     for (k, pair) in pairs.iter().enumerate() {
-        put_pair(figures, k, *pair);
+        put_pair(figures, sides, k, *pair);
     }
 }
 
@@ -128,7 +136,7 @@ fn having(pair: Pair) -> u8
     ensures { result ≡ tells pair.moran }
 {
     match pair.moran {
-        Coefficient::Figure(_) => 1,
+        Coefficient::Figure(_, _) => 1,
         Coefficient::Weightless => 0,
     }
 }

@@ -38,8 +38,9 @@ module _ (s : Start) where
 
   abbrev lent : Lent
   lent =
-      lists s.args.locals.now s.args.rows.now s.args.class_locals.now s.args.own.now s.args.figures.now
-      s.args.parts.now s.args.plain_rows.now s.args.plain_locals.now s.args.plain_figures.now
+      lists s.args.locals.now s.args.rows.now s.args.class_locals.now s.args.own.now s.args.figures.now s.args.sides.now
+      s.args.parts.now s.args.part_sides.now s.args.plain_rows.now s.args.plain_locals.now s.args.plain_figures.now
+      s.args.plain_sides.now
 
   abbrev refusal : ℕ
   refusal = every_refusal n values weights classes lent
@@ -83,14 +84,14 @@ module _ (c : After-class_account) where
   lists_kept :
       (k : Refusal) → number_by k ≡ class_number →
       lists (lent b).locals c.class_account.new.rows c.class_account.new.class_locals
-      c.class_account.new.locals (lent b).figures (lent b).parts (lent b).plain_rows (lent b).plain_locals
-      (lent b).plain_figures
+      c.class_account.new.locals (lent b).figures (lent b).sides (lent b).parts (lent b).part_sides (lent b).plain_rows
+      (lent b).plain_locals (lent b).plain_figures (lent b).plain_sides
       ≡ lent b
   unfolding class_account_rows class_account_locals class_account_own
   lists_kept k e =
       let said = c.class_account.ensures in
       lists_same refl (said.rows ∙ left_by _ _ _ k e) (said.numerators ∙ left_by _ _ _ k e) (said.own ∙ left_by _ _ _ k e) refl refl
-      refl refl refl
+      refl refl refl refl refl refl
 
 pub returns-in_err-sums : goal.returns-in_err-sums
 returns-in_err-sums c =
@@ -143,10 +144,13 @@ work_others-requires c =
         accepted = fit_alike (n s) (values s) (weights s) (classes s) [] (lent_lengths (n s) (lent s)) tt f ∙ accepted t;
         locals_fit = f.0;
         figures_fit = f.1.1.1.1.0;
-        parts_fit = f.1.1.1.1.1.0;
-        plain_rows_fit = f.1.1.1.1.1.1.0;
-        plain_locals_fit = f.1.1.1.1.1.1.1.0;
-        plain_figures_fit = f.1.1.1.1.1.1.1.1.0;
+        sides_fit = f.1.1.1.1.1.0;
+        parts_fit = f.1.1.1.1.1.1.0;
+        part_sides_fit = f.1.1.1.1.1.1.1.0;
+        plain_rows_fit = f.1.1.1.1.1.1.1.1.0;
+        plain_locals_fit = f.1.1.1.1.1.1.1.1.1.0;
+        plain_figures_fit = f.1.1.1.1.1.1.1.1.1.1.0;
+        plain_sides_fit = f.1.1.1.1.1.1.1.1.1.1.1.0;
       };
       sums_value = sums_are t;
     }
@@ -158,6 +162,6 @@ returns c =
     let s = b (d t) in
     let others = c.work_others.ensures.others_left in
     let all = worked (n s) (values s) (weights s) (classes s) (lent s) _ _ (taken t) c.work_others.ensures.value
-    (lists_same others.in_locals (rows_left t) (numerators_left t) (own_left t) others.in_figures others.in_parts others.in_plain_rows
-    others.in_plain_locals others.in_plain_figures) in
+    (lists_same others.in_locals (rows_left t) (numerators_left t) (own_left t) others.in_figures others.in_sides others.in_parts
+    others.in_part_sides others.in_plain_rows others.in_plain_locals others.in_plain_figures others.in_plain_sides) in
     record { number = all.number; answer = all.answer; lent = all.left; demand3 = all.demand3 }

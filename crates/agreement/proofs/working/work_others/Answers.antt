@@ -9,8 +9,10 @@ use Rattle.whole.proofs.Rules.{worked_when_taken}
 use Rattle.refusals.specs.declared.Refusal.{Refusal}
 use Rattle.account.specs.Answers.{account_figures, account_locals}
 use Rattle.account.specs.Refusals.{account_refusal}
-use Rattle.coefficients.specs.FloatReport.{report_refusal, report_sums, report_whole, report_classes, report_figures, report_parts}
-use Rattle.coefficients.specs.FloatReport.{plain_refusal, plain_sums, plain_whole, plain_classes, plain_rows, plain_locals, plain_figures}
+use Rattle.coefficients.specs.FloatReport.{report_refusal, report_sums, report_whole, report_classes}
+use Rattle.coefficients.specs.FloatReport.{report_figures, report_sides, report_parts, report_part_sides}
+use Rattle.coefficients.specs.FloatReport.{plain_refusal, plain_sums, plain_whole, plain_classes}
+use Rattle.coefficients.specs.FloatReport.{plain_rows, plain_locals, plain_figures, plain_sides}
 use Rattle.agreement.specs.EveryFigure.{job_sums, job_report, job_lists}
 use Rattle.agreement.proofs.Answered.{accounted, reported, answers_are}
 use Rattle.agreement.proofs.Fitting.{account_none, report_none, plain_none}
@@ -35,20 +37,23 @@ module _ (s : Start) where
       s.requires.callable.locals_fit
 
   report_taken :
-      report_refusal n s.args.values.now s.args.weights.now s.args.classes.now s.args.figures.now s.args.parts.now ≡ 0
+      report_refusal n s.args.values.now s.args.weights.now s.args.classes.now s.args.figures.now s.args.sides.now s.args.parts.now
+      s.args.part_sides.now
+      ≡ 0
   report_taken =
       let job = s.requires.callable in
-      report_none n s.args.values.now s.args.weights.now s.args.classes.now [] tt job.accepted s.args.figures.now s.args.parts.now
-      job.figures_fit job.parts_fit
+      report_none n s.args.values.now s.args.weights.now s.args.classes.now [] tt job.accepted s.args.figures.now s.args.sides.now
+      s.args.parts.now s.args.part_sides.now job.figures_fit job.sides_fit job.parts_fit job.part_sides_fit
 
   plain_taken :
       plain_refusal n s.args.values.now s.args.weights.now s.args.classes.now s.args.plain_rows.now s.args.plain_locals.now
-      s.args.plain_figures.now
+      s.args.plain_figures.now s.args.plain_sides.now
       ≡ 0
   plain_taken =
       let job = s.requires.callable in
       plain_none n s.args.values.now s.args.weights.now s.args.classes.now [] tt job.accepted s.args.plain_rows.now
-      s.args.plain_locals.now s.args.plain_figures.now job.plain_rows_fit job.plain_locals_fit job.plain_figures_fit
+      s.args.plain_locals.now s.args.plain_figures.now s.args.plain_sides.now job.plain_rows_fit job.plain_locals_fit
+      job.plain_figures_fit job.plain_sides_fit
 
 -- ---- what they answer
 account_is : (c : After-account) → c.account.result ≡ Ok (job_sums c.args.n c.args.values.now c.args.weights.now)
@@ -87,7 +92,7 @@ pub unwrap-plain-requires : goal.unwrap-plain-requires
 unwrap-plain-requires c = there (plain_is ((goal.at.unwrap-plain-requires c).After-plain_report))
 
 pub returns : goal.returns
-unfolding job_lists account_locals report_figures report_parts plain_rows plain_locals plain_figures
+unfolding job_lists account_locals report_figures report_sides report_parts report_part_sides plain_rows plain_locals plain_figures plain_sides
 returns c =
     let t = goal.at.returns c in
     let s = t.Start in
@@ -99,9 +104,12 @@ returns c =
       others_left = record {
         in_locals = c.account.ensures.lent ∙ worked_when_taken _ _ _ (account_taken s);
         in_figures = c.float_report.ensures.figures ∙ worked_when_taken _ _ _ (report_taken s);
+        in_sides = c.float_report.ensures.sides ∙ worked_when_taken _ _ _ (report_taken s);
         in_parts = c.float_report.ensures.parts ∙ worked_when_taken _ _ _ (report_taken s);
+        in_part_sides = c.float_report.ensures.part_sides ∙ worked_when_taken _ _ _ (report_taken s);
         in_plain_rows = c.plain_report.ensures.rows ∙ worked_when_taken _ _ _ (plain_taken s);
         in_plain_locals = c.plain_report.ensures.locals ∙ worked_when_taken _ _ _ (plain_taken s);
         in_plain_figures = c.plain_report.ensures.figures ∙ worked_when_taken _ _ _ (plain_taken s);
+        in_plain_sides = c.plain_report.ensures.sides ∙ worked_when_taken _ _ _ (plain_taken s);
       };
     }
