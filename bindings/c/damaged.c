@@ -444,8 +444,9 @@ static int64_t wild_whole(void)
 }
 
 /*
- * The side of the float nearest to p over q, p not 0. The float is its digits times a power of 2. What digits times q is more than p, both times
- * the power that makes them whole, is below 2^63 in size, so near is a nearest float; so its last 64 bits show whether it is 0 or less.
+ * The side of the float nearest to p over q, p not 0. The float is its digits times a power of 2. What digits times q is more than p, one of
+ * them shifted by that power, is at most q / 2 in size where the power is not above 0, so near is a nearest float, and below 1,000 else; so
+ * its last 64 bits show whether it is 0 or less.
  */
 static uint8_t side_of(int64_t p, int64_t q, uint64_t bits)
 {

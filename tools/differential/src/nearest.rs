@@ -49,9 +49,9 @@ fn rounded(p: i64, q: i64) -> f64 {
     }
 }
 
-/// Where the nearest float lies, whatever way it was found: its digits times q against p, the lesser power of 2 of the two taken out. The two
-/// products are nearly equal and the first has 116 binary digits at most, so that no digit is lost. A figure below 0 lies above the
-/// ratio where its size is the lesser.
+/// Where the nearest float lies, whatever way it was found. It is its digits times a power of 2: digits times q is held against p, one of
+/// the two shifted by that power. They are then nearly equal, and have 117 binary digits at most, so that none is lost. A figure
+/// below 0 lies above the ratio where its size is the lesser.
 fn side(p: i64, q: i64, float: f64) -> u8 {
     if p == 0 {
         return EQUAL;

@@ -218,7 +218,8 @@ fn refused_floats() {
     }
 }
 
-/// The job of document 01's report by its bands: every figure is exact. Class 0 has no weight and leaves what it was lent, zone 3 is left out.
+/// The job of document 01's report by its bands: every figure is exact. Class 0 has no weight and leaves what it was lent, zone 3 is left
+/// out.
 #[test]
 fn float_report() {
     let weights = job(4, &[(0, 1, 3), (1, 0, 3), (1, 2, 1), (2, 1, 1)]);
