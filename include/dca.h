@@ -2,7 +2,8 @@
  * The district clustering account, for C and C++.
  *
  * What this is: the calls of the proved library, as the archive libexports.a has them (`rt lib` in crates/exports). Each call is proved, in
- * crates/exports/src, to answer and to store what the definitions of document 01 say, as requests A.6 and A.7 of document 02 changed them.
+ * crates/exports/src, to answer and to store what the definitions of document 01 say, as requests A.6, A.7 and A.10 of document 02 changed
+ * them.
  * This header and what follows from a promise broken by the caller are not part of the proof.
  *
  * Lists: each list is a pointer and then a length, which is the number of entries, not of bytes. An `out` list is written by the call,
@@ -23,8 +24,12 @@
  * bad value is refused with 3 also at a zone left out, and a bad weight with 4 or 5 also at one not returned. The join table, the networks
  * and the bands leave out nothing.
  *
+ * Sides: each float that a call works is the one nearest to an exact ratio, and comes with its side in a list of its own: DCA_SIDE_EQUAL,
+ * the float equals the ratio; DCA_SIDE_BELOW, it is less than the ratio; DCA_SIDE_ABOVE, it is greater. That is by value, not by size: of a
+ * ratio below 0 the float on the side above is the one nearer to 0, as BFD5555555555555 is of -1/3. A ratio of 0 is equal to +0.
+ *
  * Floats that a call leaves as they were, all of a refused call and the pair of a class without weight, are kept to the bit: a NaN, quiet
- * or signalling, keeps its sign and its payload.
+ * or signalling, keeps its sign and its payload. Their sides are left too.
  *
  * Duties of the caller:
  * - A pointer is valid for as many entries as its length says, aligned for its type, and never null, not even of a list of length 0.
@@ -106,6 +111,13 @@ enum dca_refusal {
     DCA_REFUSED_OUTPUT = 19       /* the writer's output is shorter than the image */
 };
 
+/* Where a float lies beside the exact ratio that it is nearest to: by value, not by size. */
+enum dca_side {
+    DCA_SIDE_EQUAL = 0, /* the float equals the ratio: `=` in a report */
+    DCA_SIDE_BELOW = 1, /* the float is less than the ratio: `<` */
+    DCA_SIDE_ABOVE = 2  /* the float is greater than the ratio: `>` */
+};
+
 /*
  * The account of a job.
  *   n             zones, 2 to 64
@@ -137,13 +149,17 @@ uint8_t dca_class_account(size_t n,
                           int64_t *class_locals, size_t class_locals_len);
 
 /*
- * The float report of a job under one assignment of classes. Each float is the one nearest to the exact ratio.
+ * The float report of a job under one assignment of classes. Each float is the one nearest to the exact ratio, and its side (enum dca_side)
+ * is at the same place of the list of sides behind it.
  *   n, values, weights, classes   as dca_class_account
- *   globals   out   2: Moran's I and Geary's c of the job
- *   locals    out   n: the local Moran L(i) / M of each zone, +0 at a zone left out
- *   pairs     out   18: Moran's I and Geary's c of class k at 2 * k and 2 * k + 1; a class without weight leaves its two as they were,
- *                   to the bit
- *   has_pair  out   9: 1 where class k has weight, else 0
+ *   globals       out   2: Moran's I and Geary's c of the job
+ *   global_sides  out   2
+ *   locals        out   n: the local Moran L(i) / M of each zone, +0 at a zone left out
+ *   local_sides   out   n; DCA_SIDE_EQUAL at a zone left out
+ *   pairs         out   18: Moran's I and Geary's c of class k at 2 * k and 2 * k + 1; a class without weight leaves its two as they were,
+ *                       to the bit
+ *   pair_sides    out   18; a class without weight leaves its two as they were
+ *   has_pair      out   9: 1 where class k has weight, else 0
  * Refusals: 1 2 3 4 5 6 7 9.
  */
 uint8_t dca_float_report(size_t n,
@@ -151,18 +167,24 @@ uint8_t dca_float_report(size_t n,
                          const uint8_t *weights, size_t weights_len,
                          const uint8_t *classes, size_t classes_len,
                          double *globals, size_t globals_len,
+                         uint8_t *global_sides, size_t global_sides_len,
                          double *locals, size_t locals_len,
+                         uint8_t *local_sides, size_t local_sides_len,
                          double *pairs, size_t pairs_len,
+                         uint8_t *pair_sides, size_t pair_sides_len,
                          uint8_t *has_pair, size_t has_pair_len);
 
 /*
- * The 64-bit float nearest to p over q, at a tie the one with an even mantissa; 0 over q is +0.
+ * The 64-bit float nearest to p over q, at a tie the one with an even mantissa; 0 over q is +0. And its side.
  *   p     -6x10^18 to 6x10^18
  *   q     1 to 6x10^18
  *   out   out   1: the float
+ *   side  out   1: enum dca_side
  * Refusals: 2 18.
  */
-uint8_t dca_nearest(int64_t p, int64_t q, double *out, size_t out_len);
+uint8_t dca_nearest(int64_t p, int64_t q,
+                    double *out, size_t out_len,
+                    uint8_t *side, size_t side_len);
 
 /*
  * The hot list of a job.
@@ -277,7 +299,8 @@ uint8_t dca_write(const int32_t *values, size_t values_len,
 
 /*
  * The report of an image as text. The text is ASCII, each line ends with a newline, and no 0 byte closes it. Its lines `zones` and
- * `expected` count the zones kept, and a zone left out has no line `local`. It does not say how many values are not returned.
+ * `expected` count the zones kept, and a zone left out has no line `local`. It does not say how many values are not returned. Right behind
+ * the 16 digits of a float is the sign of its side; the `-` of a class without weight has none.
  *   image         any length
  *   text    out   16,384: the text is at the front, the rest is kept
  *   length  out   1: the bytes of the text

@@ -8,7 +8,8 @@
  * call, so that valgrind sees a read or a write one past. Looked at after each call: the number is one that the call may give, 1 and 2 are
  * given exactly where they apply, a report is refused as the reader refuses its image, lists that are only read are as they were, and so is
  * every lent byte where the call is refused; an account counts the zones kept and the values not returned, and has 0 at zones left out; a
- * join table has the weights between zones that are returned. Ends with 1 at the first fault.
+ * float report has +0 and the equal side there, and a side for each float; a nearest float has the side that its distance shows; a join
+ * table has the weights between zones that are returned. Ends with 1 at the first fault.
  */
 #include <inttypes.h>
 #include <stdint.h>
@@ -18,7 +19,7 @@
 
 #include "dca.h"
 
-enum { ROUNDS = 1000, LISTS_MOST = 9, NUMBERS = 20 };
+enum { ROUNDS = 1000, LISTS_MOST = 10, NUMBERS = 20 };
 
 enum call { ACCOUNT, CLASS_ACCOUNT, FLOAT_REPORT, NEAREST, HOT_LIST, RANK, JOIN_TABLE, GABRIEL, BANDS, ROOK, BISHOP, QUEEN, READ, WRITE,
             REPORT, CALLS };
@@ -382,6 +383,35 @@ static void try_class_account(void)
     take_back();
 }
 
+static void look_at_sides(const uint8_t *sides, size_t len)
+{
+    for (size_t i = 0; i < len; i++)
+        if (sides[i] != DCA_SIDE_EQUAL && sides[i] != DCA_SIDE_BELOW && sides[i] != DCA_SIDE_ABOVE)
+            fault(FLOAT_REPORT, "not a side");
+}
+
+/* A zone left out has +0, which is equal. */
+static void look_at_locals(const struct list *locals, const struct list *sides)
+{
+    static const uint8_t zero[8];
+    look_at_sides(sides->at, sides->len);
+    for (size_t zone = 0; zone < job.n; zone++)
+        if (!touches_somebody(zone) && (memcmp(locals->at + 8 * zone, zero, 8) != 0 || sides->at[zone] != DCA_SIDE_EQUAL))
+            fault(FLOAT_REPORT, "a zone left out has a figure");
+}
+
+static void look_at_pairs(const struct list *pairs, const struct list *sides, const struct list *has_pair)
+{
+    for (size_t c = 0; c < DCA_CLASSES; c++) {
+        if (has_pair->at[c] > 1)
+            fault(FLOAT_REPORT, "has_pair");
+        if (has_pair->at[c] == 1)
+            look_at_sides(sides->at + 2 * c, 2);
+        else if (memcmp(pairs->at + 16 * c, pairs->before + 16 * c, 16) != 0 || memcmp(sides->at + 2 * c, sides->before + 2 * c, 2) != 0)
+            fault(FLOAT_REPORT, "the pair of a class without weight was changed");
+    }
+}
+
 static void try_float_report(void)
 {
     size_t n = start(), k = below(9);
@@ -389,15 +419,19 @@ static void try_float_report(void)
         if (job.classes[i] == k)
             job.classes[i] = (uint8_t)(k == 0 ? 1 : 0);
     struct list *values = IN(job.n, job.values), *weights = IN(job.n * job.n, job.weights), *classes = IN(job.n * job.n, job.classes);
-    struct list *globals = lend_floats(2), *locals = lend_floats(job.n), *pairs = lend_floats(18), *has_pair = OUT(9, uint8_t);
+    struct list *globals = lend_floats(2), *global_sides = OUT(2, uint8_t), *locals = lend_floats(job.n);
+    struct list *local_sides = OUT(job.n, uint8_t), *pairs = lend_floats(18), *pair_sides = OUT(18, uint8_t);
+    struct list *has_pair = OUT(9, uint8_t);
     uint8_t number = dca_float_report(n, GIVE(values, int32_t), GIVE(weights, uint8_t), GIVE(classes, uint8_t), GIVE(globals, double),
-                                      GIVE(locals, double), GIVE(pairs, double), GIVE(has_pair, uint8_t));
+                                      GIVE(global_sides, uint8_t), GIVE(locals, double), GIVE(local_sides, uint8_t),
+                                      GIVE(pairs, double), GIVE(pair_sides, uint8_t), GIVE(has_pair, uint8_t));
     look(FLOAT_REPORT, number, first_number(n));
-    for (size_t c = 0; number == 0 && c < 9; c++) {
-        if (has_pair->at[c] > 1 || (c == k && has_pair->at[c] != 0))
-            fault(FLOAT_REPORT, "has_pair");
-        if (has_pair->at[c] == 0 && memcmp(pairs->at + 16 * c, pairs->before + 16 * c, 16) != 0)
-            fault(FLOAT_REPORT, "the pair of a class without weight was changed");
+    if (number == 0) {
+        if (has_pair->at[k] != 0)
+            fault(FLOAT_REPORT, "a class without weight has a pair");
+        look_at_sides(global_sides->at, 2);
+        look_at_locals(locals, local_sides);
+        look_at_pairs(pairs, pair_sides, has_pair);
     }
     take_back();
 }
@@ -409,14 +443,36 @@ static int64_t wild_whole(void)
     return one_in(2) ? edges[below(sizeof edges / sizeof edges[0])] : (int64_t)(draw() >> 1 >> below(63)) * (one_in(3) ? -1 : 1);
 }
 
+/*
+ * The side of the float nearest to p over q, p not 0. The float is its digits times a power of 2. What digits times q is more than p, one of
+ * them shifted by that power, is at most q / 2 in size where the power is not above 0, so near is a nearest float, and below 1,000 else; so
+ * its last 64 bits show whether it is 0 or less.
+ */
+static uint8_t side_of(int64_t p, int64_t q, uint64_t bits)
+{
+    int power = (int)(bits >> 52 & 2047) - 1075;
+    uint64_t digits = (bits & ((UINT64_C(1) << 52) - 1)) | UINT64_C(1) << 52;
+    uint64_t size = p < 0 ? -(uint64_t)p : (uint64_t)p;
+    uint64_t more = (digits * (uint64_t)q << (power > 0 ? power : 0)) - (power > 0 ? size : power > -64 ? size << -power : 0);
+    if (more == 0)
+        return DCA_SIDE_EQUAL;
+    return (more >> 63 == 1) == (p > 0) ? DCA_SIDE_BELOW : DCA_SIDE_ABOVE;
+}
+
 static void try_nearest(void)
 {
     int64_t p = wild_whole(), q = wild_whole();
-    length_damage = one_in(3) ? 1 : 0;
-    struct list *out = lend_floats(1);
-    uint8_t number = dca_nearest(p, q, GIVE(out, double));
+    length_damage = one_in(3) ? 2 : 0;
+    struct list *out = lend_floats(1), *side = OUT(1, uint8_t);
+    uint8_t number = dca_nearest(p, q, GIVE(out, double), GIVE(side, uint8_t));
     int taken = q >= 1 && q <= DCA_RATIO_MOST && p <= DCA_RATIO_MOST && p >= -DCA_RATIO_MOST;
     look(NEAREST, number, wrong_length ? 2 : taken ? 0 : 18);
+    if (number == 0) {
+        uint64_t bits;
+        memcpy(&bits, out->at, sizeof bits);
+        if (side->at[0] != (p == 0 ? DCA_SIDE_EQUAL : side_of(p, q, bits)))
+            fault(NEAREST, "not the side that its distance shows");
+    }
     take_back();
 }
 

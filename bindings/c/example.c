@@ -55,12 +55,21 @@ static void done(const char *call, uint8_t refusal)
     }
 }
 
-/* A float by its decimals and by its 64 bits. */
-static void print_float(double figure)
+/* A float by its decimals and by its 64 bits, with the sign of its side right behind them. */
+static void print_float(double figure, uint8_t side)
 {
     uint64_t bits;
     memcpy(&bits, &figure, sizeof bits);
-    printf("%.6f (%016" PRIX64 ")", figure, bits);
+    printf("%.6f (%016" PRIX64 "%c)", figure, bits, side == DCA_SIDE_EQUAL ? '=' : side == DCA_SIDE_BELOW ? '<' : '>');
+}
+
+static void print_pair(const double pair[2], const uint8_t sides[2])
+{
+    printf("Moran ");
+    print_float(pair[0], sides[0]);
+    printf(", Geary ");
+    print_float(pair[1], sides[1]);
+    printf("\n");
 }
 
 static void print_sums(const char *of, const int64_t sums[DCA_SUMS])
@@ -93,29 +102,36 @@ static void show_float_report(void)
 {
     uint8_t classes[N * N], has_pair[DCA_CLASSES];
     double globals[DCA_GLOBALS], locals[N], pairs[DCA_PAIRS];
+    uint8_t global_sides[DCA_GLOBALS], local_sides[N], pair_sides[DCA_PAIRS];
     done("dca_bands", dca_bands(N, LIST(places), LIST(bands), LIST(classes)));
-    done("dca_float_report", dca_float_report(N, LIST(values), LIST(weights), LIST(classes),
-                                              LIST(globals), LIST(locals), LIST(pairs), LIST(has_pair)));
-    printf("float report: Moran ");
-    print_float(globals[0]);
-    printf(", Geary ");
-    print_float(globals[1]);
-    printf("\n");
+    done("dca_float_report", dca_float_report(N, LIST(values), LIST(weights), LIST(classes), LIST(globals), LIST(global_sides),
+                                              LIST(locals), LIST(local_sides), LIST(pairs), LIST(pair_sides), LIST(has_pair)));
+    printf("float report: ");
+    print_pair(globals, global_sides);
     for (int zone = 0; zone < N; zone++) {
         printf("  zone %d: local Moran ", zone);
-        print_float(locals[zone]);
+        print_float(locals[zone], local_sides[zone]);
         printf("\n");
     }
     for (size_t k = 0; k <= LEN(bands); k++) {
         printf("  class %zu: ", k);
-        if (has_pair[k]) {
-            printf("Moran ");
-            print_float(pairs[2 * k]);
-            printf(", Geary ");
-            print_float(pairs[2 * k + 1]);
-        } else {
-            printf("no weight, no coefficient");
-        }
+        if (has_pair[k])
+            print_pair(pairs + 2 * k, pair_sides + 2 * k);
+        else
+            printf("no weight, no coefficient\n");
+    }
+}
+
+/* The figures of the job above are exact. A third is not: its float is below it, and that of minus a third above. */
+static void show_nearest(void)
+{
+    static const int64_t ratios[][2] = {{1, 2}, {1, 3}, {-1, 3}};
+    double out[1];
+    uint8_t side[1];
+    for (size_t i = 0; i < LEN(ratios); i++) {
+        done("dca_nearest", dca_nearest(ratios[i][0], ratios[i][1], LIST(out), LIST(side)));
+        printf("nearest to %" PRId64 "/%" PRId64 ": ", ratios[i][0], ratios[i][1]);
+        print_float(out[0], side[0]);
         printf("\n");
     }
 }
@@ -235,6 +251,7 @@ int main(void)
     show_account();
     show_hot_list();
     show_float_report();
+    show_nearest();
     show_join_table();
     show_rank();
     show_networks();

@@ -25,6 +25,7 @@ static uint8_t categories[64], weights[4096], classes[4096], network[4096], shuf
 static uint32_t bands[8];
 static int64_t locals[64], sums[DCA_SUMS], rows[27], class_locals[576], table[64];
 static double globals[2], figures[64], pairs[18], nearest[1];
+static uint8_t global_sides[2], figure_sides[64], pair_sides[18], side[1];
 static uint64_t six[6], five[5], counts[3], length[1];
 static size_t n;
 
@@ -47,9 +48,10 @@ static int call_class_account(void)
 }
 static int call_float_report(void)
 {
-    return dca_float_report(n, values, n, weights, n * n, classes, n * n, globals, 2, figures, n, pairs, 18, has_pair, 9);
+    return dca_float_report(n, values, n, weights, n * n, classes, n * n, globals, 2, global_sides, 2, figures, n, figure_sides, n,
+                            pairs, 18, pair_sides, 18, has_pair, 9);
 }
-static int call_nearest(void) { return dca_nearest(-1, 3, nearest, 1); }
+static int call_nearest(void) { return dca_nearest(-1, 3, nearest, 1, side, 1); }
 static int call_hot_list(void) { return dca_hot_list(n, values, n, weights, n * n, zones, n); }
 static int call_rank(void) { return dca_rank(n, values, n, weights, n * n, shuffles, (size_t)six[5] * n, counts, 3); }
 static int call_join_table(void) { return dca_join_table(n, values, n, categories, n, weights, n * n, table, 64); }

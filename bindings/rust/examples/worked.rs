@@ -1,7 +1,7 @@
 //! The worked job of document 01, through every kind of call: prints what bindings/c/example.c prints. Its last zone touches nobody
 //! and is left out. Then its first zone sends no value.
 
-use dca::{Buffers, Given, Refusal};
+use dca::{Buffers, Given, Refusal, Rounded};
 
 const N: usize = 4;
 const CATEGORIES_USED: usize = 2;
@@ -18,9 +18,9 @@ const PLACES: [i32; 2 * N] = [0, 0, 1, 0, 3, 0, 9, 9];
 const BANDS: [u32; 2] = [1, 4];
 const SHUFFLES: [u8; 2 * N] = [0, 1, 2, 3, 2, 1, 0, 3];
 
-/// A float by its decimals and by its 64 bits.
-fn float(figure: f64) -> String {
-    format!("{figure:.6} ({:016X})", figure.to_bits())
+/// A float by its decimals and by its 64 bits, with the sign of its side right behind them.
+fn shown(figure: Rounded) -> String {
+    format!("{:.6} ({:016X}{})", figure.float, figure.float.to_bits(), figure.side.sign())
 }
 
 fn print_sums(of: &str, sums: dca::Sums) {
@@ -49,19 +49,27 @@ fn show_hot_list() -> Result<(), Refusal> {
 /// The class of each pair comes from the bands of squared distance.
 fn show_float_report() -> Result<(), Refusal> {
     let mut classes = [0; N * N];
-    let mut locals = [0.0; N];
+    let mut locals = [Rounded::default(); N];
     dca::bands(N, &PLACES, &BANDS, &mut classes)?;
     let report = dca::float_report(N, &VALUES, &WEIGHTS, &classes, &mut locals)?;
-    let of = |pair: dca::Pair| format!("Moran {}, Geary {}", float(pair.moran), float(pair.geary));
+    let of = |pair: dca::Pair| format!("Moran {}, Geary {}", shown(pair.moran), shown(pair.geary));
     println!("float report: {}", of(report.globals));
     for (zone, local) in locals.iter().enumerate() {
-        println!("  zone {zone}: local Moran {}", float(*local));
+        println!("  zone {zone}: local Moran {}", shown(*local));
     }
     for (k, pair) in report.classes.iter().enumerate().take(BANDS.len() + 1) {
         match pair {
             Some(pair) => println!("  class {k}: {}", of(*pair)),
             None => println!("  class {k}: no weight, no coefficient"),
         }
+    }
+    Ok(())
+}
+
+/// The figures of the job above are exact. A third is not: its float is below it, and that of minus a third above.
+fn show_nearest() -> Result<(), Refusal> {
+    for (p, q) in [(1, 2), (1, 3), (-1, 3)] {
+        println!("nearest to {p}/{q}: {}", shown(dca::nearest(p, q)?));
     }
     Ok(())
 }
@@ -179,6 +187,7 @@ fn main() -> Result<(), Refusal> {
     show_account()?;
     show_hot_list()?;
     show_float_report()?;
+    show_nearest()?;
     show_join_table()?;
     show_rank()?;
     show_networks()?;

@@ -1,6 +1,6 @@
 //! The account of a job and what is worked from it.
 
-use crate::{raw, Refusal, CLASSES, CLASS_ROWS, JOIN_TABLE};
+use crate::{raw, Refusal, CLASSES, CLASS_ROWS, JOIN_TABLE, ZONES_MOST};
 
 /// S, M, W, P, G, the number of zones kept and the number of values not returned.
 const SUMS: usize = 7;
@@ -24,11 +24,51 @@ pub struct Sums {
     pub missing: usize,
 }
 
-/// Moran's I and Geary's c of a job or of a class, each the float nearest to the exact ratio.
+/// Where a float lies beside the exact ratio that it is nearest to, by value and not by size: of a ratio below 0 a float above it is the
+/// one nearer to 0.
+#[derive(Debug, Clone, Copy, PartialEq, Eq, Hash, Default)]
+pub enum Side {
+    /// The float equals the ratio.
+    #[default]
+    Equal,
+    /// The float is less than the ratio.
+    Below,
+    /// The float is greater than the ratio.
+    Above,
+}
+
+impl Side {
+    /// Of a number that a call stored; there are no others.
+    fn of(number: u8) -> Self {
+        match number {
+            0 => Side::Equal,
+            1 => Side::Below,
+            _ => Side::Above,
+        }
+    }
+
+    /// `=`, `<` or `>`, which a report puts behind the bits.
+    pub const fn sign(self) -> char {
+        match self {
+            Side::Equal => '=',
+            Side::Below => '<',
+            Side::Above => '>',
+        }
+    }
+}
+
+/// The float nearest to an exact ratio, and its side of it.
+#[derive(Debug, Clone, Copy, PartialEq, Default)]
+pub struct Rounded {
+    pub float: f64,
+    pub side: Side,
+}
+
+/// Moran's I and Geary's c of a job or of a class.
 #[derive(Debug, Clone, Copy, PartialEq)]
 pub struct Pair {
-    pub moran: f64,
-    pub geary: f64,
+    pub moran: Rounded,
+    pub geary: Rounded,
 }
 
 /// The coefficients of a job and of its classes.
@@ -118,57 +158,89 @@ pub fn class_account(
     })
 }
 
-/// The coefficients of a job and of its classes; the local Moran L(i) / M of each zone goes into `locals`, +0 at a zone left out. Each
-/// float is the nearest to the exact ratio.
+/// Lists of floats and of their sides, as a call is lent them.
+struct Figures<const N: usize> {
+    floats: [f64; N],
+    sides: [u8; N],
+}
+
+impl<const N: usize> Figures<N> {
+    fn new() -> Self {
+        Figures {
+            floats: [0.0; N],
+            sides: [0; N],
+        }
+    }
+
+    fn at(&self, place: usize) -> Rounded {
+        Rounded {
+            float: self.floats[place],
+            side: Side::of(self.sides[place]),
+        }
+    }
+
+    fn pair(&self, k: usize) -> Pair {
+        Pair {
+            moran: self.at(2 * k),
+            geary: self.at(2 * k + 1),
+        }
+    }
+}
+
+/// The coefficients of a job and of its classes; the local Moran L(i) / M of each zone goes into `locals`, +0 and [`Side::Equal`] at a zone
+/// left out.
 ///
 /// `n`, `values`, `weights` and `classes` as [`class_account`]; `locals` has n entries.
 ///
 /// # Errors
 ///
 /// 1 2 3 4 5 6 7 9: the least that applies; `locals` is then as it was, to the bit.
-pub fn float_report(n: usize, values: &[i32], weights: &[u8], classes: &[u8], locals: &mut [f64]) -> Result<FloatReport, Refusal> {
-    let mut globals = [0.0; 2];
-    let mut pairs = [0.0; 2 * CLASSES];
+pub fn float_report(n: usize, values: &[i32], weights: &[u8], classes: &[u8], locals: &mut [Rounded]) -> Result<FloatReport, Refusal> {
+    let (mut globals, mut pairs) = (Figures::<2>::new(), Figures::<{ 2 * CLASSES }>::new());
     let mut has_pair = [0; CLASSES];
-    // As in `account`.
-    Refusal::of(unsafe {
+    // Of a list that is too long for any job so much is lent that it is too long.
+    let mut figures = Figures::<{ ZONES_MOST + 1 }>::new();
+    let used = locals.len().min(ZONES_MOST + 1);
+    // As in `account`; a line is a list.
+    #[rustfmt::skip]
+    let number = unsafe {
         raw::dca_float_report(
             n,
-            values.as_ptr(),
-            values.len(),
-            weights.as_ptr(),
-            weights.len(),
-            classes.as_ptr(),
-            classes.len(),
-            globals.as_mut_ptr(),
-            globals.len(),
-            locals.as_mut_ptr(),
-            locals.len(),
-            pairs.as_mut_ptr(),
-            pairs.len(),
-            has_pair.as_mut_ptr(),
-            has_pair.len(),
+            values.as_ptr(), values.len(),
+            weights.as_ptr(), weights.len(),
+            classes.as_ptr(), classes.len(),
+            globals.floats.as_mut_ptr(), globals.floats.len(),
+            globals.sides.as_mut_ptr(), globals.sides.len(),
+            figures.floats.as_mut_ptr(), used,
+            figures.sides.as_mut_ptr(), used,
+            pairs.floats.as_mut_ptr(), pairs.floats.len(),
+            pairs.sides.as_mut_ptr(), pairs.sides.len(),
+            has_pair.as_mut_ptr(), has_pair.len(),
         )
-    })?;
-    let pair = |moran, geary| Pair { moran, geary };
+    };
+    Refusal::of(number)?;
+    for (zone, local) in locals.iter_mut().enumerate() {
+        *local = figures.at(zone);
+    }
     Ok(FloatReport {
-        globals: pair(globals[0], globals[1]),
-        classes: std::array::from_fn(|k| (has_pair[k] == 1).then(|| pair(pairs[2 * k], pairs[2 * k + 1]))),
+        globals: globals.pair(0),
+        classes: std::array::from_fn(|k| (has_pair[k] == 1).then(|| pairs.pair(k))),
     })
 }
 
-/// The 64-bit float nearest to p over q, at a tie the one with an even mantissa; 0 over q is +0.
+/// The 64-bit float nearest to p over q, at a tie the one with an even mantissa, and its side; 0 over q is +0.
 ///
 /// `p` is at most 6×10^18 in size, `q` 1 to 6×10^18.
 ///
 /// # Errors
 ///
 /// 18.
-pub fn nearest(p: i64, q: i64) -> Result<f64, Refusal> {
-    let mut out = [0.0; 1];
+pub fn nearest(p: i64, q: i64) -> Result<Rounded, Refusal> {
+    let mut figure = Figures::<1>::new();
+    let Figures { floats, sides } = &mut figure;
     // As in `account`.
-    Refusal::of(unsafe { raw::dca_nearest(p, q, out.as_mut_ptr(), out.len()) })?;
-    Ok(out[0])
+    Refusal::of(unsafe { raw::dca_nearest(p, q, floats.as_mut_ptr(), floats.len(), sides.as_mut_ptr(), sides.len()) })?;
+    Ok(figure.at(0))
 }
 
 /// The zones kept by falling L(i), equal ones by rising zone number, then those left out by rising zone number, into `zones`, which has n

@@ -9,13 +9,15 @@
 //! every figure, the join table too; but 4 and 5 judge them as they are lent, and an image keeps the mark and the joins. 6 is given where
 //! nothing is left of the weights.
 //!
+//! Each float is the one nearest to the exact ratio, and comes with its [`Side`]: whether it equals the ratio, lies below it or above it.
+//!
 //! A zone whose row and column then hold no weight touches nobody and is left out; so is a zone not returned, and a zone that touches no
 //! others. Sums, mean and spread are those of the zones kept, with their number in the place of n. A zone that only gets weight, or only
 //! gives it, is kept. Lengths, the counts of an image and every refusal but 6 and 7 count all zones. The join table, the networks and the
 //! bands leave out nothing.
 //!
 //! ```
-//! use dca::{account, nearest, Refusal};
+//! use dca::{account, nearest, Refusal, Side};
 //!
 //! let values = [1, 2, 6];
 //! let weights = [0, 1, 0, 1, 0, 1, 0, 1, 0]; // a line of three zones
@@ -26,7 +28,8 @@
 //! assert_eq!(locals, [18, -9, -27]);
 //!
 //! let moran = nearest(sums.cross, sums.weight * sums.spread)?;
-//! assert_eq!(moran, -18.0 / 168.0);
+//! assert_eq!(moran.float, -18.0 / 168.0);
+//! assert_eq!(moran.side, Side::Above); // nearer to 0 than the ratio
 //!
 //! assert_eq!(account(3, &[5, 5, 5], &weights, &mut locals), Err(Refusal::NO_SPREAD));
 //! assert_eq!(locals, [18, -9, -27]);
@@ -42,7 +45,7 @@ pub mod raw;
 mod refusal;
 
 pub use figures::{account, class_account, float_report, hot_list, join_table, nearest, rank};
-pub use figures::{Counts, FloatReport, Pair, Sums};
+pub use figures::{Counts, FloatReport, Pair, Rounded, Side, Sums};
 pub use job_image::{read, report, write, Buffers, Given, Sections};
 pub use networks::{bands, gabriel, grid, Move};
 pub use refusal::Refusal;

@@ -26,12 +26,19 @@ extern "C" {
         weights: *const u8, weights_len: usize,
         classes: *const u8, classes_len: usize,
         globals: *mut f64, globals_len: usize,
+        global_sides: *mut u8, global_sides_len: usize,
         locals: *mut f64, locals_len: usize,
+        local_sides: *mut u8, local_sides_len: usize,
         pairs: *mut f64, pairs_len: usize,
+        pair_sides: *mut u8, pair_sides_len: usize,
         has_pair: *mut u8, has_pair_len: usize,
     ) -> u8;
 
-    pub fn dca_nearest(p: i64, q: i64, out: *mut f64, out_len: usize) -> u8;
+    pub fn dca_nearest(
+        p: i64, q: i64,
+        out: *mut f64, out_len: usize,
+        side: *mut u8, side_len: usize,
+    ) -> u8;
 
     pub fn dca_hot_list(
         n: usize,

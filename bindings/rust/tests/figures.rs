@@ -1,7 +1,7 @@
-//! Document 01's figures at the edges, as request A.6 changed them, values not returned, the refusals, and that a refused call leaves what it
-//! was lent as it was.
+//! Document 01's figures at the edges, as request A.6 changed them, values not returned, the sides of floats, the refusals, and that a refused
+//! call leaves what it was lent as it was.
 
-use dca::{Buffers, Counts, Given, Move, Refusal, Sections};
+use dca::{Buffers, Counts, Given, Move, Pair, Refusal, Rounded, Sections, Side};
 
 /// A line of three zones, weight 1.
 const LINE: [u8; 9] = [0, 1, 0, 1, 0, 1, 0, 1, 0];
@@ -46,6 +46,23 @@ fn rising(n: usize) -> Vec<i32> {
     (0..n as i32).collect()
 }
 
+/// A float that equals its ratio.
+fn exact(float: f64) -> Rounded {
+    let side = Side::Equal;
+    Rounded { float, side }
+}
+
+fn exact_pair(moran: f64, geary: f64) -> Pair {
+    let (moran, geary) = (exact(moran), exact(geary));
+    Pair { moran, geary }
+}
+
+/// What is lent for local figures; no job here has it.
+const NO_FIGURE: Rounded = Rounded {
+    float: 9.0,
+    side: Side::Above,
+};
+
 fn refused(n: usize, values: &[i32], weights: &[u8]) -> u8 {
     let mut locals = vec![-7; n.min(100)];
     let number = dca::account(n, values, weights, &mut locals).expect_err("taken").number();
@@ -85,9 +102,9 @@ fn figure_a_the_line() {
 
 #[test]
 fn figure_b_two_zones() {
-    let mut locals = [0.0; 2];
+    let mut locals = [NO_FIGURE; 2];
     let report = dca::float_report(2, &[0, 1], &[0, 1, 1, 0], &[0; 4], &mut locals).unwrap();
-    assert_eq!((report.globals.moran, report.globals.geary), (-1.0, 1.0));
+    assert_eq!((report.globals, locals), (exact_pair(-1.0, 1.0), [exact(-1.0); 2]));
 }
 
 #[test]
@@ -102,11 +119,13 @@ fn figures_c_to_f_the_worked_report() {
     dca::class_account(4, &VALUES, &WEIGHTS, &classes, &mut rows, &mut class_locals).unwrap();
     assert_eq!(rows[..9], [0, 0, 0, 6, 24, 0, 2, -16, 8]);
     assert!(rows[9..].iter().all(|&sum| sum == 0));
-    let mut floats = [9.0; 4];
-    let report = dca::float_report(4, &VALUES, &WEIGHTS, &classes, &mut floats).unwrap();
-    let pairs = report.classes.map(|class| class.map(|pair| (pair.moran, pair.geary)));
-    assert_eq!(pairs[..4], [None, Some((0.5, 0.0)), Some((-1.0, 1.5)), None]);
-    assert_eq!(floats.map(f64::to_bits), [1.5, 0.5, -1.0, 0.0].map(f64::to_bits));
+    let mut figures = [NO_FIGURE; 4];
+    let report = dca::float_report(4, &VALUES, &WEIGHTS, &classes, &mut figures).unwrap();
+    assert_eq!(report.globals, exact_pair(0.125, 0.375));
+    let (first, second) = (exact_pair(0.5, 0.0), exact_pair(-1.0, 1.5));
+    assert_eq!(report.classes[..4], [None, Some(first), Some(second), None]);
+    assert_eq!(figures, [1.5, 0.5, -1.0, 0.0].map(exact));
+    assert_eq!(figures[3].float.to_bits(), 0);
     let mut table = [-1; dca::JOIN_TABLE];
     dca::join_table(4, &VALUES, &[0, 0, 1, 1], &WEIGHTS, &mut table).unwrap();
     assert_eq!((table[0], table[1], table[8], table[9]), (6, 1, 1, 0));
@@ -238,16 +257,49 @@ fn an_image_of_values_not_returned() {
 
 #[test]
 fn figures_g_to_j_the_nearest_float() {
-    assert_eq!(dca::nearest(9007199254740993, 1), Ok(9007199254740992.0));
-    assert_eq!(dca::nearest(9007199254740995, 1), Ok(9007199254740996.0));
-    assert_eq!(dca::nearest(-1, 3).unwrap().to_bits(), 0xBFD5555555555555);
-    assert_eq!(dca::nearest(1, 10).unwrap().to_bits(), 0x3FB999999999999A);
-    assert_eq!(dca::nearest(0, 7).unwrap().to_bits(), 0);
     let most = 6_000_000_000_000_000_000;
-    assert_eq!(dca::nearest(-most, most), Ok(-1.0));
+    for (p, q, bits, side) in [
+        (9007199254740993, 1, 9007199254740992f64.to_bits(), Side::Below),
+        (9007199254740995, 1, 9007199254740996f64.to_bits(), Side::Above),
+        (-1, 3, 0xBFD5555555555555, Side::Above),
+        (1, 10, 0x3FB999999999999A, Side::Above),
+        (0, 7, 0, Side::Equal),
+        (-most, most, (-1f64).to_bits(), Side::Equal),
+    ] {
+        let figure = dca::nearest(p, q).unwrap();
+        assert_eq!((figure.float.to_bits(), figure.side), (bits, side), "{p} / {q}");
+    }
     for (p, q) in [(1, 0), (1, -1), (most + 1, 1), (-most - 1, 1), (1, most + 1), (i64::MIN, i64::MIN)] {
         assert_eq!(dca::nearest(p, q), Err(Refusal::RATIO));
     }
+}
+
+#[test]
+fn signs_of_sides() {
+    let sides = [Side::Equal, Side::Below, Side::Above];
+    assert_eq!(sides.map(Side::sign), ['=', '<', '>']);
+}
+
+/// The line of three, whose figures are halves, thirds and sevenths: its first join is of class 3, the others of class 0.
+#[test]
+fn sides_of_a_report() {
+    let mut locals = [NO_FIGURE; 3];
+    let classes = [0, 3, 0, 0, 0, 0, 0, 0, 0];
+    let report = dca::float_report(3, &[1, 2, 6], &LINE, &classes, &mut locals).unwrap();
+    let rounded = |float, side| Rounded { float, side };
+    let global = Pair {
+        moran: rounded(-18.0 / 168.0, Side::Above),
+        geary: rounded(204.0 / 336.0, Side::Below),
+    };
+    assert_eq!(report.globals, global);
+    let figures = [(18.0 / 42.0, Side::Below), (-9.0 / 42.0, Side::Above), (-27.0 / 42.0, Side::Below)];
+    assert_eq!(locals, figures.map(|(float, side)| rounded(float, side)));
+    let first = Pair {
+        moran: rounded(18.0 / 42.0, Side::Below),
+        geary: rounded(6.0 / 84.0, Side::Below),
+    };
+    assert_eq!(report.classes[3], Some(first));
+    assert_eq!(report.classes[1], None);
 }
 
 #[test]
@@ -286,14 +338,23 @@ fn refusals_of_the_other_lists() {
     classes[5] = 9;
     let answer = dca::class_account(4, &VALUES, &WEIGHTS, &classes, &mut rows, &mut class_locals);
     assert_eq!((answer, rows, class_locals), (Err(Refusal::CLASS), [-7; 27], [-7; 36]));
-    let mut floats = [-7.0; 4];
-    assert_eq!(dca::float_report(4, &VALUES, &WEIGHTS, &classes, &mut floats), Err(Refusal::CLASS));
-    assert_eq!(floats, [-7.0; 4]);
+    for (class, zones, refusal) in [
+        (9, 4, Refusal::CLASS),
+        (0, 3, Refusal::LENGTH),
+        (0, 5, Refusal::LENGTH),
+        (9, 70, Refusal::LENGTH),
+    ] {
+        classes[5] = class;
+        let mut figures = vec![NO_FIGURE; zones];
+        assert_eq!(dca::float_report(4, &VALUES, &WEIGHTS, &classes, &mut figures), Err(refusal));
+        assert_eq!(figures, vec![NO_FIGURE; zones]);
+    }
     // Quiet and signalling NaNs of both signs.
+    classes[5] = 9;
     let bits = [0x7FF8000000ABCDEF, 0xFFF8000000000001, 0x7FF0000000000001, 0xFFF4000000000003];
-    let mut nans = bits.map(f64::from_bits);
+    let mut nans = bits.map(|bits| exact(f64::from_bits(bits)));
     assert_eq!(dca::float_report(4, &VALUES, &WEIGHTS, &classes, &mut nans), Err(Refusal::CLASS));
-    assert_eq!(nans.map(f64::to_bits), bits);
+    assert_eq!(nans.map(|nan| nan.float.to_bits()), bits);
     let mut table = [-7; 64];
     assert_eq!(
         dca::join_table(4, &VALUES, &[0, 0, 1, 8], &WEIGHTS, &mut table),

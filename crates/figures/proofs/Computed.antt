@@ -5,7 +5,8 @@ use Rattle.whole.specs.Order.{place_of, ordered}
 use Rattle.whole.specs.Search.{some, count, first}
 use Rattle.whole.specs.Sum.{sum}
 use Rattle.whole.specs.Table.{table, table_rows, pair_at}
-use Rattle.nearest.specs.Answers.{nearest_float}
+use Rattle.nearest.specs.Answers.{nearest_float, nearest_side}
+use Rattle.nearest.specs.Sides.{side_by, side_of}
 use Rattle.shuffles.specs.Shuffles.{shuffle_count}
 use Rattle.kept.specs.Kept.{
   passing,
@@ -34,7 +35,7 @@ use Rattle.coefficients.specs.Coefficients.{coefficient, pair_of, job_pair, clas
 use Rattle.figures.specs.Figures.{right, all_right, published}
 
 pub figures_right : T (all_right published)
-unfolding right all_right published sum some count first place_of ordered table table_rows pair_at nearest_float round to_bits
+unfolding right all_right published sum some count first place_of ordered table table_rows pair_at nearest_float nearest_side side_by side_of round to_bits
     missing missing_count reduced passing keeps kept_zones kept_count kept_values kept_pairs kept_row kept_shuffles kept_first put_back
     total_of deviation_of spread_of row_of pairs_of weight_of cross_of squares_of local_of class_row class_weight
     zones_figures zones_local zones_class_row zones_rank job_spread job_kept job_figures job_row job_locals class_row_of

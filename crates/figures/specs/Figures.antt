@@ -1,13 +1,17 @@
 -- The published cases as one table, a row each: what is worked, and what document 01 says that it gives, or document 02: A.6, by which a
--- zone that touches nobody is left out, and A.7, by which a zone whose value is not returned is left out too. Assumes nothing.
+-- zone that touches nobody is left out, A.7, by which a zone whose value is not returned is left out too, and A.10, by which each figure says
+-- on which side of its ratio it lies. Assumes nothing.
 use Rattle.std.specs.Prelude.{Bool, true, false, ◌&&◌, List, [], ◌∷◌, ◌++◌, ℕ, ◌^◌, eqb, ℤ, pos, negsuc, ◌*ℤ◌}
 use Prim.Native.String.{String}
 use Rattle.std.specs.Float.{binary64}
 use Rattle.std.specs.Float.Ieee.{to_bits}
 use Rattle.whole.specs.Integer.{equal}
 use Rattle.whole.specs.Table.{table, at}
-use Rattle.nearest.specs.Answers.{nearest_float}
+use Rattle.nearest.specs.Answers.{nearest_bits, nearest_side}
 use Rattle.nearest.specs.Bits.{value_of}
+use Rattle.nearest.specs.Sides.{side_number}
+use Rattle.nearest.specs.declared.Side.{Side}
+use Rattle.nearest.specs.declared.Side.TheVariants.{Equal, Below, Above}
 use Rattle.judges.specs.Values.{not_returned}
 use Rattle.kept.specs.Returned.{reduced}
 use Rattle.account.specs.Answers.{job_figures, job_locals}
@@ -20,10 +24,10 @@ use Rattle.coefficients.specs.Coefficients.{job_pair, class_pair}
 use Rattle.coefficients.specs.declared.Coefficient.{Coefficient}
 use Rattle.coefficients.specs.declared.Coefficient.TheVariants.{Figure, Weightless}
 
--- a figure as document 01 prints it: a whole number, its 64 bits, or none
+-- a figure as document 01 prints it: a whole number or its 64 bits, each with its side, or none
 pub data Printed : Type 0 where
-  number : ℤ → Printed
-  bits : ℕ → Printed
+  number : ℤ → Side → Printed
+  bits : ℕ → Side → Printed
   none : Printed
 
 -- a job: its values, its weights, and the classes of its pairs
@@ -48,7 +52,7 @@ pub data Row : Type 0 where
   banded : Job → List ℤ → List ℕ → Row
   -- less, equal and greater: the rank of a job among shuffles
   rank : Job → List ℕ → ℕ → ℕ → ℕ → Row
-  -- the nearest float to p / q
+  -- the nearest float to p / q, and its side
   ratio : ℤ → ℤ → Printed → Row
 
 -- ---- whether a row is right
@@ -60,17 +64,21 @@ same test [] (b ∷ others) = false
 same test (a ∷ list) [] = false
 same test (a ∷ list) (b ∷ others) = test a b && same test list others
 
--- a float's bits are those of what is printed
-abbrev pub prints : Printed → ℕ → Bool
-prints (number z) b = equal (value_of b) (z *ℤ pos (2 ^ 1074))
-prints (bits n) b = eqb n b
-prints none b = false
+-- two sides are the same
+abbrev pub same_side : Side → Side → Bool
+same_side a b = eqb (side_number a) (side_number b)
+
+-- a float's bits and its side are those of what is printed
+abbrev pub prints : Printed → ℕ → Side → Bool
+prints (number z side) b told = equal (value_of b) (z *ℤ pos (2 ^ 1074)) && same_side side told
+prints (bits n side) b told = eqb n b && same_side side told
+prints none b told = false
 
 abbrev pub shows : Printed → Coefficient → Bool
-shows printed (Figure x) = prints printed (to_bits binary64 x)
+shows printed (Figure x side) = prints printed (to_bits binary64 x) side
 shows none Weightless = true
-shows (number z) Weightless = false
-shows (bits n) Weightless = false
+shows (number z side) Weightless = false
+shows (bits n side) Weightless = false
 
 unfoldable pub right : Row → Bool
 right (sums job p w m g kept missing locals) =
@@ -90,7 +98,7 @@ right (joins job categories entries) =
 right (banded job places bands) = same eqb job.classes (band_classes job.zones places bands)
 right (rank job shuffles less level greater) =
     same eqb (less ∷ level ∷ greater ∷ []) (job_rank job.zones job.values job.weights shuffles)
-right (ratio p q printed) = prints printed (to_bits binary64 (nearest_float p q))
+right (ratio p q printed) = prints printed (nearest_bits p q) (nearest_side p q)
 
 -- a row beside the words that say what it is
 abbrev pub Case : Type 0
@@ -149,20 +157,20 @@ zeros n = table (λ k. pos 0) n
 unfoldable pub published : List Case
 published =
     ("(a)", sums line_of_three (negsuc 17) (pos 4) (pos 42) (pos 34) (pos 3) (pos 0) (pos 18 ∷ negsuc 8 ∷ negsuc 26 ∷ []))
-    ∷ ("(b)", pair two_joined (number (negsuc 0)) (number (pos 1)))
+    ∷ ("(b)", pair two_joined (number (negsuc 0) Equal) (number (pos 1) Equal))
     ∷ ("(c), by A.6", sums reported (pos 8) (pos 8) (pos 8) (pos 8) (pos 3) (pos 0) (pos 12 ∷ pos 4 ∷ negsuc 7 ∷ pos 0 ∷ []))
-    ∷ ("the report's I and c", pair reported (bits 0x3FC0000000000000) (bits 0x3FD8000000000000))
+    ∷ ("the report's I and c", pair reported (bits 0x3FC0000000000000 Equal) (bits 0x3FD8000000000000 Equal))
     ∷ ("the report's unclassed pairs", class reported 0 (pos 0) (pos 0) (pos 0) none none)
-    ∷ ("(d), class 1, by A.6", class reported 1 (pos 6) (pos 24) (pos 0) (bits 0x3FE0000000000000) (bits 0x0000000000000000))
-    ∷ ("(d), class 2, by A.6", class reported 2 (pos 2) (negsuc 15) (pos 8) (bits 0xBFF0000000000000) (bits 0x3FF8000000000000))
+    ∷ ("(d), class 1, by A.6", class reported 1 (pos 6) (pos 24) (pos 0) (bits 0x3FE0000000000000 Equal) (bits 0x0000000000000000 Equal))
+    ∷ ("(d), class 2, by A.6", class reported 2 (pos 2) (negsuc 15) (pos 8) (bits 0xBFF0000000000000 Equal) (bits 0x3FF8000000000000 Equal))
     ∷ ("(d), from places and bands", banded reported (pos 0 ∷ pos 0 ∷ pos 1 ∷ pos 0 ∷ pos 3 ∷ pos 0 ∷ pos 9 ∷ pos 9 ∷ []) (1 ∷ 4 ∷ []))
     ∷ ("the report's hot list", hot reported (0 ∷ 1 ∷ 2 ∷ 3 ∷ []))
     ∷ ("(e)", joins reported (0 ∷ 0 ∷ 1 ∷ 1 ∷ []) ((pos 6 ∷ pos 1 ∷ zeros 6) ++ (pos 1 ∷ zeros 7) ++ zeros 48))
     ∷ ("(f)", rank reported (0 ∷ 1 ∷ 2 ∷ 3 ∷ 2 ∷ 1 ∷ 0 ∷ 3 ∷ []) 1 1 0)
-    ∷ ("(g), a tie", ratio (pos 9007199254740993) (pos 1) (number (pos 9007199254740992)))
-    ∷ ("(h), a tie", ratio (pos 9007199254740995) (pos 1) (number (pos 9007199254740996)))
-    ∷ ("(i)", ratio (negsuc 0) (pos 3) (bits 0xBFD5555555555555))
-    ∷ ("(j)", ratio (pos 1) (pos 10) (bits 0x3FB999999999999A))
+    ∷ ("(g), a tie", ratio (pos 9007199254740993) (pos 1) (number (pos 9007199254740992) Below))
+    ∷ ("(h), a tie", ratio (pos 9007199254740995) (pos 1) (number (pos 9007199254740996) Above))
+    ∷ ("(i), by value", ratio (negsuc 0) (pos 3) (bits 0xBFD5555555555555 Above))
+    ∷ ("(j)", ratio (pos 1) (pos 10) (bits 0x3FB999999999999A Above))
     ∷ (
       "A.7, a value not returned",
       sums unreturned (negsuc 17) (pos 4) (pos 42) (pos 34) (pos 3) (pos 1) (pos 0 ∷ pos 0 ∷ pos 18 ∷ negsuc 8 ∷ negsuc 26 ∷ []),

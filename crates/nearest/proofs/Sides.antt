@@ -1,13 +1,13 @@
 -- On which side of its ratio a float lies, from what the division left over and which number it took. Assumes nothing.
-use mathlib.Core.Path.{◌≡◌, refl, sym, ap, ap₂, ◌∙◌, subst}
+use mathlib.Core.Path.{◌≡◌, refl, sym, ap, ◌∙◌, subst}
 use mathlib.Core.Logic.{◌⊎◌, ⊎_elim}
 use mathlib.Core.Bool.{Bool, true, false, cond, true≢false}
 use Prim.Native.Nat.{ℕ, zero, suc, ◌+◌, ◌-◌, ◌*◌, ◌^◌, ◌≤◌, ◌<◌, compare, Ordering}
 use native.Mathlib.Nat as N
 use native.Mathlib.Omega.{arith}
-use borrow.Author.Tests.{lt-ltb, eq-eqb, ne_eqb, eqb-true, eqb-false}
-use lib.Dec.{eqb, ltb}
-use lib.Ieee.{Float, binary64, nearest, neg, round, of_bits, to_bits}
+use borrow.Author.Tests.{lt-ltb, eqb-true, eqb-false}
+use lib.Dec.{eqb}
+use lib.Ieee.{binary64, nearest, round, to_bits}
 use lib.Ieee.Exact.{HasValue}
 use lib.Ieee.Fits.{round-fits}
 use lib.IntN.{ℤ, pos, negsuc, neg_ℤ, nat_abs, ◌*ℤ◌}
@@ -18,7 +18,7 @@ use Rattle.whole.proofs.Compare.{equal_same, equal_true, less_unequal, more_uneq
 use Rattle.whole.proofs.Size.{zero_of_size, one_above, one_some}
 use Rattle.halves.proofs.Compare.{Cmp, cmp}
 use Rattle.nearest.specs.Answers.{nearest_float, nearest_side}
-use Rattle.nearest.specs.Bits.{negative, size_of, signed, value_of}
+use Rattle.nearest.specs.Bits.{size_of, signed, value_of}
 use Rattle.nearest.specs.Sides.{side_by, side_of, other_side}
 use Rattle.nearest.specs.Steps.{Widened, Divided, taken_side}
 use Rattle.nearest.specs.declared.Side.{Side}
@@ -29,7 +29,7 @@ use Rattle.nearest.proofs.Fields.{Read, read}
 use Rattle.nearest.proofs.NearestFloat.{zero_bits}
 use Rattle.nearest.proofs.LongDivision.{ratio_steps, rest_steps, float_steps}
 use Rattle.nearest.proofs.Powers.{few_doublings}
-use Rattle.nearest.proofs.Rounding.{Kept, kept}
+use Rattle.nearest.proofs.Rounding.{kept}
 
 -- ---- where one number lies beside another
 pub at_equal : (y z : ℤ) → y ≡ z → side_by y z ≡ Equal

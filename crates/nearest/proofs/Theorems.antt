@@ -5,7 +5,7 @@ use Prim.Native.Nat.{ℕ, zero, suc, ◌*◌, ◌^◌, ◌≤◌}
 use native.Mathlib.Omega.{arith}
 use borrow.Author.Tests.{le-ltb}
 use lib.Dec.{T, leb→le}
-use lib.Ieee.{Float, binary64, round, neg, of_bits, to_bits, is_nan}
+use lib.Ieee.{binary64, round, neg, of_bits, to_bits, is_nan}
 use lib.Ieee.Bits.{of_bits-to_bits}
 use lib.Ieee.Fits.{round-fits}
 use lib.Ieee.Scale.{round_same}

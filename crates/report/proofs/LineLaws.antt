@@ -24,7 +24,7 @@ use Rattle.nearest.specs.declared.Side.TheVariants.{Equal, Below, Above}
 use Rattle.coefficients.proofs.Ratios.{left_le, ordered_le}
 use Rattle.pages.specs.Lines.{line, numbers}
 use Rattle.report.specs.Lines.{sign, rounded, coefficient}
-use Rattle.report.specs.Steps.{Within, sum_lines, ratio_lines, sign_by, rounded_by, zone_line, table_line, row_line}
+use Rattle.report.specs.Steps.{Within, sum_lines, ratio_lines, rounded_by, zone_line, table_line, row_line}
 
 -- what a call has answered is read back from its bits as it is
 pub read_back : {answer meant : ℤ} → mag answer < 2 ^ 63 → answer ≡ meant → r64 answer ≡ meant

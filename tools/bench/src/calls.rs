@@ -2,8 +2,6 @@
 //!
 //! Each function of `cases` lends a call its lists and answers a closure that makes the call once.
 
-use differential::SUMS;
-
 /// Each call over slices, of those that `raw` declares.
 macro_rules! over_slices {
     ($($name:ident = $call:ident [$($number:ident: $kind:ty),*]
@@ -46,8 +44,8 @@ macro_rules! every_call {
             account = dca_account [n: usize] [values: i32, weights: u8] [locals: i64, sums: i64];
             class_account = dca_class_account [n: usize] [values: i32, weights: u8, classes: u8] [rows: i64, locals: i64];
             float_report = dca_float_report [n: usize] [values: i32, weights: u8, classes: u8]
-                [globals: f64, locals: f64, pairs: f64, has_pair: u8];
-            nearest = dca_nearest [p: i64, q: i64] [] [out: f64];
+                [globals: f64, global_sides: u8, locals: f64, local_sides: u8, pairs: f64, pair_sides: u8, has_pair: u8];
+            nearest = dca_nearest [p: i64, q: i64] [] [out: f64, side: u8];
             hot_list = dca_hot_list [n: usize] [values: i32, weights: u8] [zones: u8];
             rank = dca_rank [n: usize] [values: i32, weights: u8, shuffles: u8] [counts: u64];
             join_table = dca_join_table [n: usize] [values: i32, categories: u8, weights: u8] [table: i64];
@@ -66,13 +64,15 @@ macro_rules! every_call {
     };
 }
 
-/// The join table as it was before request A.7, when it took no values.
+/// The calls that give floats as they were before request A.10, when they gave no sides.
 #[cfg(before)]
-macro_rules! join_table_without_values {
+macro_rules! calls_without_sides {
     ($make:ident $($front:literal)?) => {
         $make! {
             $($front;)?
-            join_table = dca_join_table [n: usize] [categories: u8, weights: u8] [table: i64];
+            float_report = dca_float_report [n: usize] [values: i32, weights: u8, classes: u8]
+                [globals: f64, locals: f64, pairs: f64, has_pair: u8];
+            nearest = dca_nearest [p: i64, q: i64] [] [out: f64];
         }
     };
 }
@@ -96,15 +96,15 @@ mod copies {
 
                 every_call!(over_slices);
 
-                /// What an archive from before request A.7 has in the place of the call above; else it is not called.
+                /// What an archive from before request A.10 has in the place of two calls above; else they are not called.
                 #[allow(dead_code)]
-                pub mod without_values {
+                pub mod without_sides {
                     #[allow(clashing_extern_declarations)]
                     mod raw {
-                        join_table_without_values!(declare $front);
+                        calls_without_sides!(declare $front);
                     }
 
-                    join_table_without_values!(over_slices);
+                    calls_without_sides!(over_slices);
                 }
             })*
         };
@@ -125,8 +125,6 @@ mod copies {
 /// All the calls, as one place has them.
 #[derive(Clone, Copy)]
 pub struct Calls {
-    /// How many sums its account stores.
-    pub sums: usize,
     pub account: cases::Account,
     pub class_account: cases::ClassAccount,
     pub float_report: cases::FloatReport,
@@ -147,7 +145,6 @@ pub struct Calls {
 macro_rules! calls_of {
     ($place:ident) => {
         Calls {
-            sums: SUMS,
             account: $place::account,
             class_account: $place::class_account,
             float_report: $place::float_report,
@@ -176,35 +173,27 @@ pub struct Placed {
     pub now: Calls,
     /// With the arguments that the calls have now.
     before: Calls,
-    /// With those that it had before request A.7; the values that it is lent are dropped.
-    join_table_without_values: cases::JoinTable,
+    /// With those that two of them had before request A.10; the lists of sides that they are lent are dropped.
+    before_without_sides: Calls,
 }
 
 impl Placed {
-    /// The earlier calls, each with the arguments of its archive. How many sums the account stores tells of what request the archive is.
+    /// The earlier calls, each with the arguments of its archive.
     pub fn before(&self) -> Calls {
-        let sums = sums_of(self.before.account);
-        let join_table = if sums < SUMS {
-            self.join_table_without_values
+        if stores_a_side(self.before.nearest) {
+            self.before
         } else {
-            self.before.join_table
-        };
-        Calls {
-            sums,
-            join_table,
-            ..self.before
+            self.before_without_sides
         }
     }
 }
 
-/// The length of sums that an account does not refuse: 5, after request A.6 6, after request A.7 7.
-fn sums_of(account: cases::Account) -> usize {
-    let takes = |&sums: &usize| {
-        let (mut locals, mut sums) = ([0; 2], vec![0; sums]);
-        account(2, &[0, 1], &[0, 1, 1, 0], &mut locals, &mut sums) == 0
-    };
-    let sums = (5..=SUMS).find(takes);
-    sums.expect("the earlier account is one of requests up to A.7")
+/// Whether the archive is one from after request A.10: an earlier nearest float passes over the arguments behind its last.
+fn stores_a_side(nearest: cases::Nearest) -> bool {
+    let (mut out, mut side) = ([0.0], [7]);
+    let number = nearest(1, 3, &mut out, &mut side);
+    assert_eq!((number, out), (0, [1.0 / 3.0]), "a third");
+    side != [7]
 }
 
 #[cfg(before)]
@@ -214,8 +203,15 @@ macro_rules! placed {
             at: $at,
             now: calls_of!($now),
             before: calls_of!($before),
-            join_table_without_values: |n, _, categories, weights, table| {
-                $before::without_values::join_table(n, categories, weights, table)
+            before_without_sides: Calls {
+                #[rustfmt::skip]
+                float_report: |n, values, weights, classes, globals, _, locals, _, pairs, _, has_pair| {
+                    $before::without_sides::float_report(
+                        n, values, weights, classes, globals, locals, pairs, has_pair,
+                    )
+                },
+                nearest: |p, q, out, _| $before::without_sides::nearest(p, q, out),
+                ..calls_of!($before)
             },
         }
     };
@@ -244,9 +240,11 @@ pub mod cases {
 
     pub type Account = fn(usize, &[i32], &[u8], &mut [i64], &mut [i64]) -> u8;
     pub type ClassAccount = fn(usize, &[i32], &[u8], &[u8], &mut [i64], &mut [i64]) -> u8;
-    pub type FloatReport =
-        fn(usize, &[i32], &[u8], &[u8], &mut [f64], &mut [f64], &mut [f64], &mut [u8]) -> u8;
-    pub type Nearest = fn(i64, i64, &mut [f64]) -> u8;
+    #[rustfmt::skip]
+    pub type FloatReport = fn(
+        usize, &[i32], &[u8], &[u8], &mut [f64], &mut [u8], &mut [f64], &mut [u8], &mut [f64], &mut [u8], &mut [u8],
+    ) -> u8;
+    pub type Nearest = fn(i64, i64, &mut [f64], &mut [u8]) -> u8;
     pub type HotList = fn(usize, &[i32], &[u8], &mut [u8]) -> u8;
     pub type Rank = fn(usize, &[i32], &[u8], &[u8], &mut [u64]) -> u8;
     pub type JoinTable = fn(usize, &[i32], &[u8], &[u8], &mut [i64]) -> u8;
@@ -281,6 +279,14 @@ pub mod cases {
     }
 
     case!(
+        account,
+        Account,
+        input,
+        [input.n],
+        [input.values, input.weights],
+        [locals = vec![0; input.n], sums = [0; SUMS]]
+    );
+    case!(
         class_account,
         ClassAccount,
         input,
@@ -296,8 +302,11 @@ pub mod cases {
         [input.values, input.weights, input.classes],
         [
             globals = [0.0; 2],
+            global_sides = [0; 2],
             locals = vec![0.0; input.n],
+            local_sides = vec![0; input.n],
             pairs = [0.0; 18],
+            pair_sides = [0; 18],
             has_pair = [0; 9]
         ]
     );
@@ -366,25 +375,6 @@ pub mod cases {
         [text = vec![0; TEXT], length = [0]]
     );
 
-    pub fn account(input: &Input, call: Account) -> Case<'_> {
-        account_of(input, call, SUMS)
-    }
-
-    /// The account as an archive has it that stores so many sums.
-    pub fn account_of(input: &Input, call: Account, sums: usize) -> Case<'_> {
-        let (mut locals, mut sums) = (vec![0; input.n], vec![0; sums]);
-        Box::new(move || {
-            let number = call(
-                black_box(input.n),
-                black_box(&input.values),
-                black_box(&input.weights),
-                black_box(&mut locals),
-                black_box(&mut sums),
-            );
-            assert_eq!(number, 0, "account");
-        })
-    }
-
     pub fn write(input: &Input, call: Write) -> Case<'_> {
         let lent = input.buffers();
         let counts = input.counts();
@@ -420,17 +410,17 @@ pub mod cases {
         Box::new(move || {
             let image = black_box(&input.image);
             let number = call(image, black_box(&mut text), black_box(&mut length));
-            // An archive from before this was a refusal gives 0, and the text says the number.
-            assert!([0, input.number].contains(&number), "refused report");
+            assert_eq!(number, input.number, "refused report");
         })
     }
 
     /// All the ratios, one after the other.
     pub fn nearest(ratios: &[(i64, i64)], call: Nearest) -> Case<'_> {
-        let mut out = [0.0];
+        let (mut out, mut side) = ([0.0], [0]);
         Box::new(move || {
             for &(p, q) in ratios {
-                let number = call(black_box(p), black_box(q), black_box(&mut out));
+                let (out, side) = (black_box(&mut out), black_box(&mut side));
+                let number = call(black_box(p), black_box(q), out, side);
                 assert_eq!(number, 0, "nearest");
             }
         })

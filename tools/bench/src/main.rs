@@ -8,7 +8,7 @@
 //! DCA_LIB_DIR names the folder of the archive libexports.a, if it is not crates/exports/out. DCA_BEFORE_DIR names the folder of an
 //! earlier libexports.a: then the calls are measured beside those of that archive instead, and one table is printed, now against before.
 //! Both are paths from the root. build.rs links the earlier archive under other names, so that the program is built anew for it.
-//! The earlier archive may be one from before request A.7 or A.6: its account and its join table are called as they were then.
+//! The earlier archive may be one from before request A.10: its nearest float and its float report are called as they were then.
 
 mod calls;
 mod input;
@@ -97,7 +97,7 @@ type Row<'a> = (&'static str, Option<f64>, Case<'a>);
 
 /// The cases that have a goal.
 fn goal_rows<'a>(job: &'a Input, calls: &Calls) -> Vec<Row<'a>> {
-    let account = cases::account_of(job, calls.account, calls.sums);
+    let account = cases::account(job, calls.account);
     let class_account = cases::class_account(job, calls.class_account);
     let float_report = cases::float_report(job, calls.float_report);
     vec![
@@ -118,7 +118,7 @@ fn goal_rows<'a>(job: &'a Input, calls: &Calls) -> Vec<Row<'a>> {
 /// The others.
 fn other_rows<'a>(inputs: &'a Inputs, calls: &Calls) -> Vec<Row<'a>> {
     let job = &inputs.job;
-    let small = cases::account_of(&inputs.small, calls.account, calls.sums);
+    let small = cases::account(&inputs.small, calls.account);
     let no_shuffles = cases::report(&inputs.no_shuffles, calls.report);
     let refused_last = cases::refused(&inputs.refused_last, calls.report);
     let refused_first = cases::refused(&inputs.refused_first, calls.report);

@@ -4,7 +4,7 @@ use crate::account::{self, Spread, Sums};
 use crate::coefficients::{geary, moran, pair};
 use crate::image::Image;
 use crate::kept::Kept;
-use crate::nearest::ratio;
+use crate::nearest::{ratio, Rounded};
 use crate::returned::Returned;
 use crate::{classes, hot, joins, places, rank, BANDS, CLASSES, TEXT, ZONES};
 
@@ -41,23 +41,24 @@ impl Page<'_> {
         self.put(&digits[first..]);
     }
 
-    /// A space and the 64 bits of the float.
-    fn float(&mut self, x: f64) {
-        let bits = x.to_bits();
-        let mut field = [b' '; 17];
-        for (digit, place) in field[1..].iter_mut().zip((0..16).rev()) {
+    /// A space, the 64 bits of the float and the sign of its side.
+    fn figure(&mut self, x: Rounded) {
+        let bits = x.float.to_bits();
+        let mut field = [b' '; 18];
+        for (digit, place) in field[1..17].iter_mut().zip((0..16).rev()) {
             *digit = b"0123456789ABCDEF"[(bits >> (4 * place) & 15) as usize];
         }
+        field[17] = b"=<>"[usize::from(x.side)];
         self.put(&field);
     }
 
-    fn line(&mut self, word: &str, numbers: &[i64], floats: &[f64]) {
+    fn line(&mut self, word: &str, numbers: &[i64], figures: &[Rounded]) {
         self.put(word.as_bytes());
         for &x in numbers {
             self.number(x);
         }
-        for &x in floats {
-            self.float(x);
+        for &x in figures {
+            self.figure(x);
         }
         self.put(b"\n");
     }

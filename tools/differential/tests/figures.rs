@@ -1,4 +1,4 @@
-//! The figures that document 01, request A.6 and their readings print, by the independent calls; and what request A.7 says of them.
+//! The figures that document 01, request A.6 and their readings print, by the independent calls; and what requests A.7 and A.10 say of them.
 
 use differential as own;
 
@@ -152,21 +152,106 @@ fn image_of_values_not_returned() {
     assert_eq!((number, again), (0, image));
 }
 
+/// The nearest float and its side.
+fn nearest(p: i64, q: i64) -> (f64, u8) {
+    let (mut out, mut side) = ([7.0], [7]);
+    assert_eq!(own::nearest(p, q, &mut out, &mut side), 0);
+    (out[0], side[0])
+}
+
 #[test]
 fn floats() {
     let bits = |p, q| {
-        let mut out = [0.0];
-        assert_eq!(own::nearest(p, q, &mut out), 0);
-        out[0].to_bits()
+        let (float, side) = nearest(p, q);
+        (float.to_bits(), side)
     };
-    assert_eq!(bits(9007199254740993, 1), 9007199254740992f64.to_bits());
-    assert_eq!(bits(9007199254740995, 1), 9007199254740996f64.to_bits());
-    assert_eq!(bits(-1, 3), 0xBFD5555555555555);
-    assert_eq!(bits(1, 10), 0x3FB999999999999A);
-    assert_eq!(bits(0, 7), 0);
+    let float = |x: f64, side| (x.to_bits(), side);
+    assert_eq!(
+        bits(9007199254740993, 1),
+        float(9007199254740992.0, own::BELOW)
+    );
+    assert_eq!(
+        bits(9007199254740995, 1),
+        float(9007199254740996.0, own::ABOVE)
+    );
+    assert_eq!(bits(-1, 3), (0xBFD5555555555555, own::ABOVE));
+    assert_eq!(bits(1, 10), (0x3FB999999999999A, own::ABOVE));
+    assert_eq!(bits(0, 7), (0, own::EQUAL));
 }
 
-/// Where both numbers have at most 53 digits the machine's own division rounds once.
+/// A side is that of the value: what is below turns to above with the sign, at ties too.
+#[test]
+fn sides_of_both_signs() {
+    let limit = 6_000_000_000_000_000_000;
+    for (p, q, above_0, below_0) in [
+        (1, 3, own::BELOW, own::ABOVE),
+        (1, 10, own::ABOVE, own::BELOW),
+        (9007199254740993, 1, own::BELOW, own::ABOVE),
+        (9007199254740995, 1, own::ABOVE, own::BELOW),
+        (9007199254740993, 1 << 60, own::BELOW, own::ABOVE),
+        (limit - 1, 1, own::ABOVE, own::BELOW),
+        (limit, 1, own::EQUAL, own::EQUAL),
+        (12, 8, own::EQUAL, own::EQUAL),
+        (1, 1 << 62, own::EQUAL, own::EQUAL),
+    ] {
+        assert_eq!(
+            (nearest(p, q).1, nearest(-p, q).1),
+            (above_0, below_0),
+            "{p} / {q}"
+        );
+    }
+}
+
+/// Another length of either list is 2, before 18; and what is refused stores nothing.
+#[test]
+fn refused_floats() {
+    for (p, q, floats, sides, number) in [
+        (1, 3, 1, 0, 2),
+        (1, 3, 1, 2, 2),
+        (1, 3, 0, 1, 2),
+        (1, 0, 2, 1, 2),
+        (1, 0, 1, 1, 18),
+    ] {
+        let (mut out, mut side) = (vec![7.0; floats], vec![7; sides]);
+        assert_eq!(own::nearest(p, q, &mut out, &mut side), number);
+        assert!(out.iter().all(|&x| x == 7.0) && side.iter().all(|&x| x == 7));
+    }
+}
+
+/// The job of document 01's report by its bands: every figure is exact. Class 0 has no weight and leaves what it was lent, zone 3 is left
+/// out.
+#[test]
+fn float_report() {
+    let weights = job(4, &[(0, 1, 3), (1, 0, 3), (1, 2, 1), (2, 1, 1)]);
+    let classes = [0, 1, 0, 0, 1, 0, 2, 0, 0, 2, 0, 0, 0, 0, 0, 0];
+    let (mut globals, mut global_sides) = ([7.0; 2], [7; 2]);
+    let (mut locals, mut local_sides) = ([7.0; 4], [7; 4]);
+    let (mut pairs, mut pair_sides, mut has_pair) = ([7.0; 18], [7; 18], [7; 9]);
+    let number = own::float_report(
+        4,
+        &[1, 1, 3, 3],
+        &weights,
+        &classes,
+        &mut globals,
+        &mut global_sides,
+        &mut locals,
+        &mut local_sides,
+        &mut pairs,
+        &mut pair_sides,
+        &mut has_pair,
+    );
+    assert_eq!(
+        (number, globals, locals),
+        (0, [0.125, 0.375], [1.5, 0.5, -1.0, 0.0])
+    );
+    assert_eq!((global_sides, local_sides), ([0; 2], [0; 4]));
+    assert_eq!(pairs[..7], [7.0, 7.0, 0.5, 0.0, -1.0, 1.5, 7.0]);
+    assert_eq!(pair_sides[..7], [7, 7, 0, 0, 0, 0, 7]);
+    assert_eq!(has_pair, [0, 1, 1, 0, 0, 0, 0, 0, 0]);
+}
+
+/// Where both numbers have at most 53 digits the machine's own division rounds once, and so does its product less p, whose sign is then
+/// that of the float less the ratio.
 #[test]
 fn floats_by_machine() {
     let mut state = 1u64;
@@ -177,10 +262,12 @@ fn floats_by_machine() {
         ((state >> 11) >> (state >> 8 & 31)) as i64 + 1
     };
     for _ in 0..100_000 {
-        let (p, q) = (drawn(), drawn());
-        let mut out = [0.0];
-        assert_eq!(own::nearest(p, q, &mut out), 0);
-        assert_eq!(out[0], p as f64 / q as f64, "{p} / {q}");
+        let (p, q) = (drawn() * [1, -1][(drawn() % 2) as usize], drawn());
+        let (float, side) = nearest(p, q);
+        assert_eq!(float, p as f64 / q as f64, "{p} / {q}");
+        let less = float.mul_add(q as f64, -(p as f64));
+        let said = [less == 0.0, less < 0.0, less > 0.0];
+        assert!(said[usize::from(side)], "{p} / {q}");
     }
 }
 

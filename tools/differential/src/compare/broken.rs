@@ -5,10 +5,10 @@
 
 use super::left_out::parted;
 use differential as own;
-use differential::{NOT_RETURNED, SUMS, ZONES};
+use differential::{ABOVE, BELOW, EQUAL, NOT_RETURNED, SUMS, ZONES};
 
 /// The names that `--broken` takes, and what is wrong.
-pub const NAMES: [(&str, &str); 40] = [
+pub const NAMES: [(&str, &str); 51] = [
     (
         "last-local",
         "account: the last local numerator is not stored",
@@ -49,6 +49,10 @@ pub const NAMES: [(&str, &str); 40] = [
         "float report: a class without weight stores 0 0",
     ),
     (
+        "weightless-sides",
+        "float report: a class without weight stores the sides 0 0",
+    ),
+    (
         "geary-of-all",
         "float report: Geary's n is the number of all zones",
     ),
@@ -56,7 +60,32 @@ pub const NAMES: [(&str, &str); 40] = [
         "lonely-kept",
         "float report: a neighbour left alone is kept",
     ),
+    (
+        "global-side-of-size",
+        "float report: the side of Moran's I is that of its size",
+    ),
+    (
+        "local-side-of-size",
+        "float report: the sides of local figures are those of their sizes",
+    ),
+    (
+        "pair-side-of-size",
+        "float report: the side of a class's Moran is that of its size",
+    ),
     ("tie-away", "nearest: ties go away from even"),
+    ("sides-exchanged", "nearest: below and above are exchanged"),
+    (
+        "side-of-size",
+        "nearest: the side is that of the size and not of the value",
+    ),
+    (
+        "equal-by-product",
+        "nearest: equal where the float times q, rounded, is p",
+    ),
+    (
+        "side-before-tie",
+        "nearest: the side is taken from the remainder before a tie is settled",
+    ),
     ("hot-ties", "hot list: equal zones by falling number"),
     (
         "left-out-as-zero",
@@ -120,6 +149,12 @@ pub const NAMES: [(&str, &str); 40] = [
     (
         "missing-said",
         "report: the first line says how many values are not returned",
+    ),
+    ("signs-exchanged", "report: `<` and `>` are exchanged"),
+    ("sign-spaced", "report: a space before each sign"),
+    (
+        "weightless-signed",
+        "report: a sign behind the `-` of a class without weight",
     ),
 ];
 
@@ -243,22 +278,27 @@ pub fn sum_of_all(job: &Job, classes: &[u8], rows: &mut [i64], locals: &mut [i64
     }
 }
 
-pub fn weightless(pairs: &mut [f64], has_pair: &[u8]) {
+pub fn weightless<T: Copy + Default>(pairs: &mut [T], has_pair: &[u8]) {
     for (pair, &has) in pairs.chunks_exact_mut(2).zip(has_pair) {
         if has == 0 {
-            pair.fill(0.0);
+            pair.fill(T::default());
         }
     }
 }
 
-pub fn geary_of_all(job: &Job, globals: &mut [f64]) {
+pub fn geary_of_all(job: &Job, globals: &mut [f64], sides: &mut [u8]) {
     let (_, [_, m, weight, _, g, ..]) = job.worked();
     let numerator = (job.n as i64 - 1) * job.n as i64 * g;
-    own::nearest(numerator, 2 * weight * m, &mut globals[1..]);
+    own::nearest(
+        numerator,
+        2 * weight * m,
+        &mut globals[1..],
+        &mut sides[1..],
+    );
 }
 
 /// Moran's I over all zones that are returned and have weight as it is lent.
-pub fn lonely_kept(x: &[i32], w: &[u8], globals: &mut [f64]) {
+pub fn lonely_kept(x: &[i32], w: &[u8], globals: &mut [f64], sides: &mut [u8]) {
     let job = Job::left(x, w);
     let (weighty, _) = parted(&vec![0; job.n], w);
     let kept = weighty.iter().filter(|&&zone| x[zone] != NOT_RETURNED);
@@ -269,27 +309,74 @@ pub fn lonely_kept(x: &[i32], w: &[u8], globals: &mut [f64]) {
     let d = job.deviations(count, s);
     let p = job.put_locals(&d, &mut vec![0; job.n], |_| true);
     let (_, [_, _, weight, ..]) = job.worked();
-    own::nearest(p, weight * m, globals);
+    own::nearest(p, weight * m, &mut globals[..1], &mut sides[..1]);
 }
 
-pub fn tie_away(p: i64, q: i64, out: &mut [f64]) {
-    if p == 0 {
-        return;
+fn exchanged(side: u8) -> u8 {
+    match side {
+        BELOW => ABOVE,
+        ABOVE => BELOW,
+        _ => side,
     }
-    // The next float outward is as near exactly when the two sum to twice the ratio, in steps of the lower one.
-    let (near, far) = (out[0].abs(), f64::from_bits(out[0].abs().to_bits() + 1));
-    let exponent = (near.to_bits() >> 52) as i32 - 1075;
-    let twice = 2 * (near.to_bits() & ((1 << 52) - 1) | 1 << 52) + 1;
+}
+
+pub fn sides_exchanged(sides: &mut [u8]) {
+    sides.iter_mut().for_each(|side| *side = exchanged(*side));
+}
+
+pub fn side_of_size(floats: &[f64], sides: &mut [u8]) {
+    for (float, side) in floats.iter().zip(sides) {
+        if *float < 0.0 {
+            *side = exchanged(*side);
+        }
+    }
+}
+
+pub fn pair_side_of_size(pairs: &[f64], sides: &mut [u8], has_pair: &[u8]) {
+    let classes = pairs.chunks_exact(2).zip(sides.chunks_exact_mut(2));
+    for ((pair, sides), &has) in classes.zip(has_pair) {
+        if has == 1 {
+            side_of_size(pair, sides);
+        }
+    }
+}
+
+pub fn equal_by_product(p: i64, q: i64, out: &[f64], side: &mut [u8]) {
+    if out[0] * q as f64 == p as f64 {
+        side[0] = EQUAL;
+    }
+}
+
+/// Whether the float next to the nearest one, outward, is as near to p / q: the two then sum to twice the ratio, in steps of the nearest.
+fn ties_outward(p: i64, q: i64, nearest: f64) -> bool {
+    if p == 0 {
+        return false;
+    }
+    let near = nearest.abs().to_bits();
+    let exponent = (near >> 52) as i32 - 1075;
+    let twice = 2 * (near & ((1 << 52) - 1) | 1 << 52) + 1;
     let (size, divisor) = (u128::from(p.unsigned_abs()) * 2, q.unsigned_abs());
     let shift = exponent.unsigned_abs();
-    let tie = if exponent >= 0 {
+    if exponent >= 0 {
         size == (u128::from(twice) << shift) * u128::from(divisor)
     } else {
         let scaled = size.checked_shl(shift).filter(|x| x >> shift == size);
         scaled == Some(u128::from(twice) * u128::from(divisor))
-    };
-    if tie {
+    }
+}
+
+pub fn tie_away(p: i64, q: i64, out: &mut [f64], side: &mut [u8]) {
+    if ties_outward(p, q, out[0]) {
+        let far = f64::from_bits(out[0].abs().to_bits() + 1);
         out[0] = far.copysign(out[0]);
+        sides_exchanged(side);
+    }
+}
+
+/// Half a step or more that is left of the ratio is taken for one that was rounded away from 0.
+pub fn side_before_tie(p: i64, q: i64, out: &[f64], side: &mut [u8]) {
+    if ties_outward(p, q, out[0]) {
+        sides_exchanged(side);
     }
 }
 
@@ -405,6 +492,10 @@ pub fn lower_case(text: &mut [u8], length: &[u64]) {
     text[..length[0] as usize].make_ascii_lowercase();
 }
 
+fn said(text: &[u8], length: &[u64]) -> String {
+    String::from_utf8_lossy(&text[..length[0] as usize]).into_owned()
+}
+
 /// Puts this in the place of a report.
 fn store(said: &str, text: &mut [u8], length: &mut [u64]) {
     text[..said.len()].copy_from_slice(said.as_bytes());
@@ -412,7 +503,7 @@ fn store(said: &str, text: &mut [u8], length: &mut [u64]) {
 }
 
 pub fn expected_of_all(image: &[u8], text: &mut [u8], length: &mut [u64]) {
-    let said = String::from_utf8_lossy(&text[..length[0] as usize]).into_owned();
+    let said = said(text, length);
     let (before, rest) = said.split_once("expected -1 ").expect("it has the line");
     let (_, behind) = rest.split_once('\n').expect("the line ends");
     let others = image[0] - 1;
@@ -426,10 +517,34 @@ pub fn missing_said(image: &[u8], text: &mut [u8], length: &mut [u64]) {
     let missing = values.filter(|&&x| i32::from_le_bytes(x) == NOT_RETURNED);
     let missing = missing.count();
     if missing > 0 {
-        let said = String::from_utf8_lossy(&text[..length[0] as usize]).into_owned();
+        let said = said(text, length);
         let (zones, behind) = said.split_once('\n').expect("the line ends");
         store(&format!("{zones} {missing}\n{behind}"), text, length);
     }
+}
+
+pub fn signs_exchanged(text: &mut [u8], length: &[u64]) {
+    for byte in &mut text[..length[0] as usize] {
+        *byte = match *byte {
+            b'<' => b'>',
+            b'>' => b'<',
+            other => other,
+        };
+    }
+}
+
+pub fn sign_spaced(text: &mut [u8], length: &mut [u64]) {
+    let spaced = |byte: char| match byte {
+        '=' | '<' | '>' => format!(" {byte}"),
+        _ => byte.to_string(),
+    };
+    let said: String = said(text, length).chars().map(spaced).collect();
+    store(&said, text, length);
+}
+
+pub fn weightless_signed(text: &mut [u8], length: &mut [u64]) {
+    let said = said(text, length).replace(" - -\n", " -= -=\n");
+    store(&said, text, length);
 }
 
 // ---- what a call answers

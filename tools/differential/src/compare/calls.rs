@@ -63,6 +63,7 @@ impl Run<'_> {
                     return Err(at(name, format!("changed on a refusal: {change}")));
                 }
             }
+            self.tally.add_sides(call, name, *memory);
         }
         Ok(())
     }
@@ -185,29 +186,47 @@ calls! {
     float_report: dca_float_report
         numbers(n: usize)
         reads(values: i32, weights: u8, classes: u8)
-        lends(globals: f64, locals: f64, pairs: f64, has_pair: u8)
+        lends(globals: f64, global_sides: u8, locals: f64, local_sides: u8, pairs: f64, pair_sides: u8, has_pair: u8)
         independent(own::float_report)
         stores(
             "weightless": broken::weightless [pairs.own_mut(), has_pair.own()],
-            "geary-of-all": broken::geary_of_all [&left(values, weights), globals.own_mut()],
-            "lonely-kept": broken::lonely_kept [values.own(), weights.own(), &mut globals.own_mut()[..1]]
+            "weightless-sides": broken::weightless [pair_sides.own_mut(), has_pair.own()],
+            "geary-of-all": broken::geary_of_all [&left(values, weights), globals.own_mut(), global_sides.own_mut()],
+            "lonely-kept": broken::lonely_kept [values.own(), weights.own(), globals.own_mut(), global_sides.own_mut()],
+            "global-side-of-size": broken::side_of_size [globals.own(), global_sides.own_mut()],
+            "local-side-of-size": broken::side_of_size [locals.own(), local_sides.own_mut()],
+            "pair-side-of-size": broken::pair_side_of_size [pairs.own(), pair_sides.own_mut(), has_pair.own()]
         )
         answers()
         faulty(
             "weightless-zeros": faulty::weightless_zeros [pairs, has_pair],
             "payload-lost": faulty::payload_lost [pairs, has_pair],
+            "side-of-weightless": faulty::side_of_weightless [pair_sides, has_pair],
             "figures-quieted": faulty::figures_quieted [locals],
-            "minus-zero": faulty::minus_zero [values, weights, locals]
+            "sides-on-refusal": faulty::sides_on_refusal [global_sides],
+            "minus-zero": faulty::minus_zero [values, weights, locals],
+            "left-out-side-kept": faulty::left_out_side_kept [values, weights, local_sides]
         );
 
     nearest: dca_nearest
         numbers(p: i64, q: i64)
         reads()
-        lends(out: f64)
+        lends(out: f64, side: u8)
         independent(own::nearest)
-        stores("tie-away": broken::tie_away [p, q, out.own_mut()])
+        stores(
+            "tie-away": broken::tie_away [p, q, out.own_mut(), side.own_mut()],
+            "sides-exchanged": broken::sides_exchanged [side.own_mut()],
+            "side-of-size": broken::side_of_size [out.own(), side.own_mut()],
+            "equal-by-product": broken::equal_by_product [p, q, out.own(), side.own_mut()],
+            "side-before-tie": broken::side_before_tie [p, q, out.own(), side.own_mut()]
+        )
         answers()
-        faulty("nan-quieted": faulty::nan_quieted [out], "nan-negated": faulty::nan_negated [out]);
+        faulty(
+            "nan-quieted": faulty::nan_quieted [out],
+            "nan-negated": faulty::nan_negated [out],
+            "side-anyway": faulty::side_anyway [p, side],
+            "beyond-side": faulty::beyond_side [side]
+        );
 
     hot_list: dca_hot_list
         numbers(n: usize)
@@ -334,7 +353,10 @@ calls! {
         stores(
             "lower-case": broken::lower_case [text.own_mut(), length.own()],
             "expected-of-all": broken::expected_of_all [image.own(), text.own_mut(), length.own_mut()],
-            "missing-said": broken::missing_said [image.own(), text.own_mut(), length.own_mut()]
+            "missing-said": broken::missing_said [image.own(), text.own_mut(), length.own_mut()],
+            "signs-exchanged": broken::signs_exchanged [text.own_mut(), length.own()],
+            "sign-spaced": broken::sign_spaced [text.own_mut(), length.own_mut()],
+            "weightless-signed": broken::weightless_signed [text.own_mut(), length.own_mut()]
         )
         answers("refused-as-text": broken::refused_as_text [text.own_mut(), length.own_mut()])
         faulty(

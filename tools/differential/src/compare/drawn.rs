@@ -113,7 +113,8 @@ pub fn class_account(run: &mut Run, draw: &mut Draw) -> Outcome {
 }
 
 pub fn float_report(run: &mut Run, draw: &mut Draw) -> Outcome {
-    let (job, classes, lengths) = classed(draw, |n| [2, n, 2 * CLASSES, CLASSES]);
+    let (job, classes, lengths) =
+        classed(draw, |n| [2, 2, n, n, 2 * CLASSES, 2 * CLASSES, CLASSES]);
     run.kinds = job.kinds;
     calls::float_report::compare(
         run,
@@ -125,6 +126,9 @@ pub fn float_report(run: &mut Run, draw: &mut Draw) -> Outcome {
         &mut Lent::noise(draw, lengths[1]),
         &mut Lent::noise(draw, lengths[2]),
         &mut Lent::noise(draw, lengths[3]),
+        &mut Lent::noise(draw, lengths[4]),
+        &mut Lent::noise(draw, lengths[5]),
+        &mut Lent::noise(draw, lengths[6]),
     )
 }
 
@@ -192,11 +196,15 @@ fn ratio(draw: &mut Draw) -> (i64, i64) {
 
 pub fn nearest(run: &mut Run, draw: &mut Draw) -> Outcome {
     let (p, q) = ratio(draw);
-    let mut length = 1;
-    if draw.once_in(25) {
-        draw::spoil_length(draw, &mut length);
-    }
-    calls::nearest::compare(run, p, q, &mut Lent::noise(draw, length))
+    let mut lengths = [1, 1];
+    spoil_one(draw, &mut lengths);
+    calls::nearest::compare(
+        run,
+        p,
+        q,
+        &mut Lent::noise(draw, lengths[0]),
+        &mut Lent::noise(draw, lengths[1]),
+    )
 }
 
 pub fn hot_list(run: &mut Run, draw: &mut Draw) -> Outcome {
@@ -375,7 +383,7 @@ pub fn read(run: &mut Run, draw: &mut Draw) -> Outcome {
     read_image(run, draw, &image)
 }
 
-/// Once in 25 jobs, one of the lengths is another.
+/// Once in 25 inputs, one of the lengths is another.
 fn spoil_one(draw: &mut Draw, lengths: &mut [usize]) {
     if draw.once_in(25) {
         let k = draw.below(lengths.len());

@@ -8,7 +8,7 @@ use super::lent::{Entry, Lent};
 use differential::NOT_RETURNED;
 
 /// The names that `--faulty` takes, and what is wrong.
-pub const NAMES: [(&str, &str); 23] = [
+pub const NAMES: [(&str, &str); 28] = [
     ("beyond-end", "account: an entry is stored beyond the sums"),
     ("count-of-all", "account: the zones kept are all zones"),
     (
@@ -28,12 +28,24 @@ pub const NAMES: [(&str, &str); 23] = [
         "float report: a NaN of a class without weight loses its payload",
     ),
     (
+        "side-of-weightless",
+        "float report: a class without weight gets the sides 0 0",
+    ),
+    (
         "figures-quieted",
         "float report: a refused call quiets the NaNs among the local figures",
     ),
     (
+        "sides-on-refusal",
+        "float report: a refused call stores the sides of the job's figures",
+    ),
+    (
         "minus-zero",
         "float report: the local figure of a zone left out is -0",
+    ),
+    (
+        "left-out-side-kept",
+        "float report: no side is stored at a zone left out",
     ),
     (
         "nan-quieted",
@@ -43,6 +55,8 @@ pub const NAMES: [(&str, &str); 23] = [
         "nan-negated",
         "nearest: a refused call flips the sign of the NaN that was lent",
     ),
+    ("side-anyway", "nearest: a refused call stores a side"),
+    ("beyond-side", "nearest: an entry is stored beyond the side"),
     ("values-sorted", "hot list: the lent values get sorted"),
     (
         "left-out-falling",
@@ -124,7 +138,7 @@ pub fn stored_then_refused(number: u8, class_locals: &mut Lent<i64>) -> u8 {
 }
 
 /// Changes the two entries of each class without weight.
-fn spoil_weightless(pairs: &mut Lent<f64>, has_pair: &mut Lent<u8>, spoil: fn(&mut f64)) {
+fn spoil_weightless<T: Entry>(pairs: &mut Lent<T>, has_pair: &mut Lent<u8>, spoil: fn(&mut T)) {
     for class in 0..has_pair.len() as isize {
         if *has_pair.proved_entry(class) == 0 {
             spoil(pairs.proved_entry(2 * class));
@@ -136,6 +150,13 @@ fn spoil_weightless(pairs: &mut Lent<f64>, has_pair: &mut Lent<u8>, spoil: fn(&m
 pub fn weightless_zeros(number: u8, pairs: &mut Lent<f64>, has_pair: &mut Lent<u8>) -> u8 {
     if number == 0 {
         spoil_weightless(pairs, has_pair, |entry| *entry = 0.0);
+    }
+    number
+}
+
+pub fn side_of_weightless(number: u8, sides: &mut Lent<u8>, has_pair: &mut Lent<u8>) -> u8 {
+    if number == 0 {
+        spoil_weightless(sides, has_pair, |entry| *entry = 0);
     }
     number
 }
@@ -177,6 +198,43 @@ pub fn minus_zero(
         for zone in left_out {
             *locals.proved_entry(zone as isize) = -0.0;
         }
+    }
+    number
+}
+
+pub fn left_out_side_kept(
+    number: u8,
+    values: &mut Lent<i32>,
+    weights: &mut Lent<u8>,
+    sides: &mut Lent<u8>,
+) -> u8 {
+    if number == 0 {
+        let (_, left_out) = parted(values.own(), weights.own());
+        for zone in left_out {
+            *sides.proved_entry(zone as isize) = sides.before()[zone];
+        }
+    }
+    number
+}
+
+pub fn sides_on_refusal(number: u8, sides: &mut Lent<u8>) -> u8 {
+    if number != 0 {
+        sides.proved_list().fill(0);
+    }
+    number
+}
+
+pub fn side_anyway(number: u8, p: i64, side: &mut Lent<u8>) -> u8 {
+    if number == 18 {
+        *side.proved_entry(0) = u8::from(p != 0);
+    }
+    number
+}
+
+pub fn beyond_side(number: u8, side: &mut Lent<u8>) -> u8 {
+    let end = side.len() as isize;
+    if number == 0 {
+        spoil(side, end);
     }
     number
 }

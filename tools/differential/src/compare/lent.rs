@@ -143,6 +143,8 @@ pub trait Memory {
     fn difference(&self) -> Option<String>;
     /// Where one of them did not keep what was there.
     fn change(&self) -> Option<String>;
+    /// The entries of the list in which the independent call left something else than was there.
+    fn stored(&self) -> Vec<u64>;
 }
 
 impl<T: Entry> Memory for Lent<T> {
@@ -159,5 +161,11 @@ impl<T: Entry> Memory for Lent<T> {
     fn change(&self) -> Option<String> {
         self.first(&self.proved, &self.before, "proved, before")
             .or_else(|| self.first(&self.own, &self.before, "independent, before"))
+    }
+
+    fn stored(&self) -> Vec<u64> {
+        let entries = self.own().iter().zip(self.before());
+        let other = entries.filter(|(now, before)| now.bits() != before.bits());
+        other.map(|(now, _)| now.bits()).collect()
     }
 }

@@ -1,9 +1,10 @@
-//! Document 01's run-only cases, and cases of requests A.6 and A.7. Each must be among the stored ones.
+//! Document 01's run-only cases, its figures (g) to (j) with their sides, and cases of requests A.6, A.7 and A.10. Each must be among the
+//! stored ones.
 
 use super::stored::Case;
 
 /// Name, call, number, and a line of the case.
-const REQUIRED: [(&str, &str, u8, &str); 36] = [
+const REQUIRED: [(&str, &str, u8, &str); 49] = [
     (
         "example-2",
         "dca_account",
@@ -145,6 +146,29 @@ const REQUIRED: [(&str, &str, u8, &str); 36] = [
     ),
     ("not-returned-last", "dca_write", 0, "length 7 -> 62"),
     ("nothing-left", "dca_read", 6, "counts 6*7"),
+    ("figure-g", "dca_nearest", 0, "side 7 -> 1"),
+    ("figure-h", "dca_nearest", 0, "side 7 -> 2"),
+    ("figure-i", "dca_nearest", 0, "side 7 -> 2"),
+    ("figure-j", "dca_nearest", 0, "side 7 -> 2"),
+    ("zero-over-7", "dca_nearest", 0, "side 7 -> 0"),
+    ("tie-inward-negative", "dca_nearest", 0, "side 7 -> 2"),
+    ("tie-outward-negative", "dca_nearest", 0, "side 7 -> 1"),
+    ("refused-side-kept", "dca_nearest", 18, "side 200"),
+    ("long-side", "dca_nearest", 2, "side 7 7"),
+    (
+        "weightless-sides-kept",
+        "dca_float_report",
+        0,
+        "global_sides 200 201 -> 2*0",
+    ),
+    (
+        "left-out-side",
+        "dca_float_report",
+        0,
+        "local_sides 3*7 2 -> 1 2 1 0",
+    ),
+    ("short-pair_sides", "dca_float_report", 2, "pair_sides 17*7"),
+    ("report", "dca_report", 0, "length 7 -> 355"),
 ];
 
 /// Says which one is not among the cases.

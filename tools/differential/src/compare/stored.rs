@@ -14,9 +14,10 @@ use std::str::FromStr;
 #[cfg(test)]
 mod tests;
 
-pub const FILES: [(&str, &str); 5] = [
+pub const FILES: [(&str, &str); 6] = [
     ("cases/jobs.txt", include_str!("../../cases/jobs.txt")),
     ("cases/floats.txt", include_str!("../../cases/floats.txt")),
+    ("cases/sides.txt", include_str!("../../cases/sides.txt")),
     (
         "cases/networks.txt",
         include_str!("../../cases/networks.txt"),

@@ -1,7 +1,11 @@
 //! Which answers came, and how often.
 
 use super::left_out::{Kinds, KINDS};
+use super::lent::Memory;
 use std::collections::BTreeMap;
+
+#[cfg(test)]
+mod tests;
 
 /// The numbers that each call can give.
 const CAN_GIVE: [(&str, &[u8]); 15] = [
@@ -47,6 +51,17 @@ const LEAVE_OUT: [&str; 9] = [
     "dca_report",
 ];
 
+/// The lists of sides, by their calls. Each side must come in each of them.
+const SIDES: [(&str, &str); 4] = [
+    ("dca_nearest", "side"),
+    ("dca_float_report", "global_sides"),
+    ("dca_float_report", "local_sides"),
+    ("dca_float_report", "pair_sides"),
+];
+
+/// What a side says, by its number.
+const SAID: [&str; 3] = ["equal", "below", "above"];
+
 /// What comes less often than this was not tried well.
 const SELDOM: u64 = 20;
 
@@ -56,6 +71,8 @@ pub struct Tally {
     answers: BTreeMap<&'static str, BTreeMap<u8, u64>>,
     /// By call and kind of job, those that got the number of the kind.
     kinds: BTreeMap<&'static str, [u64; KINDS.len()]>,
+    /// By list of sides and side, those that were stored.
+    sides: [[u64; SAID.len()]; SIDES.len()],
 }
 
 impl Tally {
@@ -70,6 +87,15 @@ impl Tally {
                 of
             };
             *count += u64::from(is && number == of);
+        }
+    }
+
+    /// Counts what is stored in a list of sides; the other lists are passed over.
+    pub fn add_sides(&mut self, call: &str, list: &str, memory: &dyn Memory) {
+        if let Some(place) = SIDES.iter().position(|of| *of == (call, list)) {
+            for side in memory.stored() {
+                self.sides[place][side as usize] += 1;
+            }
         }
     }
 
@@ -109,6 +135,25 @@ impl Tally {
         }
     }
 
+    pub fn print_sides(&self) {
+        println!("| sides | {} |", SAID.join(" | "));
+        println!("|---|{}", "---:|".repeat(SAID.len()));
+        for ((call, list), counts) in SIDES.iter().zip(self.sides) {
+            let counts = counts.map(|count| count.to_string()).join(" | ");
+            println!("| {call}, {list} | {counts} |");
+        }
+    }
+
+    /// The sides that came too seldom.
+    fn side_faults(&self) -> impl Iterator<Item = String> + '_ {
+        let lists = SIDES.iter().zip(self.sides);
+        lists.flat_map(|((call, list), counts)| {
+            let came = SAID.iter().zip(counts);
+            let seldom = came.filter(|&(_, came)| came < SELDOM);
+            seldom.map(move |(side, came)| format!("{call}, {list}: {side} came {came} times only"))
+        })
+    }
+
     /// The kinds of jobs that came too seldom.
     fn kind_faults(&self) -> impl Iterator<Item = String> + '_ {
         LEAVE_OUT.iter().flat_map(|&call| {
@@ -121,10 +166,10 @@ impl Tally {
         })
     }
 
-    /// The answers that came too seldom though the call can give them, those that came though it cannot, and the kinds of jobs that came too
-    /// seldom.
+    /// The answers that came too seldom though the call can give them, those that came though it cannot, and the kinds of jobs and the sides
+    /// that came too seldom.
     pub fn faults(&self) -> Vec<String> {
-        let mut faults: Vec<String> = self.kind_faults().collect();
+        let mut faults: Vec<String> = self.kind_faults().chain(self.side_faults()).collect();
         for (call, numbers) in CAN_GIVE {
             for number in 0..=u8::MAX {
                 let came = self.count(call, number);

@@ -22,8 +22,11 @@ values 0 1
 weights x:00010100
 classes 4*1
 globals 2*3fe0000000000000 -> bff0000000000000 3ff0000000000000
+global_sides 2*7 -> 2*0
 locals 2*3fe0000000000000 -> 2*bff0000000000000
+local_sides 2*7 -> 2*0
 pairs 18*3fe0000000000000 -> 2*3fe0000000000000 bff0000000000000 3ff0000000000000 14*3fe0000000000000
+pair_sides 18*7 -> 2*7 2*0 14*7
 has_pair 9*7 -> 0 1 7*0
 gives 0
 ";
@@ -186,6 +189,10 @@ fn wrong_kept_entries() {
     must_say(REPORT, broken("weightless"), part);
     let part = "pairs: entry 0 of 18: proved, expected";
     must_say(REPORT, faulty("weightless-zeros"), part);
+    let part = "pair_sides: entry 0 of 18: independent, expected";
+    must_say(REPORT, broken("weightless-sides"), part);
+    let part = "pair_sides: entry 0 of 18: proved, expected";
+    must_say(REPORT, faulty("side-of-weightless"), part);
     let text = changed(ACCOUNT, " -> 9 42 4 -18 34 3 0", "");
     must_say(&text, NOTHING, "sums: entry 0 of 7: proved, expected");
     let text = changed(QUEEN, "5*7", "5*7 -> 4*7 8");
