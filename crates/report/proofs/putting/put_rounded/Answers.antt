@@ -1,6 +1,6 @@
 -- `put_rounded` meets its contract: the sign is put right behind the bits. Assumes nothing.
 use mathlib.Core.Path.{◌≡◌, ap}
-use mathlib.Core.List.{[], ◌∷◌, ◌++◌}
+use mathlib.Core.List.{◌++◌}
 use native.Mathlib.Nat as N
 use native.Mathlib.Omega.{arith}
 use borrow.Author.Rules.{rules}
