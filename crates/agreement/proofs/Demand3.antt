@@ -17,7 +17,7 @@ use Rattle.whole.proofs.Size.{some_size, one_some, one_of}
 use Rattle.whole.proofs.Sum.{sum_cong}
 use Rattle.whole.proofs.Table.{table_at}
 use Rattle.nearest.specs.Answers.{nearest_refusal, nearest_bits, nearest_side}
-use Rattle.nearest.specs.Sides.{side_number}
+use Rattle.nearest.specs.declared.Side.TheVariants.{Equal}
 use Rattle.nearest.proofs.Theorems.{float_nearest}
 use Rattle.account.specs.Answers as account
 use Rattle.account.specs.Classes.{row_at, class_row_of, class_sums, class_locals_of, class_rules}
@@ -46,7 +46,7 @@ local_figure :
 unfolding local_figures local_sides nearest_side
 local_figure spread numerators i h r =
     let figure = table_at (λ i. nearest_bits (at numerators i) spread) (length numerators) i 0 h in
-    let side = table_at (λ i. side_number (nearest_side (at numerators i) spread)) (length numerators) i 0 h in
+    let side = table_at (λ i. nearest_side (at numerators i) spread) (length numerators) i Equal h in
     rw (figure, side) (float_nearest (at numerators i) spread (ratio_taken (at numerators i) spread r), refl)
 
 -- ---- sums have their pair exactly when there is weight, and then 18 does not apply to it

@@ -6,6 +6,7 @@ use Prim.Native.Nat.{ℕ, ◌*◌}
 use borrow.Author.Tests.{eq-eqb}
 use lib.IntN.{ℤ}
 use lib.ListN.{length}
+use Rattle.nearest.specs.declared.Side.{Side}
 use Rattle.whole.specs.Rules.{first_broken, misfits}
 use Rattle.whole.proofs.Rules.{fits}
 use Rattle.account.specs.Classes.{class_rules}
@@ -41,13 +42,13 @@ module _ (n : ℕ) (values : List ℤ) (weights classes : List ℕ) where
     account_none = account_taken n values weights classes lent taken
 
     pub report_none :
-        (figures sides parts part_sides : List ℕ) → length figures ≡ n → length sides ≡ n → length parts ≡ 9 * n →
+        (figures : List ℕ) (sides : List Side) (parts : List ℕ) (part_sides : List Side) → length figures ≡ n → length sides ≡ n → length parts ≡ 9 * n →
         length part_sides ≡ 9 * n → report_refusal n values weights classes figures sides parts part_sides ≡ 0
     unfolding report_refusal
     report_none figures sides parts part_sides e g h i = fit_alike _ lent (e, (g, (h, (i, tt)))) f ∙ taken
 
     pub plain_none :
-        (rows locals : List ℤ) (figures sides : List ℕ) → length rows ≡ 27 → length locals ≡ n → length figures ≡ n →
+        (rows locals : List ℤ) (figures : List ℕ) (sides : List Side) → length rows ≡ 27 → length locals ≡ n → length figures ≡ n →
         length sides ≡ n → plain_refusal n values weights classes rows locals figures sides ≡ 0
     unfolding plain_refusal
     plain_none rows locals figures sides e g h i = fit_alike _ lent (e, (g, (h, (i, tt)))) f ∙ taken

@@ -6,6 +6,7 @@ use lib.IntN.{ℤ}
 use Rattle.std.proofs.Common.{Result, Ok, Err}
 use Rattle.std.specs.Result.{IsOkAnd}
 use Rattle.refusals.specs.declared.Refusal.{Refusal}
+use Rattle.nearest.specs.declared.Side.{Side}
 use Rattle.refusals.specs.Refusals.{number_by, number_of}
 use Rattle.refusals.proofs.Refusals.{not_refused, left_by, worked_by}
 use Rattle.agreement.specs.EveryFigure.{Lent, lists, lent_lengths, answer_in, job_answers, job_lists}
@@ -16,7 +17,7 @@ use Rattle.agreement.proofs.Demand3.{demand_3}
 
 -- the same lists by other names
 pub lists_same :
-    {a b c d a' b' c' d' : List ℤ} {e f g h e' f' g' h' : List ℕ} {i j i' j' : List ℤ} {k l k' l' : List ℕ} →
+    {a b c d a' b' c' d' : List ℤ} {e g k e' g' k' : List ℕ} {f h l f' h' l' : List Side} {i j i' j' : List ℤ} →
     a ≡ a' → b ≡ b' → c ≡ c' → d ≡ d' → e ≡ e' → f ≡ f' → g ≡ g' → h ≡ h' → i ≡ i' → j ≡ j' → k ≡ k' → l ≡ l' →
     lists a b c d e f g h i j k l ≡ lists a' b' c' d' e' f' g' h' i' j' k' l'
 lists_same m n o p q r s t u v w x = rw (m, n, o, p, q, r, s, t, u, v, w, x) refl

@@ -5,6 +5,7 @@ use mathlib.Core.List.{List, [], ◌∷◌}
 use Prim.Native.Nat.{ℕ, ◌*◌, ◌≤◌, ◌<◌}
 use lib.IntN.{ℤ}
 use lib.ListN.{length, get_or}
+use Rattle.nearest.specs.declared.Side.{Side}
 use Rattle.whole.specs.Rules.{misfits}
 use Rattle.whole.proofs.Rules.{worked_when_taken, kept_when_refused}
 use Rattle.account.specs.Answers.{account_figures, account_locals}
@@ -49,7 +50,7 @@ accounts_agree n values weights classes rows of_classes own locals z l =
     )
 
 -- ---- the plain report is refused as the float report is, and promises the same sums, pairs, local figures and sides
-module _ (n : ℕ) (values : List ℤ) (weights classes : List ℕ) (rows locals : List ℤ) (figures sides parts part_sides : List ℕ)
+module _ (n : ℕ) (values : List ℤ) (weights classes : List ℕ) (rows locals : List ℤ) (figures : List ℕ) (sides : List Side) (parts : List ℕ) (part_sides : List Side)
     (rows_fit : length rows ≡ 27) (locals_fit : length locals ≡ n) (figures_fit : length figures ≡ n) (sides_fit : length sides ≡ n)
     (parts_fit : length parts ≡ 9 * n) (part_sides_fit : length part_sides ≡ 9 * n) where
   refused_alike :
@@ -96,7 +97,7 @@ class_account_leaves n values weights classes rows of_classes own f =
     (kept_when_refused _ _ _ f, (kept_when_refused _ _ _ f, kept_when_refused _ _ _ f))
 
 pub report_leaves :
-    (n : ℕ) (values : List ℤ) (weights classes figures sides parts part_sides : List ℕ) →
+    (n : ℕ) (values : List ℤ) (weights classes figures : List ℕ) (sides : List Side) (parts : List ℕ) (part_sides : List Side) →
     (report_refusal n values weights classes figures sides parts part_sides ≡ 0 → ⊥) →
     (report_figures n values weights classes figures sides parts part_sides ≡ figures)
     × ((report_sides n values weights classes figures sides parts part_sides ≡ sides)
@@ -107,7 +108,7 @@ report_leaves n values weights classes figures sides parts part_sides f =
     (kept_when_refused _ _ _ f, (kept_when_refused _ _ _ f, (kept_when_refused _ _ _ f, kept_when_refused _ _ _ f)))
 
 pub plain_leaves :
-    (n : ℕ) (values : List ℤ) (weights classes : List ℕ) (rows locals : List ℤ) (figures sides : List ℕ) →
+    (n : ℕ) (values : List ℤ) (weights classes : List ℕ) (rows locals : List ℤ) (figures : List ℕ) (sides : List Side) →
     (plain_refusal n values weights classes rows locals figures sides ≡ 0 → ⊥) →
     (plain_rows n values weights classes rows locals figures sides ≡ rows)
     × ((plain_locals n values weights classes rows locals figures sides ≡ locals)

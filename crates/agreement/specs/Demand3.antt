@@ -6,7 +6,9 @@ use Rattle.std.specs.Float.Ieee.{to_bits}
 use Rattle.whole.specs.Sum.{sum}
 use Rattle.whole.specs.Table.{at}
 use Rattle.nearest.specs.Nearest.{IsNearest}
-use Rattle.nearest.specs.Sides.{side_of, side_number}
+use Rattle.nearest.specs.Sides.{side_of}
+use Rattle.nearest.specs.declared.Side.{Side}
+use Rattle.nearest.specs.declared.Side.TheVariants.{Equal}
 use Rattle.account.specs.Classes.{row_at}
 use Rattle.account.specs.declared.ClassRow.{ClassRow}
 use Rattle.account.specs.declared.Sums.{Sums}
@@ -28,11 +30,11 @@ pub record HasPair (n : ℕ) (spread : ℤ) (row : ClassRow) (pair : Pair) : Typ
   pub geary : pos 1 ≤ℤ row.weight → Shows (pos ((n - 1) * n) *ℤ row.squares) ((pos 2 *ℤ row.weight) *ℤ spread) pair.geary
   pub none : (pos 1 ≤ℤ row.weight → ⊥) → pair ≡ no_pair
 
--- the i-th of a list of floats, which holds their bits, is the nearest to L / M, and the i-th of a list of sides, which holds their
--- numbers, is the true side of L / M that this float lies on
-abbrev pub LocalFigure : ℤ → ℤ → List ℕ → List ℕ → ℕ → Type 0
+-- the i-th of a list of floats, which holds their bits, is the nearest to L / M, and the i-th of a list of sides is the true side of L / M that
+-- this float lies on
+abbrev pub LocalFigure : ℤ → ℤ → List ℕ → List Side → ℕ → Type 0
 LocalFigure numerator spread figures sides i =
-    IsNearest numerator spread (get_or figures i 0) × (get_or sides i 0 ≡ side_number (side_of numerator spread (get_or figures i 0)))
+    IsNearest numerator spread (get_or figures i 0) × (get_or sides i Equal ≡ side_of numerator spread (get_or figures i 0))
 
 pub record Demand3 (n : ℕ) (out : Every) (after : Lent) : Type 0 where
   -- the account answers its sums, the class account the same, and the report the same with their pair; two zones at least are kept, of

@@ -3,6 +3,7 @@ use Rattle.std.specs.Prelude.{List, [], ◌∷◌, ℕ, ◌*◌, ℤ, length, Re
 use Rattle.whole.specs.Rules.{first_broken, unless_refused}
 use Rattle.whole.specs.Table.{table, at}
 use Rattle.refusals.specs.declared.Refusal.{Refusal}
+use Rattle.nearest.specs.declared.Side.{Side}
 use Rattle.account.specs.Refusals.{job_spread}
 use Rattle.kept.specs.Returned.{missing_count}
 use Rattle.account.specs.Answers.{job_kept, job_figures, job_locals}
@@ -22,21 +23,20 @@ pub record Lent : Type 0 where
   pub rows : List ℤ
   pub class_locals : List ℤ
   pub own : List ℤ
-  -- to the float report: for the bits of the local Moran of each zone and the number of its side, and for both of each zone in each class
+  -- to the float report: for the bits of the local Moran of each zone and its side, and for both of each zone in each class
   pub figures : List ℕ
-  pub sides : List ℕ
+  pub sides : List Side
   pub parts : List ℕ
-  pub part_sides : List ℕ
-  -- to the plain report: for the nine class rows, the local numerators, and the bits of the local Moran of each zone and the number of
-  -- its side
+  pub part_sides : List Side
+  -- to the plain report: for the nine class rows, the local numerators, and the bits of the local Moran of each zone and its side
   pub plain_rows : List ℤ
   pub plain_locals : List ℤ
   pub plain_figures : List ℕ
-  pub plain_sides : List ℕ
+  pub plain_sides : List Side
 
 -- twelve lists by their names
 abbrev pub lists :
-    List ℤ → List ℤ → List ℤ → List ℤ → List ℕ → List ℕ → List ℕ → List ℕ → List ℤ → List ℤ → List ℕ → List ℕ → Lent
+    List ℤ → List ℤ → List ℤ → List ℤ → List ℕ → List Side → List ℕ → List Side → List ℤ → List ℤ → List ℕ → List Side → Lent
 lists locals rows class_locals own figures sides parts part_sides plain_rows plain_locals plain_figures plain_sides = record {
   locals = locals;
   rows = rows;

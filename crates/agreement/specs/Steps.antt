@@ -1,12 +1,14 @@
 -- What the private functions ask of each other; no part of the public promise. Assumes nothing.
 use Rattle.std.specs.Prelude.{◌≡◌, List, [], ℕ, ◌*◌, ℤ, length}
 use Rattle.whole.specs.Rules.{first_broken}
+use Rattle.nearest.specs.declared.Side.{Side}
 use Rattle.account.specs.Classes.{class_rules}
 use Rattle.agreement.specs.EveryFigure.{job_lists}
 
 -- a job that the class account accepted, and lists that the other three calls can be lent
 pub record Callable (n : ℕ) (values : List ℤ) (weights classes : List ℕ) (locals : List ℤ)
-    (figures sides parts part_sides : List ℕ) (plain_rows plain_locals : List ℤ) (plain_figures plain_sides : List ℕ) : Type 0 where
+    (figures : List ℕ) (sides : List Side) (parts : List ℕ) (part_sides : List Side) (plain_rows plain_locals : List ℤ)
+    (plain_figures : List ℕ) (plain_sides : List Side) : Type 0 where
   pub accepted : first_broken (class_rules n values weights classes []) ≡ 0
   pub locals_fit : length locals ≡ n
   pub figures_fit : length figures ≡ n
@@ -20,7 +22,8 @@ pub record Callable (n : ℕ) (values : List ℤ) (weights classes : List ℕ) (
 
 -- what these lists then hold
 pub record OthersLeft (n : ℕ) (values : List ℤ) (weights classes : List ℕ) (locals : List ℤ)
-    (figures sides parts part_sides : List ℕ) (plain_rows plain_locals : List ℤ) (plain_figures plain_sides : List ℕ) : Type 0 where
+    (figures : List ℕ) (sides : List Side) (parts : List ℕ) (part_sides : List Side) (plain_rows plain_locals : List ℤ)
+    (plain_figures : List ℕ) (plain_sides : List Side) : Type 0 where
   pub in_locals : locals ≡ (job_lists n values weights classes).locals
   pub in_figures : figures ≡ (job_lists n values weights classes).figures
   pub in_sides : sides ≡ (job_lists n values weights classes).sides

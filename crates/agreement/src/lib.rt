@@ -14,6 +14,7 @@ ghost use Rattle.agreement.specs.Demand3.{Demand3};
 use account::Sums;
 use coefficients::Report;
 use judges::Places;
+use nearest::Side;
 use refusals::Refusal;
 
 // What the four calls answer of an accepted job: the account, the class account, the float report and the plain report.
@@ -39,13 +40,13 @@ pub fn every_figure(
     class_locals: &mut [i64],
     own: &mut [i64],
     figures: &mut [u64],
-    sides: &mut [u8],
+    sides: &mut [Side],
     parts: &mut [u64],
-    part_sides: &mut [u8],
+    part_sides: &mut [Side],
     plain_rows: &mut [i64],
     plain_locals: &mut [i64],
     plain_figures: &mut [u64],
-    plain_sides: &mut [u8],
+    plain_sides: &mut [Side],
 ) -> Result<Every, Refusal>
     ensures number { number_of result ≡ every_refusal n values.now weights.now classes.now
         (lists locals.old rows.old class_locals.old own.old

@@ -5,6 +5,7 @@ ghost use Rattle.agreement.specs.Steps.{Callable, OthersLeft};
 
 use crate::Every;
 use account::Sums;
+use nearest::Side;
 
 // The other three calls on a job that the class account accepted, with lists that fit: none of them refuses anything. `sums` is what the
 // class account answered.
@@ -17,13 +18,13 @@ pub(super) fn work_others(
     sums: Sums,
     locals: &mut [i64],
     figures: &mut [u64],
-    sides: &mut [u8],
+    sides: &mut [Side],
     parts: &mut [u64],
-    part_sides: &mut [u8],
+    part_sides: &mut [Side],
     plain_rows: &mut [i64],
     plain_locals: &mut [i64],
     plain_figures: &mut [u64],
-    plain_sides: &mut [u8],
+    plain_sides: &mut [Side],
 ) -> Every
     requires callable { Callable n values.now weights.now classes.now
         locals.old figures.old sides.old parts.old part_sides.old

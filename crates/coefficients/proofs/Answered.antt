@@ -19,6 +19,7 @@ use Rattle.refusals.proofs.Refusals.{left_by}
 use Rattle.account.specs.Answers.{listed, job_kept, job_figures, job_row, job_locals}
 use Rattle.account.specs.Classes.{row_at, class_sums, class_locals_of, class_rules, class_lengths, class_refusal}
 use Rattle.account.specs.Refusals.{job_spread, job_rules, job_lengths, call_rules}
+use Rattle.nearest.specs.declared.Side.{Side}
 use Rattle.account.specs.declared.ClassRow.{ClassRow}
 use Rattle.account.specs.declared.Sums.{Sums}
 use Rattle.account.proofs.ClassTheorems.{class_sums_row}
@@ -50,7 +51,8 @@ module _ (n : ℕ) (values : List ℤ) (weights classes : List ℕ) {kept : ℕ}
   sides_are : {l held : List ℤ} → l ≡ held → local_sides spread l ≡ local_sides (job_spread n values weights) held
   sides_are e = rw (m, e) refl
 
-module _ (refusal n : ℕ) (values : List ℤ) (weights classes : List ℕ) (rows locals : List ℤ) (figures sides parts part_sides : List ℕ) where
+module _ (refusal n : ℕ) (values : List ℤ) (weights classes : List ℕ) (rows locals : List ℤ) (figures : List ℕ) (sides : List Side)
+    (parts : List ℕ) (part_sides : List Side) where
   -- a refusal, and the lists as they were
   pub refused :
       (k : Refusal) (rows_left locals_left : List ℤ) → number_by k ≡ refusal → rows_left ≡ rows → locals_left ≡ locals →
@@ -71,7 +73,8 @@ module _ (refusal n : ℕ) (values : List ℤ) (weights classes : List ℕ) (row
 
   -- the sums, the pairs and the figures that are formed of what the class account answered and left
   pub reported :
-      (r : Report) (sums : Sums) (rows_left of_classes locals_left : List ℤ) (figures_left sides_left parts_left part_sides_left : List ℕ) →
+      (r : Report) (sums : Sums) (rows_left of_classes locals_left : List ℤ) (figures_left : List ℕ) (sides_left : List Side) (parts_left : List ℕ)
+      (part_sides_left : List Side) →
       refusal ≡ 0 → listed sums ≡ job_figures n values weights →
       rows_left ≡ class_sums n values weights classes → of_classes ≡ class_locals_of n values weights classes →
       locals_left ≡ job_locals n values weights →
@@ -103,8 +106,10 @@ module _ (refusal n : ℕ) (values : List ℤ) (weights classes : List ℕ) (row
 
 -- the same by another name of the number
 pub reports_same :
-    {refusal other n : ℕ} {values : List ℤ} {weights classes : List ℕ} {rows locals : List ℤ} {figures sides parts part_sides : List ℕ}
-    {r : Result Report Refusal} {rows_left locals_left : List ℤ} {figures_left sides_left parts_left part_sides_left : List ℕ} → refusal ≡ other →
+    {refusal other n : ℕ} {values : List ℤ} {weights classes : List ℕ} {rows locals : List ℤ} {figures : List ℕ}
+    {sides : List Side} {parts : List ℕ} {part_sides : List Side}
+    {r : Result Report Refusal} {rows_left locals_left : List ℤ} {figures_left : List ℕ} {sides_left : List Side} {parts_left : List ℕ}
+    {part_sides_left : List Side} → refusal ≡ other →
     Reports refusal n values weights classes rows locals figures sides parts part_sides r rows_left locals_left figures_left sides_left
     parts_left part_sides_left →
     Reports other n values weights classes rows locals figures sides parts part_sides r rows_left locals_left figures_left sides_left parts_left

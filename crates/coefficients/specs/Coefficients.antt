@@ -3,7 +3,7 @@ use Rattle.std.specs.Prelude.{cond, List, ℕ, ◌*◌, ◌-◌, ℤ, pos, ◌*�
 use Rattle.whole.specs.Integer.{is_zero}
 use Rattle.whole.specs.Table.{table, at}
 use Rattle.nearest.specs.Answers.{nearest_float, nearest_bits, nearest_side}
-use Rattle.nearest.specs.Sides.{side_number}
+use Rattle.nearest.specs.declared.Side.{Side}
 use Rattle.account.specs.Refusals.{job_spread}
 use Rattle.account.specs.Answers.{job_kept, job_row}
 use Rattle.account.specs.Classes.{class_row_of}
@@ -35,6 +35,6 @@ class_pair n values weights classes k =
 unfoldable pub local_figures : ℤ → List ℤ → List ℕ
 local_figures spread numerators = table (λ i. nearest_bits (at numerators i) spread) (length numerators)
 
--- the number of the side of L / M that each of these floats lies on
-unfoldable pub local_sides : ℤ → List ℤ → List ℕ
-local_sides spread numerators = table (λ i. side_number (nearest_side (at numerators i) spread)) (length numerators)
+-- the side of L / M that each of these floats lies on
+unfoldable pub local_sides : ℤ → List ℤ → List Side
+local_sides spread numerators = table (λ i. nearest_side (at numerators i) spread) (length numerators)

@@ -1,9 +1,10 @@
 -- What the float report answers, with the local figures of the classes or without them, and what it leaves in its lent lists. Lists of
--- floats hold their bits, and the list beside each the numbers of their sides. Assumes nothing.
+-- floats hold their bits; beside each stands a list of their sides. Assumes nothing.
 use Rattle.std.specs.Prelude.{List, [], ◌∷◌, ℕ, ◌*◌, ℤ, length, Result, Ok, Err}
 use Rattle.whole.specs.Rules.{first_broken, unless_refused}
 use Rattle.whole.specs.Table.{table}
 use Rattle.refusals.specs.declared.Refusal.{Refusal}
+use Rattle.nearest.specs.declared.Side.{Side}
 use Rattle.account.specs.Refusals.{job_spread}
 use Rattle.account.specs.Answers.{listed, job_figures, job_locals}
 use Rattle.account.specs.Classes.{class_sums, class_locals_of, class_rules}
@@ -54,20 +55,20 @@ figures_unless refusal n values weights figures =
     unless_refused refusal (local_figures (job_spread n values weights) (job_locals n values weights)) figures
 
 -- the side of each
-abbrev pub sides_unless : ℕ → ℕ → List ℤ → List ℕ → List ℕ → List ℕ
+abbrev pub sides_unless : ℕ → ℕ → List ℤ → List ℕ → List Side → List Side
 sides_unless refusal n values weights sides =
     unless_refused refusal (local_sides (job_spread n values weights) (job_locals n values weights)) sides
 
 -- ---- with the local figures of the classes
 
 -- the refusal, 0 where no rule is broken: 1 to 7, then 9, with the lengths of the four lent lists
-unfoldable pub report_refusal : ℕ → List ℤ → List ℕ → List ℕ → List ℕ → List ℕ → List ℕ → List ℕ → ℕ
+unfoldable pub report_refusal : ℕ → List ℤ → List ℕ → List ℕ → List ℕ → List Side → List ℕ → List Side → ℕ
 report_refusal n values weights classes figures sides parts part_sides =
     first_broken
     (class_rules n values weights classes
     ((length figures, n) ∷ (length sides, n) ∷ (length parts, 9 * n) ∷ (length part_sides, 9 * n) ∷ []))
 
-module _ (n : ℕ) (values : List ℤ) (weights classes figures sides parts part_sides : List ℕ) where
+module _ (n : ℕ) (values : List ℤ) (weights classes figures : List ℕ) (sides : List Side) (parts : List ℕ) (part_sides : List Side) where
   unfoldable pub report_sums : List ℤ
   report_sums = sums_unless (report_refusal n values weights classes figures sides parts part_sides) n values weights
 
@@ -80,7 +81,7 @@ module _ (n : ℕ) (values : List ℤ) (weights classes figures sides parts part
   unfoldable pub report_figures : List ℕ
   report_figures = figures_unless (report_refusal n values weights classes figures sides parts part_sides) n values weights figures
 
-  unfoldable pub report_sides : List ℕ
+  unfoldable pub report_sides : List Side
   report_sides = sides_unless (report_refusal n values weights classes figures sides parts part_sides) n values weights sides
 
   -- the local Moran of each zone in each class, class by class
@@ -90,7 +91,7 @@ module _ (n : ℕ) (values : List ℤ) (weights classes figures sides parts part
       (local_figures (job_spread n values weights) (class_locals_of n values weights classes))
       parts
 
-  unfoldable pub report_part_sides : List ℕ
+  unfoldable pub report_part_sides : List Side
   report_part_sides =
       unless_refused (report_refusal n values weights classes figures sides parts part_sides)
       (local_sides (job_spread n values weights) (class_locals_of n values weights classes))
@@ -99,12 +100,12 @@ module _ (n : ℕ) (values : List ℤ) (weights classes figures sides parts part
 -- ---- without them, and with the whole numbers
 
 -- the refusal: the same rules, with the lengths of the four lent lists
-unfoldable pub plain_refusal : ℕ → List ℤ → List ℕ → List ℕ → List ℤ → List ℤ → List ℕ → List ℕ → ℕ
+unfoldable pub plain_refusal : ℕ → List ℤ → List ℕ → List ℕ → List ℤ → List ℤ → List ℕ → List Side → ℕ
 plain_refusal n values weights classes rows locals figures sides =
     first_broken
     (class_rules n values weights classes ((length rows, 27) ∷ (length locals, n) ∷ (length figures, n) ∷ (length sides, n) ∷ []))
 
-module _ (n : ℕ) (values : List ℤ) (weights classes : List ℕ) (rows locals : List ℤ) (figures sides : List ℕ) where
+module _ (n : ℕ) (values : List ℤ) (weights classes : List ℕ) (rows locals : List ℤ) (figures : List ℕ) (sides : List Side) where
   unfoldable pub plain_sums : List ℤ
   plain_sums = sums_unless (plain_refusal n values weights classes rows locals figures sides) n values weights
 
@@ -125,5 +126,5 @@ module _ (n : ℕ) (values : List ℤ) (weights classes : List ℕ) (rows locals
   unfoldable pub plain_figures : List ℕ
   plain_figures = figures_unless (plain_refusal n values weights classes rows locals figures sides) n values weights figures
 
-  unfoldable pub plain_sides : List ℕ
+  unfoldable pub plain_sides : List Side
   plain_sides = sides_unless (plain_refusal n values weights classes rows locals figures sides) n values weights sides

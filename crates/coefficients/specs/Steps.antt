@@ -4,6 +4,7 @@ use Rattle.std.specs.Float.Ieee.{is_nan}
 use Rattle.whole.specs.Rules.{first_broken, unless_refused, ratio_limit}
 use Rattle.whole.specs.Table.{at}
 use Rattle.refusals.specs.declared.Refusal.{Refusal}
+use Rattle.nearest.specs.declared.Side.{Side}
 use Rattle.refusals.specs.Refusals.{number_of}
 use Rattle.account.specs.Refusals.{job_spread}
 use Rattle.account.specs.Answers.{job_locals}
@@ -64,7 +65,8 @@ pub record Reportable (sums : Sums) (rows class_locals_of locals : List ℤ) : T
 -- ---- what a call answers
 
 -- lists that the report's work can be lent
-pub record Lists (n : ℕ) (class_locals_of locals : List ℤ) (figures sides parts part_sides : List ℕ) : Type 0 where
+pub record Lists (n : ℕ) (class_locals_of locals : List ℤ) (figures : List ℕ) (sides : List Side) (parts : List ℕ)
+    (part_sides : List Side) : Type 0 where
   pub zones : n ≤ 64
   pub class_locals_fit : length class_locals_of ≡ 9 * n
   pub locals_fit : length locals ≡ n
@@ -79,8 +81,9 @@ rest_refusal n values weights classes = first_broken (class_rules n values weigh
 
 -- what a call whose refusal has this number promises of its answer r, and of the lists that it leaves of those that it was lent: `parts` for
 -- the local figures of the classes, as many as it has places, and `part_sides` for their sides
-pub record Reports (refusal n : ℕ) (values : List ℤ) (weights classes : List ℕ) (rows locals : List ℤ) (figures sides parts part_sides : List ℕ)
-    (r : Result Report Refusal) (rows_left locals_left : List ℤ) (figures_left sides_left parts_left part_sides_left : List ℕ) : Type 0 where
+pub record Reports (refusal n : ℕ) (values : List ℤ) (weights classes : List ℕ) (rows locals : List ℤ) (figures : List ℕ) (sides : List Side)
+    (parts : List ℕ) (part_sides : List Side) (r : Result Report Refusal) (rows_left locals_left : List ℤ) (figures_left : List ℕ)
+    (sides_left : List Side) (parts_left : List ℕ) (part_sides_left : List Side) : Type 0 where
   pub number : number_of r ≡ refusal
   pub sums : sums_in r ≡ sums_unless refusal n values weights
   pub whole : pair_in r ≡ whole_unless refusal n values weights

@@ -9,7 +9,7 @@ ghost use Rattle.coefficients.specs.Steps.{Ratio, Formable, FormableRows, nth_ro
 
 use crate::{Coefficient, Pair};
 use account::ClassRow;
-use nearest::Rounded;
+use nearest::{Rounded, Side};
 use std::array;
 
 // The nearest float to p over q, which part 2 does not refuse.
@@ -70,8 +70,8 @@ pub(super) fn class_pairs(n: usize, spread: i64, rows: &[i64; 27]) -> [Pair; 9]
     row_pairs(n, spread, &ClassRow::all(rows))
 }
 
-// The local Moran of each local numerator of a list, by its bits and by the number of its side.
-pub(super) fn put_figures(spread: i64, numerators: &[i64], figures: &mut [u64], sides: &mut [u8])
+// The local Moran of each local numerator of a list, by its bits, and its side.
+pub(super) fn put_figures(spread: i64, numerators: &[i64], figures: &mut [u64], sides: &mut [Side])
     requires numerators { Numerators spread numerators.now }
     requires figures_len { length figures.old ≡ length numerators.now }
     requires sides_len { length sides.old ≡ length numerators.now }
@@ -82,6 +82,6 @@ pub(super) fn put_figures(spread: i64, numerators: &[i64], figures: &mut [u64], 
     for (i, figure) in figures.iter_mut().enumerate() {
         let local = ratio(numerators[i], spread);
         *figure = local.float.to_bits();
-        sides[i] = nearest::side_number(local.side);
+        sides[i] = local.side;
     }
 }

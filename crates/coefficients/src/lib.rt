@@ -47,17 +47,16 @@ pub struct Report {
 }
 
 // Works the float report of the job, whose pairs have the classes lent: `figures` has n places for the bits of the local Moran of each
-// zone, and `parts` 9 × n for those in class 0, in class 1, .. `sides` and `part_sides` have as many for which way each was rounded, by the
-// number of the side. All four are left as they were where the job is refused.
+// zone, and `parts` 9 × n for those in class 0, in class 1, .. `sides` and `part_sides` have as many for which way each was rounded. All four are left as they were where the job is refused.
 pub fn float_report(
     n: usize,
     values: &[i32],
     weights: &[u8],
     classes: &[u8],
     figures: &mut [u64],
-    sides: &mut [u8],
+    sides: &mut [Side],
     parts: &mut [u64],
-    part_sides: &mut [u8],
+    part_sides: &mut [Side],
 ) -> Result<Report, Refusal>
     ensures number { number_of result ≡ report_refusal n
         values.now weights.now classes.now figures.old sides.old parts.old part_sides.old }
@@ -115,7 +114,7 @@ pub fn plain_report(
     rows: &mut [i64],
     locals: &mut [i64],
     figures: &mut [u64],
-    sides: &mut [u8],
+    sides: &mut [Side],
 ) -> Result<Report, Refusal>
     ensures number { number_of result ≡ plain_refusal n values.now weights.now classes.now
         rows.old locals.old figures.old sides.old }

@@ -7,6 +7,7 @@ ghost use Rattle.coefficients.specs.Steps.{whole_row, Reportable, Lists, rest_re
 
 use crate::{Report, Whole, forming};
 use account::{ClassRow, Sums};
+use nearest::Side;
 use refusals::Refusal;
 
 // The report of an accepted job, from what its class account answered and left. `parts` has places for the figures of the first of the
@@ -17,9 +18,9 @@ pub(super) fn report_job(
     class_locals: &[i64],
     locals: &[i64],
     figures: &mut [u64],
-    sides: &mut [u8],
+    sides: &mut [Side],
     parts: &mut [u64],
-    part_sides: &mut [u8],
+    part_sides: &mut [Side],
 ) -> Report
     requires reportable { Reportable sums rows.now class_locals.now locals.now }
     requires figures_len { length figures.old ≡ length locals.now }
@@ -62,9 +63,9 @@ pub(super) fn report_sized(
     class_locals: &mut [i64],
     locals: &mut [i64],
     figures: &mut [u64],
-    sides: &mut [u8],
+    sides: &mut [Side],
     parts: &mut [u64],
-    part_sides: &mut [u8],
+    part_sides: &mut [Side],
 ) -> Result<Report, Refusal>
     requires { Lists n class_locals.old locals.old figures.old sides.old parts.old part_sides.old }
     ensures { Reports (rest_refusal n values.now weights.now classes.now) n

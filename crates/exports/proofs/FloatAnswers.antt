@@ -83,15 +83,14 @@ tells_weight : (b : Bool) (x : Float) (side : Side) → tells (cond b Weightless
 tells_weight true x side = refl
 tells_weight false x side = refl
 
--- where some lists do not fit, they and three others do not
+-- where some lists do not fit, they and two others do not
 among :
-    (a b c d e f g others : Bool) → (a || (b || (d || (e || others)))) ≡ true →
-    (a || (b || (c || (d || (e || (f || (g || others))))))) ≡ true
-among true b c d e f g others h = refl
-among false true c d e f g others h = refl
-among false false c true e f g others h = beside c true refl
-among false false c false true f g others h = beside c true refl
-among false false c false false f g others h = beside c (f || (g || others)) (beside f (g || others) (beside g others h))
+    (a b c d e f others : Bool) → (a || (b || (d || (e || others)))) ≡ true → (a || (b || (c || (d || (e || (f || others)))))) ≡ true
+among true b c d e f others h = refl
+among false true c d e f others h = refl
+among false false c true e f others h = beside c true refl
+among false false c false true f others h = beside c true refl
+among false false c false false f others h = beside c (f || others) (beside f others h)
 
 module _ (n : ℕ) (values : List ℤ) (weights classes globals global_sides locals local_sides pairs pair_sides has_pair : List ℕ) where
   -- the lists that the call is lent
@@ -107,11 +106,11 @@ module _ (n : ℕ) (values : List ℤ) (weights classes globals global_sides loc
       ∷ []
 
   -- those that are judged first
-  abbrev from_pairs : List (ℕ × ℕ)
-  from_pairs = (length pairs, 18) ∷ (length pair_sides, 18) ∷ (length has_pair, 9) ∷ []
+  abbrev from_local_sides : List (ℕ × ℕ)
+  from_local_sides = (length local_sides, n) ∷ (length pairs, 18) ∷ (length pair_sides, 18) ∷ (length has_pair, 9) ∷ []
 
   abbrev judged : List (ℕ × ℕ)
-  judged = job_lengths n (length values) (length weights) ((length globals, 2) ∷ (length global_sides, 2) ∷ from_pairs)
+  judged = job_lengths n (length values) (length weights) ((length globals, 2) ∷ (length global_sides, 2) ∷ from_local_sides)
 
   abbrev said : ℕ
   said = report_number n values weights classes globals global_sides locals local_sides pairs pair_sides has_pair
@@ -121,13 +120,14 @@ module _ (n : ℕ) (values : List ℤ) (weights classes globals global_sides loc
   report_by_sizes r =
       sizes_number n values weights classes lent judged r
       (among (not (eqb (length values) n)) (not (eqb (length weights) (n * n))) (not (eqb (length classes) (n * n)))
-      (not (eqb (length globals) 2)) (not (eqb (length global_sides) 2)) (not (eqb (length locals) n)) (not (eqb (length local_sides) n)) _)
+      (not (eqb (length globals) 2)) (not (eqb (length global_sides) 2)) (not (eqb (length locals) n)) _)
 
   -- where those have no number, there are at most 64 zones, and the lists fit
   pub record Judged : Type 0 where
     pub zones : n ≤ 64
     pub globals_fit : length globals ≡ 2
     pub global_sides_fit : length global_sides ≡ 2
+    pub local_sides_fit : length local_sides ≡ n
     pub pairs_fit : length pairs ≡ 18
     pub pair_sides_fit : length pair_sides ≡ 18
     pub has_fit : length has_pair ≡ 9
@@ -137,17 +137,20 @@ module _ (n : ℕ) (values : List ℤ) (weights classes globals global_sides loc
       let all = sizes_hold n judged (sym e) in
       let from_has : List (ℕ × ℕ) = (length has_pair, 9) ∷ [] in
       let from_pair_sides : List (ℕ × ℕ) = (length pair_sides, 18) ∷ from_has in
-      let from_global_sides : List (ℕ × ℕ) = (length global_sides, 2) ∷ from_pairs in
+      let from_pairs : List (ℕ × ℕ) = (length pairs, 18) ∷ from_pair_sides in
+      let from_global_sides : List (ℕ × ℕ) = (length global_sides, 2) ∷ from_local_sides in
       let from_globals : List (ℕ × ℕ) = (length globals, 2) ∷ from_global_sides in
       let of_values = fits (length values) n ((length weights, n * n) ∷ from_globals) all.fitting in
       let of_globals = fits (length globals) 2 from_global_sides (fits (length weights) (n * n) from_globals of_values.1).1 in
-      let of_global_sides = fits (length global_sides) 2 from_pairs of_globals.1 in
-      let of_pairs = fits (length pairs) 18 from_pair_sides of_global_sides.1 in
+      let of_global_sides = fits (length global_sides) 2 from_local_sides of_globals.1 in
+      let of_local_sides = fits (length local_sides) n from_pairs of_global_sides.1 in
+      let of_pairs = fits (length pairs) 18 from_pair_sides of_local_sides.1 in
       let of_pair_sides = fits (length pair_sides) 18 from_has of_pairs.1 in
       record {
         zones = all.zones;
         globals_fit = of_globals.0;
         global_sides_fit = of_global_sides.0;
+        local_sides_fit = of_local_sides.0;
         pairs_fit = of_pairs.0;
         pair_sides_fit = of_pair_sides.0;
         has_fit = (fits (length has_pair) 9 [] of_pair_sides.1).0;
@@ -156,15 +159,18 @@ module _ (n : ℕ) (values : List ℤ) (weights classes globals global_sides loc
   module _ (fit : Judged) where
     -- and the plain report, whose own lists fit, has the call's number
     pub report_below :
-        (rows own : List ℤ) → length rows ≡ 27 → length own ≡ n → plain_refusal n values weights classes rows own locals local_sides ≡ said
+        (rows own : List ℤ) (sides : List Side) → length rows ≡ 27 → length own ≡ n → length sides ≡ n →
+        plain_refusal n values weights classes rows own locals sides ≡ said
     unfolding report_number plain_refusal
-    report_below rows own r o =
-        alike n values weights classes ((length rows, 27) ∷ (length own, n) ∷ (length locals, n) ∷ (length local_sides, n) ∷ []) lent
+    report_below rows own sides r o s =
+        alike n values weights classes ((length rows, 27) ∷ (length own, n) ∷ (length locals, n) ∷ (length sides, n) ∷ []) lent
         (rw (
           eq-eqb (length rows) 27 r,
           eq-eqb (length own) n o,
+          eq-eqb (length sides) n s,
           eq-eqb (length globals) 2 fit.globals_fit,
           eq-eqb (length global_sides) 2 fit.global_sides_fit,
+          eq-eqb (length local_sides) n fit.local_sides_fit,
           eq-eqb (length pairs) 18 fit.pairs_fit,
           eq-eqb (length pair_sides) 18 fit.pair_sides_fit,
           eq-eqb (length has_pair) 9 fit.has_fit,
@@ -172,10 +178,10 @@ module _ (n : ℕ) (values : List ℤ) (weights classes globals global_sides loc
 
     -- its report is that of the job
     module _
-        (report : Report) (rows own : List ℤ)
-        (taken : 0 ≡ plain_refusal n values weights classes rows own locals local_sides)
-        (whole : pair_in (Ok report) ≡ plain_whole n values weights classes rows own locals local_sides)
-        (in_classes : pairs_in (Ok report) ≡ plain_classes n values weights classes rows own locals local_sides) where
+        (report : Report) (rows own : List ℤ) (sides : List Side)
+        (taken : 0 ≡ plain_refusal n values weights classes rows own locals sides)
+        (whole : pair_in (Ok report) ≡ plain_whole n values weights classes rows own locals sides)
+        (in_classes : pairs_in (Ok report) ≡ plain_classes n values weights classes rows own locals sides) where
       pair_is : report.whole.pair ≡ job_pair n values weights
       unfolding pair_in plain_whole
       pair_is =

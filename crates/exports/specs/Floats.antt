@@ -9,9 +9,12 @@ use Rattle.whole.specs.Table.{table, table_rows}
 use Rattle.nearest.specs.Answers.{nearest_rules, nearest_bits, nearest_side}
 use Rattle.nearest.specs.Sides.{side_number}
 use Rattle.nearest.specs.declared.Side.{Side}
+use Rattle.nearest.specs.declared.Side.TheVariants.{Equal}
+use Rattle.account.specs.Refusals.{job_spread}
+use Rattle.account.specs.Answers.{job_locals}
 use Rattle.account.specs.Classes.{class_rules, class_row_of}
-use Rattle.coefficients.specs.Coefficients.{job_pair, class_pair}
-use Rattle.coefficients.specs.FloatReport.{figures_unless, sides_unless}
+use Rattle.coefficients.specs.Coefficients.{job_pair, class_pair, local_sides as sides_of}
+use Rattle.coefficients.specs.FloatReport.{figures_unless}
 use Rattle.coefficients.specs.declared.Coefficient.{Coefficient}
 use Rattle.coefficients.specs.declared.Coefficient.TheVariants.{Figure, Weightless}
 use Rattle.coefficients.specs.declared.Pair.{Pair}
@@ -29,6 +32,10 @@ nearest_after p q out side = unless_refused (nearest_number p q out side) (neare
 -- and the number of its side
 unfoldable pub side_after : ℤ → ℤ → List ℕ → List ℕ → List ℕ
 side_after p q out side = unless_refused (nearest_number p q out side) (side_number (nearest_side p q) ∷ []) side
+
+-- the numbers of some sides
+unfoldable pub side_numbers : List Side → List ℕ
+side_numbers sides = table (λ i. side_number (get_or sides i Equal)) (length sides)
 
 -- ---- pairs of coefficients in a list, Moran and Geary of the first, of the second, ..
 
@@ -81,7 +88,8 @@ module _ (n : ℕ) (values : List ℤ) (weights classes globals global_sides loc
   figures_after = figures_unless report_number n values weights locals
 
   unfoldable pub local_sides_after : List ℕ
-  local_sides_after = sides_unless report_number n values weights local_sides
+  local_sides_after =
+      unless_refused report_number (side_numbers (sides_of (job_spread n values weights) (job_locals n values weights))) local_sides
 
   -- Moran and Geary of each class; a class without weight leaves its two entries as they were, and those for their sides
   unfoldable pub pairs_after : List ℕ

@@ -8,6 +8,7 @@ ghost use Rattle.exports.specs.Floats.{pairs_after, pair_sides_after, has_pair_a
 
 use crate::storing;
 use judges::Places;
+use nearest::Side;
 use refusals::Refusal;
 
 // What `dca_nearest` answers, as a Result.
@@ -74,6 +75,7 @@ fn float_report_into(
             (weights.len(), Places::Pairs),
             (globals.len(), Places::Fixed(2)),
             (global_sides.len(), Places::Fixed(2)),
+            (local_sides.len(), Places::Zones),
             (pairs.len(), Places::Fixed(18)),
             (pair_sides.len(), Places::Fixed(18)),
             (has_pair.len(), Places::Fixed(9)),
@@ -82,6 +84,8 @@ fn float_report_into(
     // The whole numbers are not asked for.
     let mut rows: [i64; 27] = [0; 27];
     let mut space: [i64; 64] = [0; 64];
+    let mut side_space: [Side; 64] = [Side::Equal; 64];
+    let sides = &mut side_space[..n];
     let report = coefficients::plain_report(
         n,
         values,
@@ -90,8 +94,9 @@ fn float_report_into(
         &mut rows,
         &mut space[..n],
         locals,
-        local_sides,
+        sides,
     )?;
+    storing::put_sides(local_sides, sides);
     storing::put_pair(globals, global_sides, 0, report.whole.pair);
     storing::put_pairs(pairs, pair_sides, &report.classes);
     storing::put_having(has_pair, &report.classes);

@@ -8,13 +8,14 @@ ghost use Rattle.account.specs.Rank.{three};
 ghost use Rattle.reader.specs.Answers.{six};
 ghost use Rattle.coefficients.specs.FloatReport.{no_pair};
 ghost use Rattle.coefficients.specs.Steps.{Readable, ReadablePair, ReadablePairs};
-ghost use Rattle.exports.specs.Floats.{bits_put, side_put, pairs_over};
+ghost use Rattle.exports.specs.Floats.{side_numbers, bits_put, side_put, pairs_over};
 ghost use Rattle.exports.specs.Images.{given_by};
 ghost use Rattle.exports.specs.Steps.{put_figure, tells};
 
 use account::{Counts, Sums};
 use coefficients::{Coefficient, Pair};
 use image::Given;
+use nearest::Side;
 
 // S, M, W, P, G, the number of zones kept and that of values not returned.
 pub(super) fn put_sums(account: Sums, sums: &mut [i64])
@@ -128,6 +129,16 @@ pub(super) fn put_pairs(figures: &mut [u64], sides: &mut [u8], pairs: &[Pair; 9]
 {
     for (k, pair) in pairs.iter().enumerate() {
         put_pair(figures, sides, k, *pair);
+    }
+}
+
+// The numbers of sides. C lends bytes, of which not each is a side.
+pub(super) fn put_sides(numbers: &mut [u8], sides: &[Side])
+    requires { length numbers.old ≡ length sides.now }
+    ensures { numbers.new ≡ side_numbers sides.now }
+{
+    for (i, number) in numbers.iter_mut().enumerate() {
+        *number = nearest::side_number(sides[i]);
     }
 }
 

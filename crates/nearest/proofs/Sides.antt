@@ -1,7 +1,7 @@
 -- On which side of its ratio a float lies, from what the division left over and which number it took. Assumes nothing.
 use mathlib.Core.Path.{◌≡◌, refl, sym, ap, ◌∙◌, subst}
 use mathlib.Core.Logic.{◌⊎◌, ⊎_elim}
-use mathlib.Core.Bool.{Bool, true, false, cond, true≢false}
+use mathlib.Core.Bool.{Bool, true, false, not, cond, beq, true≢false}
 use Prim.Native.Nat.{ℕ, zero, suc, ◌+◌, ◌-◌, ◌*◌, ◌^◌, ◌≤◌, ◌<◌, compare, Ordering}
 use native.Mathlib.Nat as N
 use native.Mathlib.Omega.{arith}
@@ -98,19 +98,30 @@ module _ (w r d m c u n : ℕ) (some : 0 < c) (over : r < d) (within : r * c < u
       up : m * u ≡ w * u + u → n < m * u
       up e = omega arith
 
-  pub side_is : taken_side w r m ≡ side_by (pos (m * u)) (pos n)
+  pub side_is : taken_side false w r m ≡ side_by (pos (m * u)) (pos n)
   side_is = go (eqb r 0) refl
     where
-      other : (b : Bool) → eqb m w ≡ b → 0 < r → cond b Below Above ≡ side_by (pos (m * u)) (pos n)
+      other : (b : Bool) → eqb m w ≡ b → 0 < r → cond (beq (not b) false) Below Above ≡ side_by (pos (m * u)) (pos n)
       other true e h = sym (at_below (pos (m * u)) (pos n) (lt-ltb (m * u) n (short_of h (eqb-true m w e))))
       other false e h = sym (at_above (pos (m * u)) (pos n) (lt-ltb n (m * u) (past_it (eqb-false m w e))))
 
       above : (r ≡ 0 → ⊥) → 0 < r
       above f = N.pos_of_ne-zero f
 
-      go : (b : Bool) → eqb r 0 ≡ b → cond b Equal (cond (eqb m w) Below Above) ≡ side_by (pos (m * u)) (pos n)
+      go : (b : Bool) → eqb r 0 ≡ b → cond b Equal (cond (beq (not (eqb m w)) false) Below Above) ≡ side_by (pos (m * u)) (pos n)
       go true e = sym (at_equal (pos (m * u)) (pos n) (ap pos (on_it (eqb-true r 0 e))))
       go false e = other (eqb m w) refl (above (eqb-false r 0 e))
+
+-- of the negatives it is the other one
+taken_turned : (w r m : ℕ) → taken_side true w r m ≡ other_side (taken_side false w r m)
+taken_turned w r m = go (eqb r 0) (eqb m w)
+  where
+    go :
+        (none same : Bool) →
+        cond none Equal (cond (beq (not same) true) Below Above) ≡ other_side (cond none Equal (cond (beq (not same) false) Below Above))
+    go true same = refl
+    go false true = refl
+    go false false = refl
 
 -- ---- the value of the float that is made of p and q, where p has this sign
 module _ (s : Bool) (a q m k : ℕ) (v : HasValue (round binary64 s a q) s (m * 2 ^ k) (2 ^ 1074)) where
@@ -127,7 +138,7 @@ module _ (s : Bool) (a q m k : ℕ) (v : HasValue (round binary64 s a q) s (m * 
 -- ---- the quotient of two sizes, and the number taken for it
 divided_side :
     (a q j w r k : ℕ) → 0 < q → w * (q * 2 ^ j) + r ≡ a * 2 ^ k → r < q * 2 ^ j → 2 ^ 52 ≤ w → w < 2 ^ 53 → k ≤ 1074 → 53 + j ≤ 1023 →
-    taken_side w r (nearest w (compare (r * 2) (q * 2 ^ j))) ≡ nearest_side (pos a) (pos q)
+    taken_side false w r (nearest w (compare (r * 2) (q * 2 ^ j))) ≡ nearest_side (pos a) (pos q)
 unfolding nearest_side side_of nearest_float
 divided_side a q j w r k Q split over least most K J =
     let m = nearest w (compare (r * 2) (q * 2 ^ j)) in
@@ -140,12 +151,12 @@ divided_side a q j w r k Q split over least most K J =
     (one_taken w r (q * 2 ^ j))
     ∙ ap (λ (z : ℤ). side_by z (pos (a * 2 ^ 1074))) (sym (value_is false a q m D v))
 
-pub of_sizes :
+of_sizes :
     (a q d j w r k m : ℕ) → 0 < q → Widened q d j → Divided a d w r k → m ≡ nearest w (compare (r * 2) d) →
-    taken_side w r m ≡ nearest_side (pos a) (pos q)
+    taken_side false w r m ≡ nearest_side (pos a) (pos q)
 of_sizes a q d j w r k m Q by x e =
     let K : k ≤ 1074 = omega arith in
-    ap (taken_side w r) (e ∙ ap (λ (z : ℕ). nearest w (compare (r * 2) z)) by.same)
+    ap (taken_side false w r) (e ∙ ap (λ (z : ℕ). nearest w (compare (r * 2) z)) by.same)
     ∙ divided_side a q j w r k Q
     (subst (λ (z : ℕ). w * z + r ≡ a * 2 ^ k) by.same x.same)
     (subst (λ (z : ℕ). r < z) by.same x.over)
@@ -180,7 +191,16 @@ zero_at q Q =
     sym (ap (λ (b : ℕ). side_by (value_of b *ℤ pos q) (pos 0 *ℤ pos (2 ^ 1074))) (zero_bits q Q)
     ∙ at_equal (pos (0 * q)) (pos (0 * 2 ^ 1074)) (ap pos (N.zero-mul q)))
 
--- what `float_of` answers at each way out
+-- the side that the code finds, of the float of a signed ratio
+pub signed_side :
+    (s : Bool) (a q d j w r k m : ℕ) → 0 < a → a < 2 ^ 63 → 0 < q → q < 2 ^ 63 → Widened q d j → Divided a d w r k →
+    m ≡ nearest w (compare (r * 2) d) → taken_side s w r m ≡ nearest_side (signed s a) (pos q)
+signed_side false a q d j w r k m A A' Q Q' by x e = of_sizes a q d j w r k m Q by x e
+signed_side true zero q d j w r k m A A' Q Q' by x e = absurd (N.lt_irrefl 0 A)
+signed_side true (suc a) q d j w r k m A A' Q Q' by x e =
+    taken_turned w r m ∙ ap other_side (of_sizes (suc a) q d j w r k m Q by x e) ∙ minus_at a q A' Q Q'
+
+-- ---- for any divisor from 1
 module _ (q : ℤ) (h : pos 1 ≤ℤ q) where
   same_divisor : (p : ℤ) → nearest_side p (pos (nat_abs q)) ≡ nearest_side p q
   same_divisor p = ap (nearest_side p) (sym (one_above q h))

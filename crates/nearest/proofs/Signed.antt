@@ -3,13 +3,15 @@
 use mathlib.Core.Path.{◌≡◌, refl, sym, ap, ◌∙◌}
 use mathlib.Core.Bool.{Bool, true, false, not, cond}
 use Prim.Native.Nat.{ℕ, zero, suc, ◌+◌, ◌*◌, ◌^◌, ◌<◌}
-use native.Mathlib.Nat.{suc-ne-zero}
+use native.Mathlib.Nat.{lt_irrefl}
 use lib.Dec.{T, ltb}
 use lib.Ieee.{Float, Format, binary64, prec, emax, low, neg, odd, units, round, of_bits, is_nan, nan, inf, fin}
 use lib.Ieee.Fits.{round_is}
 use lib.IntN.{ℤ, pos, negsuc, nat_abs}
 use Rattle.whole.specs.Integer.{below_zero}
+use Rattle.whole.proofs.Size.{zero_of_size}
 use Rattle.nearest.specs.Answers.{nearest_float}
+use Rattle.nearest.specs.Bits.{signed}
 use Rattle.nearest.proofs.NearestFloat.{zero_round}
 
 neg_odd : (d q k l : ℕ) → neg (odd d false q k l) ≡ odd d true q k l
@@ -55,23 +57,18 @@ units_number f s q k = go (ltb (q * 2 ^ k) (2 ^ (low f + suc (emax f))))
 pub round_number : (f : Format) (s : Bool) (a c : ℕ) → T (not (is_nan (round f s a c)))
 round_number f s a c = rw (round_is f s a c) (units_number f s _ _)
 
--- ---- what `float_of` answers at each way out
-module _ (p q : ℤ) where
-  with_sign : (s : Bool) (x : Float) → below_zero p ≡ s → x ≡ round binary64 s (nat_abs p) (nat_abs q) → x ≡ nearest_float p q
-  unfolding nearest_float
-  with_sign s x t e = e ∙ ap (λ (b : Bool). round binary64 b (nat_abs p) (nat_abs q)) (sym t)
+-- ---- the float of a signed ratio
+pub signed_float : (s : Bool) (a q : ℕ) (x : Float) → 0 < a → x ≡ round binary64 false a q → cond s (neg x) x ≡ nearest_float (signed s a) (pos q)
+unfolding nearest_float
+signed_float false a q x A e = e
+signed_float true zero q x A e = absurd (lt_irrefl 0 A)
+signed_float true (suc a) q x A e = ap neg e ∙ neg_round binary64 (suc a) q
 
-  pub at_zero : 0 < nat_abs q → nat_abs p ≡ 0 → of_bits binary64 0 ≡ nearest_float p q
-  at_zero Q z =
-      with_sign false (of_bits binary64 0) (plus p z)
-      (zero_round (nat_abs q) Q ∙ ap (λ (n : ℕ). round binary64 false n (nat_abs q)) (sym z))
-    where
-      plus : (p : ℤ) → nat_abs p ≡ 0 → below_zero p ≡ false
-      plus (pos n) e = refl
-      plus (negsuc n) e = absurd (suc-ne-zero n e)
+-- ---- what `float_of` divides is p over q, and 0 has no sign
+pub signed_size : (p : ℤ) → signed (below_zero p) (nat_abs p) ≡ p
+signed_size (pos n) = refl
+signed_size (negsuc n) = refl
 
-  pub at_minus : (x : Float) → below_zero p ≡ true → x ≡ round binary64 false (nat_abs p) (nat_abs q) → neg x ≡ nearest_float p q
-  at_minus x t e = with_sign true (neg x) t (ap neg e ∙ neg_round binary64 (nat_abs p) (nat_abs q))
-
-  pub at_plus : (x : Float) → below_zero p ≡ false → x ≡ round binary64 false (nat_abs p) (nat_abs q) → x ≡ nearest_float p q
-  at_plus x t e = with_sign false x t e
+pub at_zero : (p q : ℤ) → 0 < nat_abs q → nat_abs p ≡ 0 → of_bits binary64 0 ≡ nearest_float p q
+unfolding nearest_float
+at_zero p q Q z = zero_round (nat_abs q) Q ∙ ap (λ (x : ℤ). nearest_float x q) (sym (zero_of_size p z))

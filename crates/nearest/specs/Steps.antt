@@ -1,5 +1,6 @@
 -- What the steps of the division promise each other. Assumes nothing.
-use Rattle.std.specs.Prelude.{◌⊎◌, ◌≡◌, cond, ℕ, ◌+◌, ◌*◌, ◌^◌, ◌≤◌, ◌<◌, eqb}
+use Rattle.std.specs.Prelude.{◌⊎◌, ◌≡◌, Bool, not, cond, ℕ, ◌+◌, ◌*◌, ◌^◌, ◌≤◌, ◌<◌, eqb}
+use mathlib.Core.Bool.{beq}
 use Rattle.nearest.specs.declared.Side.{Side}
 use Rattle.nearest.specs.declared.Side.TheVariants.{Equal, Below, Above}
 
@@ -24,6 +25,7 @@ pub record Divided (a divisor whole rest halvings : ℕ) : Type 0 where
   pub most : whole < 2 ^ 53
   pub few : halvings ≤ 115
 
--- where the number taken for a quotient lies beside it: on it where nothing is left over, below where the whole part is kept
-abbrev pub taken_side : ℕ → ℕ → ℕ → Side
-taken_side whole rest taken = cond (eqb rest 0) Equal (cond (eqb taken whole) Below Above)
+-- where the number taken for a quotient lies beside it, or the negative of the one beside the negative of the other: on it where nothing is
+-- left over, else on the side of 0 or on the other, as the whole part is kept or not
+abbrev pub taken_side : Bool → ℕ → ℕ → ℕ → Side
+taken_side minus whole rest taken = cond (eqb rest 0) Equal (cond (beq (not (eqb taken whole)) minus) Below Above)

@@ -18,7 +18,9 @@ use Rattle.whole.proofs.Stores.{each_same}
 use Rattle.whole.proofs.Table.{table_length, table_at}
 use Rattle.refusals.specs.declared.Refusal.{Refusal}
 use Rattle.nearest.specs.Answers.{nearest_bits, nearest_side}
-use Rattle.nearest.specs.Sides.{side_number}
+use Rattle.nearest.specs.declared.Side.{Side}
+use Rattle.nearest.specs.declared.Side.TheVariants.{Equal}
+use Rattle.report.specs.Lines.{rounded}
 use Rattle.pages.specs.Lines.{line, numbers}
 use Rattle.kept.specs.Kept.{keeps, kept_count, kept_values, kept_pairs}
 use Rattle.kept.specs.Returned.{reduced}
@@ -42,8 +44,7 @@ use Rattle.report.specs.Lines.{coefficient}
 use Rattle.report.specs.Text.{whole_lines, job_lines, local_line, local_lines, pair_lines, rank_line, class_lines}
 use Rattle.report.specs.Text.{numbered, where_given, job_text}
 use Rattle.report.specs.Steps.{Within, Sound, Low, Classed}
-use Rattle.report.specs.Steps.{sum_lines, ratio_lines, rounded_by, zone_line}
-use Rattle.report.proofs.LineLaws.{rounded_same}
+use Rattle.report.specs.Steps.{sum_lines, ratio_lines, zone_line}
 use Rattle.report.proofs.Listed.{class_text}
 
 -- ---- items of which those that pass a test stand first: only they have a text
@@ -83,22 +84,22 @@ module _ (n : ℕ) (values : List ℤ) (weights : List ℕ) where
   unfolding local_figures
   figure_at i h = table_at (λ i. nearest_bits (at locals i) M) (length locals) i 0 h
 
-  abbrev sides : List ℕ
+  abbrev sides : List Side
   sides = local_sides M locals
 
   pub sides_length : length sides ≡ length locals
   unfolding local_sides
-  sides_length = table_length (λ i. side_number (nearest_side (at locals i) M)) (length locals)
+  sides_length = table_length (λ i. nearest_side (at locals i) M) (length locals)
 
-  side_at : (i : ℕ) → i < length locals → get_or sides i 0 ≡ side_number (nearest_side (at locals i) M)
+  side_at : (i : ℕ) → i < length locals → get_or sides i Equal ≡ nearest_side (at locals i) M
   unfolding local_sides
-  side_at i h = table_at (λ i. side_number (nearest_side (at locals i) M)) (length locals) i 0 h
+  side_at i h = table_at (λ i. nearest_side (at locals i) M) (length locals) i Equal h
 
   one_zone : (zone : ℕ) → zone < length locals → zone_line locals figures sides M zone ≡ local_line locals M zone
   unfolding zone_line local_line
   one_zone zone h =
       ap (λ x. line "local" (numbers (pos zone ∷ at locals zone ∷ M ∷ []) ++ x))
-      (ap₂ rounded_by (figure_at zone h) (side_at zone h) ∙ rounded_same _ (nearest_side (at locals zone) M))
+      (ap₂ rounded (figure_at zone h) (side_at zone h))
 
   below : (k : ℕ) → k < length (hot_list n values weights) → get_or (hot_list n values weights) k 0 < length locals
   below k h =
@@ -119,7 +120,7 @@ module _ (n : ℕ) (values : List ℤ) (weights : List ℕ) where
 
   -- as the lists, the spread and the number of zones kept that were handed out hold them
   pub zones_are :
-      {held : List ℤ} {floats of_floats : List ℕ} {spread : ℤ} {many : ℕ} → held ≡ locals → floats ≡ figures → of_floats ≡ sides → spread ≡ M →
+      {held : List ℤ} {floats : List ℕ} {of_floats : List Side} {spread : ℤ} {many : ℕ} → held ≡ locals → floats ≡ figures → of_floats ≡ sides → spread ≡ M →
       many ≡ job_kept n values weights →
       each (zone_line held floats of_floats spread) (take many (in_order (length held) values weights held)) ≡ local_lines n values weights
   zones_are g h s f k = rw (f, g, h, s, k, job_locals_length n values weights) all_lines
@@ -202,7 +203,7 @@ module _ (n : ℕ) (values : List ℤ) (weights : List ℕ) (sound : Sound n val
 
 -- it answers the sums and the pair of the job and the pairs of the classes, and leaves the rows, the local numerators and the figures with their sides
 pub record Reports (n : ℕ) (values : List ℤ) (weights classes : List ℕ) (report : Report) (rows locals : List ℤ)
-    (figures sides : List ℕ) : Type 0 where
+    (figures : List ℕ) (sides : List Side) : Type 0 where
   pub sums : listed report.whole.sums ≡ job_figures n values weights
   pub of_job : report.whole.pair ≡ job_pair n values weights
   pub of_classes : report.classes ≡ table (class_pair n values weights classes) 9
@@ -212,7 +213,7 @@ pub record Reports (n : ℕ) (values : List ℤ) (weights classes : List ℕ) (r
   pub of_sides : sides ≡ local_sides (job_spread n values weights) (job_locals n values weights)
 
 module _ {n : ℕ} {values : List ℤ} {weights classes : List ℕ} (sound : Sound n values weights) (low : Low n classes)
-    (rows locals : List ℤ) (figures sides : List ℕ) (rows_fit : length rows ≡ 27) (locals_fit : length locals ≡ n)
+    (rows locals : List ℤ) (figures : List ℕ) (sides : List Side) (rows_fit : length rows ≡ 27) (locals_fit : length locals ≡ n)
     (figures_fit : length figures ≡ n) (sides_fit : length sides ≡ n) where
   pub plain_taken : plain_refusal n values weights classes rows locals figures sides ≡ 0
   unfolding plain_refusal
@@ -226,7 +227,7 @@ module _ {n : ℕ} {values : List ℤ} {weights classes : List ℕ} (sound : Sou
       ) refl)
 
   pub reports :
-      {r : Result Report Refusal} {report : Report} {in_rows in_locals : List ℤ} {in_figures in_sides : List ℕ} → r ≡ Ok report →
+      {r : Result Report Refusal} {report : Report} {in_rows in_locals : List ℤ} {in_figures : List ℕ} {in_sides : List Side} → r ≡ Ok report →
       sums_in r ≡ plain_sums n values weights classes rows locals figures sides →
       pair_in r ≡ plain_whole n values weights classes rows locals figures sides →
       pairs_in r ≡ plain_classes n values weights classes rows locals figures sides →

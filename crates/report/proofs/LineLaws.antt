@@ -18,13 +18,12 @@ use Rattle.whole.proofs.Size.{one_some}
 use Rattle.account.specs.declared.Sums.{Sums}
 use Rattle.coefficients.specs.FloatReport.{no_pair}
 use Rattle.coefficients.specs.declared.Pair.{Pair}
-use Rattle.nearest.specs.Sides.{side_number}
 use Rattle.nearest.specs.declared.Side.{Side}
-use Rattle.nearest.specs.declared.Side.TheVariants.{Equal, Below, Above}
+use Rattle.nearest.specs.declared.Side.TheVariants.{Equal}
 use Rattle.coefficients.proofs.Ratios.{left_le, ordered_le}
 use Rattle.pages.specs.Lines.{line, numbers}
-use Rattle.report.specs.Lines.{sign, rounded, coefficient}
-use Rattle.report.specs.Steps.{Within, sum_lines, ratio_lines, rounded_by, zone_line, table_line, row_line}
+use Rattle.report.specs.Lines.{rounded, coefficient}
+use Rattle.report.specs.Steps.{Within, sum_lines, ratio_lines, zone_line, table_line, row_line}
 
 -- what a call has answered is read back from its bits as it is
 pub read_back : {answer meant : ℤ} → mag answer < 2 ^ 63 → answer ≡ meant → r64 answer ≡ meant
@@ -123,18 +122,11 @@ module _ (sums : Sums) (reads : Read sums) where
 
 -- ---- the line of an item
 pub zone_text :
-    (locals : List ℤ) (figures sides : List ℕ) (spread : ℤ) (zone : ℕ) {zone' numerator : ℤ} {figure side : ℕ} → zone' ≡ pos zone →
-    numerator ≡ at locals zone → figure ≡ get_or figures zone 0 → side ≡ get_or sides zone 0 →
-    line "local" (numbers (zone' ∷ numerator ∷ spread ∷ []) ++ rounded_by figure side) ≡ zone_line locals figures sides spread zone
+    (locals : List ℤ) (figures : List ℕ) (sides : List Side) (spread : ℤ) (zone : ℕ) {zone' numerator : ℤ} {figure : ℕ} {side : Side} → zone' ≡ pos zone →
+    numerator ≡ at locals zone → figure ≡ get_or figures zone 0 → side ≡ get_or sides zone Equal →
+    line "local" (numbers (zone' ∷ numerator ∷ spread ∷ []) ++ rounded figure side) ≡ zone_line locals figures sides spread zone
 unfolding zone_line
 zone_text locals figures sides spread zone e1 e2 e3 e4 = rw (e1, e2, e3, e4) refl
-
--- the sign is that of the side which has the number
-pub rounded_same : (b : ℕ) (side : Side) → rounded_by b (side_number side) ≡ rounded b side
-unfolding sign
-rounded_same b Equal = refl
-rounded_same b Below = refl
-rounded_same b Above = refl
 
 module _ (table : List ℤ) (r s : ℕ) where
   pub table_text :

@@ -10,7 +10,7 @@ use Rattle.coefficients.specs.declared.Coefficient.{Coefficient}
 use Rattle.coefficients.specs.declared.Coefficient.TheVariants.{Figure, Weightless}
 
 -- which way a float was rounded: whether it is equal to its ratio, below it or above it
-unfoldable pub sign : Side → List ℕ
+abbrev pub sign : Side → List ℕ
 sign Equal = ascii "="
 sign Below = ascii "<"
 sign Above = ascii ">"

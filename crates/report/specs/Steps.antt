@@ -1,11 +1,13 @@
 -- What the private functions of the report promise each other. Assumes nothing.
-use Rattle.std.specs.Prelude.{◌≡◌, false, cond, List, [], ◌∷◌, ◌++◌, ℕ, ◌+◌, ◌*◌, ◌-◌, ◌≤◌, ◌<◌, eqb, ℤ, pos, negsuc, nat_abs, ◌*ℤ◌, length, get_or, ◌≤ℤ◌, Result}
+use Rattle.std.specs.Prelude.{◌≡◌, false, cond, List, [], ◌∷◌, ◌++◌, ℕ, ◌+◌, ◌*◌, ◌-◌, ◌≤◌, ◌<◌, ℤ, pos, negsuc, nat_abs, ◌*ℤ◌, length, get_or, ◌≤ℤ◌, Result}
 use Rattle.std.proofs.lemmas.List.Edits.{sets}
 use Rattle.std.specs.Int.Signed.{lt_z}
 use Rattle.whole.specs.Rules.{first_broken, misfits, unless_refused, ratio_limit}
 use Rattle.whole.specs.Search.{any_above}
 use Rattle.whole.specs.Table.{at, over}
 use Rattle.refusals.specs.declared.Refusal.{Refusal}
+use Rattle.nearest.specs.declared.Side.{Side}
+use Rattle.nearest.specs.declared.Side.TheVariants.{Equal}
 use Rattle.refusals.specs.Refusals.{number_of}
 use Rattle.account.specs.Refusals.{account_refusal}
 use Rattle.account.specs.Classes.{class_rules, row_at}
@@ -21,8 +23,8 @@ use Rattle.image.specs.Writer.{lent_job}
 use Rattle.image.specs.declared.Given.{Given}
 use Rattle.image.specs.declared.Lists.{Lists}
 use Rattle.reader.specs.declared.Counts.{Counts}
-use Rattle.pages.specs.Lines.{line, numbers, bits}
-use Rattle.report.specs.Lines.{coefficient}
+use Rattle.pages.specs.Lines.{line, numbers}
+use Rattle.report.specs.Lines.{rounded, coefficient}
 use Rattle.report.specs.Text.{image_text, length_in}
 
 -- ---- what a call has put into a page
@@ -160,18 +162,10 @@ ratio_lines sums pair =
     (numbers ((pos ((sums.kept - 1) * sums.kept) *ℤ sums.squares) ∷ ((pos 2 *ℤ sums.weight) *ℤ sums.spread) ∷ []) ++ coefficient pair.geary)
     ++ line "expected" (numbers (negsuc 0 ∷ pos (sums.kept - 1) ∷ [])))
 
--- the byte of a sign, by the number of its side in a list
-abbrev pub sign_by : ℕ → ℕ
-sign_by side = cond (eqb side 0) 61 (cond (eqb side 1) 60 62)
-
--- the bits of a float and that sign
-abbrev pub rounded_by : ℕ → ℕ → List ℕ
-rounded_by b side = bits b ++ (sign_by side ∷ [])
-
 -- the line of a zone
-unfoldable pub zone_line : List ℤ → List ℕ → List ℕ → ℤ → ℕ → List ℕ
+unfoldable pub zone_line : List ℤ → List ℕ → List Side → ℤ → ℕ → List ℕ
 zone_line locals figures sides spread zone =
-    line "local" (numbers (pos zone ∷ at locals zone ∷ spread ∷ []) ++ rounded_by (get_or figures zone 0) (get_or sides zone 0))
+    line "local" (numbers (pos zone ∷ at locals zone ∷ spread ∷ []) ++ rounded (get_or figures zone 0) (get_or sides zone Equal))
 
 -- the line of two categories
 unfoldable pub table_line : List ℤ → ℕ → ℕ → List ℕ

@@ -9,16 +9,16 @@ ghost use Rattle.report.specs.Steps.{sum_lines, ratio_lines, zone_line, table_li
 use crate::putting::{self, Line, Local};
 use account::{ClassRow, Sums};
 use coefficients::{Pair, Whole};
+use nearest::Side;
 
-// The zones of a job: their values, the weights between them, and of each its local numerator, the bits of its local Moran and the number of
-// the side that it lies on. These last three stay three lists: the public calls that fill and order them are handed each as one.
+// The zones of a job: their values, the weights between them, and of each its local numerator, the bits of its local Moran and its side. These last three stay three lists: the public calls that fill and order them are handed each as one.
 #[derive(Clone, Copy)]
 pub(super) struct Zones<'a> {
     pub(super) values: &'a [i32],
     pub(super) weights: &'a [u8],
     pub(super) locals: &'a [i64],
     pub(super) figures: &'a [u64],
-    pub(super) sides: &'a [u8],
+    pub(super) sides: &'a [Side],
     ghost zoned: { Zoned (length locals.now) (length values.now) (length weights.now) (length figures.now) (length sides.now) },
 }
 

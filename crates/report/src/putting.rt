@@ -4,11 +4,12 @@
 // room for each of fifteen further calls by itself.
 ghost use Rattle.std.specs.Prelude.{◌≡◌, ⊤, List, [], ◌∷◌, ◌++◌, ℕ, ◌≤◌, length};
 ghost use Rattle.pages.specs.Lines.{numbers};
-ghost use Rattle.report.specs.Lines.{coefficient};
-ghost use Rattle.report.specs.Steps.{Put, Room, sign_by, rounded_by};
+ghost use Rattle.report.specs.Lines.{sign, rounded, coefficient};
+ghost use Rattle.report.specs.Steps.{Put, Room};
 ghost use Rattle.coefficients.specs.Steps.{Readable, ReadablePair};
 
 use coefficients::{Coefficient, Pair};
+use nearest::Side;
 
 // What a line has besides its figures: a word of at most eight letters, and at most four numbers.
 #[derive(Clone, Copy)]
@@ -37,21 +38,21 @@ pub(super) fn put_line(page: &mut [u8], at: usize, line: &Line) -> usize
     pages::put_line(page, at, line.word, line.numbers)
 }
 
-// The sign of a side, by the number that a list holds it by: equal, below, above.
-fn sign(side: u8) -> u8
-    ensures { result ≡ sign_by side }
+// The sign of a side.
+fn sign(side: Side) -> u8
+    ensures { result ∷ [] ≡ sign side }
 {
     match side {
-        0 => b'=',
-        1 => b'<',
-        _ => b'>',
+        Side::Equal => b'=',
+        Side::Below => b'<',
+        Side::Above => b'>',
     }
 }
 
 // The bits of a float, and right after them the sign of its side.
-fn put_rounded(page: &mut [u8], at: usize, bits: u64, side: u8) -> usize
+fn put_rounded(page: &mut [u8], at: usize, bits: u64, side: Side) -> usize
     requires room { Room page.old at 18 }
-    ensures { Put page.old page.new at result 18 (rounded_by bits side) }
+    ensures { Put page.old page.new at result 18 (rounded bits side) }
 {
     let place = pages::put_bits(page, at, bits);
     pages::put_byte(page, place, sign(side))
@@ -64,9 +65,7 @@ fn put_coefficient(page: &mut [u8], at: usize, figure: Coefficient) -> usize
     ensures { Put page.old page.new at result 18 (coefficient figure) }
 {
     match figure {
-        Coefficient::Figure(x, side) => {
-            put_rounded(page, at, x.to_bits(), nearest::side_number(side))
-        }
+        Coefficient::Figure(x, side) => put_rounded(page, at, x.to_bits(), side),
         Coefficient::Weightless => pages::put(page, at, b" -"),
     }
 }
@@ -91,15 +90,15 @@ pub(super) trait Field: Copy {
         ensures { Put page.old page.new at result 36 (text self) };
 }
 
-// The local Moran of a zone: its bits, and the number of its side.
+// The local Moran of a zone: its bits, and its side.
 #[derive(Clone, Copy)]
 pub(super) struct Local {
     pub(super) bits: u64,
-    pub(super) side: u8,
+    pub(super) side: Side,
 }
 
 impl Field for Local {
-    ghost text = { λ local. rounded_by local.bits local.side };
+    ghost text = { λ local. rounded local.bits local.side };
 
     ghost printable = { λ local. ⊤ };
 

@@ -14,6 +14,7 @@ use crate::lines::{self, Zones};
 use crate::putting::{self, Line};
 use coefficients::{Pair, Whole};
 use image::Lists;
+use nearest::Side;
 
 // Each pair of zones in the class of its band, and in class 0 where there are no bands.
 fn class_pairs(n: usize, places: &[i32], bands: &[u32], classes: &mut [u8])
@@ -149,7 +150,7 @@ pub(super) fn put_job(page: &mut Page, lists: &Lists) -> usize
     let locals = &mut local_space[..n];
     let mut figure_space: [u64; 64] = [0; 64];
     let figures = &mut figure_space[..n];
-    let mut side_space: [u8; 64] = [0; 64];
+    let mut side_space: [Side; 64] = [Side::Equal; 64];
     let sides = &mut side_space[..n];
     let report = coefficients::plain_report(
         n, values, weights, classes, &mut rows, locals, figures, sides,

@@ -80,7 +80,7 @@ module _ (c : In_ok-judge_lent) where
 
   -- all of the local numerators of the classes were wanted
   wanted :
-      (worked : List ℤ → List ℕ) (kept : List ℕ) {left : List ℕ} →
+      {A : Type 0} (worked : List ℤ → List A) (kept : List A) {left : List A} →
       left ≡ unless_refused (rest_refusal s.args.n s.args.values.now s.args.weights.now s.args.classes.now)
       (worked (take (length s.args.parts.now) (class_locals_of s.args.n s.args.values.now s.args.weights.now s.args.classes.now)))
       kept →

@@ -7,7 +7,7 @@ use mir.ValLaws.{to_z-of_z}
 use Rattle.whole.specs.Table.{at}
 use Rattle.whole.proofs.Table.{is_table}
 use Rattle.nearest.specs.Answers.{nearest_bits, nearest_side}
-use Rattle.nearest.specs.Sides.{side_number}
+use Rattle.nearest.specs.declared.Side.TheVariants.{Equal}
 use Rattle.nearest.proofs.Theorems.{not_nan}
 use Rattle.coefficients.specs.Coefficients.{local_figures, local_sides}
 use Rattle.coefficients.proofs.forming.put_figures.Goals as goal
@@ -25,6 +25,6 @@ returns c =
     record {
       figures_after = is_table (λ k. nearest_bits (at l k) c.args.spread) (length l) 0 c.loop-i.figures (omega arith)
           (λ k p. done.0 k (omega arith) ∙ ap (nearest_bits (at l k)) spread);
-      sides_after = is_table (λ k. side_number (nearest_side (at l k) c.args.spread)) (length l) 0 c.loop-i.sides done.2
-          (λ k p. done.1 k (omega arith) ∙ ap (λ s. side_number (nearest_side (at l k) s)) spread);
+      sides_after = is_table (λ k. nearest_side (at l k) c.args.spread) (length l) Equal c.loop-i.sides done.2
+          (λ k p. done.1 k (omega arith) ∙ ap (nearest_side (at l k)) spread);
     }

@@ -13,6 +13,7 @@ use Rattle.whole.specs.Table.{each}
 use Rattle.whole.proofs.Rules.{worked_when_taken}
 use Rattle.hot_list.specs.HotList.{in_order, order_refusal, order_left}
 use Rattle.hot_list.proofs.Ordered.{order_taken, in_order_length, in_order_below}
+use Rattle.nearest.specs.declared.Side.{Side}
 use Rattle.report.specs.Steps.{Listed, zone_line}
 use Rattle.report.specs.declared.lines.Zones.{Zones}
 use Rattle.report.proofs.Puts.{put_as, put_most}
@@ -48,7 +49,7 @@ module _ (n : ℕ) (values : List ℤ) (weights : List ℕ) (locals : List ℤ) 
 
     -- the lines of those zones, by the spread as it is read
     lines :
-        (figures sides : List ℕ) (spread read : ℤ) → read ≡ spread →
+        (figures : List ℕ) (sides : List Side) (spread read : ℤ) → read ≡ spread →
         each (zone_line locals figures sides read) (take many (zones ++ rest)) ≡ each (zone_line locals figures sides spread) shown
     lines figures sides spread read f = rw (f, front_is) refl
 
