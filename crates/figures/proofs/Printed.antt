@@ -39,7 +39,7 @@ use Rattle.coefficients.specs.Coefficients.{pair_of, class_pair}
 use Rattle.image.specs.Image.{job_of}
 use Rattle.image.proofs.Sample.{report_job, report_image, report_accepted, report_read}
 use Rattle.pages.specs.Lines.{numbers, bits}
-use Rattle.report.specs.Lines.{sign, coefficient}
+use Rattle.report.specs.Lines.{coefficient}
 use Rattle.report.specs.Text.{
   whole_lines,
   counts_line,
@@ -59,7 +59,7 @@ use Rattle.report.specs.Text.{
 use Rattle.figures.specs.WorkedReport.{printed, worked_report}
 
 computed : job_text 4 report_job ≡ printed worked_report
-unfolding job_text whole_lines counts_line job_lines local_lines local_line pair_lines pair_line class_lines class_line rank_line numbers bits sign coefficient each
+unfolding job_text whole_lines counts_line job_lines local_lines local_line pair_lines pair_line class_lines class_line rank_line numbers bits coefficient each
     unsigned decimal hexadecimal nearest_float nearest_side side_by side_of round to_bits table table_rows pair_at sum some count first place_of ordered
     missing reduced passing keeps kept_zones kept_count kept_values kept_pairs kept_row kept_shuffles kept_first put_back
     total_of deviation_of spread_of row_of pairs_of weight_of cross_of squares_of local_of class_row class_weight
