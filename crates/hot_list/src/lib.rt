@@ -31,6 +31,6 @@ pub fn hot_list(n: usize, values: &[i32], weights: &[u8], zones: &mut [u8]) -> R
     )?;
     let mut space: [i64; 64] = [0; 64];
     let locals = &mut space[..n];
-    account::account(n, values, weights, locals)?;
+    account::local_numerators(n, values, weights, locals)?;
     ordering::order(n, values, weights, locals, zones)
 }
