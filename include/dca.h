@@ -189,8 +189,8 @@ uint8_t dca_nearest(int64_t p, int64_t q,
 /*
  * The hot list of a job.
  *   n, values, weights   as dca_account
- *   zones  out           n: the numbers of the zones kept by falling L(i), equal ones by rising zone number; behind them all those left
- *                        out by rising zone number
+ *   zones  out           n: the numbers of the zones kept by falling L(i), equal ones by falling row sum, the sum over j of the w(i,j) that
+ *                        count, then by rising zone number; behind them all those left out by rising zone number
  * Refusals: 1 2 3 4 5 6 7.
  */
 uint8_t dca_hot_list(size_t n,
