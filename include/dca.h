@@ -299,8 +299,9 @@ uint8_t dca_write(const int32_t *values, size_t values_len,
 
 /*
  * The report of an image as text. The text is ASCII, each line ends with a newline, and no 0 byte closes it. Its lines `zones` and
- * `expected` count the zones kept, and a zone left out has no line `local`. It does not say how many values are not returned. Right behind
- * the 16 digits of a float is the sign of its side; the `-` of a class without weight has none.
+ * `expected` count the zones kept, and a zone left out has no line `local`; these lines are in the order of dca_hot_list. It does not say
+ * how many values are not returned. Right behind the 16 digits of a float is the sign of its side; the `-` of a class without weight has
+ * none.
  *   image         any length
  *   text    out   16,384: the text is at the front, the rest is kept
  *   length  out   1: the bytes of the text
