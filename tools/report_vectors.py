@@ -443,7 +443,7 @@ def shape_of_ties(job, local):
     pairs = [(a, b) for (a, l), (b, other) in itertools.combinations(local, 2) if l == other]
     by_row = [(a, b) for a, b in pairs if rows[a] > rows[b]]
     return {BY_ROW: by_row, BY_NUMBER: len(by_row) < len(pairs), ROW_FIRST: any(a > b for a, b in by_row),
-            COLUMNS: any(columns[a] < columns[b] for a, b in by_row), AS_LENT: any(listed[a] < listed[b] for a, b in by_row)}
+            COLUMNS: any(columns[a] < columns[b] for a, b in pairs), AS_LENT: any(listed[a] < listed[b] for a, b in pairs)}
 
 
 def look(text, data):
@@ -495,8 +495,8 @@ def is_seen(wrong, data):
 
 
 def look_at_samples():
-    """The reports of the samples by themselves, and again with wrong signs and with local lines in a wrong order, each of which must be seen;
-    answers how many of either."""
+    """The reports of the samples by themselves, and again with wrong signs and with local lines in a wrong order, each of which must be
+    seen; answers how many of either."""
     signs, orders = 0, 0
     for path in sorted(SAMPLES.glob('*.image')):
         text, data = path.with_suffix('.report').read_text(), path.read_bytes()

@@ -153,7 +153,7 @@ DELTA = """\
 # 0 landing, 1 market, 2 mill, 3 east bank, 4 west bank, 5 polder, 6 dyke
 # district 5, the polder, sent nothing; the mean of the others is 20, and a district that has 20 has the local numerator 0
 # of equal local numerators the one with the larger row sum comes first: the grades of its boundaries to others that count. They are
-# 5 at the landing, 7 at the market, 5 at the mill, 4 at the dyke; 5 on the east bank and 11 on the west bank. Landing and mill stay by number
+# 5 at the landing, 7 at the market, 5 at the mill, 4 at the dyke; 5 on the east bank, 11 on the west bank; equal ones stay by number
 values 20 20 20 24 16 - 20
 # boundaries by their grade, both ways
 join 0 1 2
