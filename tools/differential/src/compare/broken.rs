@@ -10,7 +10,7 @@ use differential::{ABOVE, BELOW, EQUAL, NOT_RETURNED, SUMS, ZONES};
 use std::cmp::Reverse;
 
 /// The names that `--broken` takes, and what is wrong.
-pub const NAMES: [(&str, &str); 58] = [
+pub const NAMES: [(&str, &str); 59] = [
     (
         "last-local",
         "account: the last local numerator is not stored",
@@ -105,6 +105,10 @@ pub const NAMES: [(&str, &str); 58] = [
     (
         "ties-as-lent",
         "hot list: equal zones by row sum of the weights as lent",
+    ),
+    (
+        "ties-in-a-byte",
+        "hot list: equal zones by what a byte holds of the row sum",
     ),
     (
         "left-out-as-zero",
@@ -430,6 +434,10 @@ pub fn ties_by_both(x: &[i32], w: &[u8], zones: &mut [u8]) {
 
 pub fn ties_as_lent(x: &[i32], w: &[u8], zones: &mut [u8]) {
     tied_by(x, w, zones, |z| (Reverse(z.lent), z.zone));
+}
+
+pub fn ties_in_a_byte(x: &[i32], w: &[u8], zones: &mut [u8]) {
+    tied_by(x, w, zones, |z| (Reverse(z.row % 256), z.zone));
 }
 
 /// The zones left out stay in their order, as they stand last.

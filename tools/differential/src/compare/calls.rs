@@ -244,6 +244,7 @@ calls! {
             "ties-by-column": broken::ties_by_column [values.own(), weights.own(), zones.own_mut()],
             "ties-by-both": broken::ties_by_both [values.own(), weights.own(), zones.own_mut()],
             "ties-as-lent": broken::ties_as_lent [values.own(), weights.own(), zones.own_mut()],
+            "ties-in-a-byte": broken::ties_in_a_byte [values.own(), weights.own(), zones.own_mut()],
             "left-out-as-zero": broken::left_out_as_zero [values.own(), weights.own(), zones.own_mut()]
         )
         answers("five-as-left": broken::five_as_left [values.own(), weights.own()])
