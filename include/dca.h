@@ -2,8 +2,8 @@
  * The district clustering account, for C and C++.
  *
  * What this is: the calls of the proved library, as the archive libexports.a has them (`rt lib` in crates/exports). Each call is proved, in
- * crates/exports/src, to answer and to store what the definitions of document 01 say, as requests A.6, A.7 and A.10 of document 02 changed
- * them.
+ * crates/exports/src, to answer and to store what the definitions of document 01 say, as requests A.2, A.6, A.7 and A.10 of document 02
+ * changed them.
  * This header and what follows from a promise broken by the caller are not part of the proof.
  *
  * Lists: each list is a pointer and then a length, which is the number of entries, not of bytes. An `out` list is written by the call,
