@@ -1,13 +1,13 @@
 //! Ties are told rightly, and a run that lacks one says so.
 
 use super::{ties, ties_of_image, NONE, TIES};
-use crate::compare::{draw, sample, Tally};
+use crate::compare::{draw, left_out, sample, Tally};
 
-/// What a job of zones at the mean shows besides one below and one above it, which are joined by nothing.
-fn shown(joins: &[(usize, usize, u8)], missing: Option<usize>) -> Vec<&'static str> {
+/// What a job of zones at the mean shows besides one below it and one above, whose own L differ.
+fn tied(joins: &[(usize, usize, u8)], missing: Option<usize>) -> Vec<&'static str> {
     let mut values = [0, 0, 0, 0, -1, 1];
     let mut weights = [0; 36];
-    for &(from, to, weight) in joins {
+    for &(from, to, weight) in [(4, 5, 1), (5, 4, 2)].iter().chain(joins) {
         weights[6 * from + to] = weight;
     }
     if let Some(zone) = missing {
@@ -15,13 +15,6 @@ fn shown(joins: &[(usize, usize, u8)], missing: Option<usize>) -> Vec<&'static s
     }
     let are = TIES.iter().zip(ties(&values, &weights));
     are.filter(|&(_, is)| is).map(|(&tie, _)| tie).collect()
-}
-
-/// Zones 0 and 1 are the only ones that tie: 4 and 5 have L of -36 and -72.
-const APART: [(usize, usize, u8); 2] = [(4, 5, 1), (5, 4, 2)];
-
-fn tied(joins: &[(usize, usize, u8)], missing: Option<usize>) -> Vec<&'static str> {
-    shown(&[&APART[..], joins].concat(), missing)
 }
 
 #[test]
@@ -50,18 +43,21 @@ fn no_ties_of_refused_jobs() {
     assert_eq!(ties_of_image(&sample()[..91]), NONE);
 }
 
-/// A line of three by its image: both ends have an L of -1, and its middle, which joins them, ties with neither.
+/// Three zones by their image, of which the first and the last have one L, and the middle, at the mean, has another.
 #[test]
 fn ties_of_images() {
     let image = |joins: &[[u8; 3]]| {
-        let mut sections = draw::Sections::draw(&mut draw::Draw::new(1, 0));
-        sections.n = 3;
-        sections.values = vec![-1, 0, 1];
-        sections.joins = joins.to_vec();
-        sections.categories.clear();
-        sections.places.clear();
-        sections.bands.clear();
-        sections.shuffles.clear();
+        let sections = draw::Sections {
+            n: 3,
+            values: vec![-1, 0, 1],
+            categories: Vec::new(),
+            weights: Vec::new(),
+            joins: joins.to_vec(),
+            places: Vec::new(),
+            bands: Vec::new(),
+            shuffles: Vec::new(),
+            kinds: left_out::NONE,
+        };
         sections.encode(sections.counts())
     };
     let [by_row, against, by_number, ..] = ties_of_image(&image(&[[0, 2, 1], [2, 0, 1]]));
