@@ -59,7 +59,7 @@ module _ (values : List ℤ) (n : ℕ) (v : Valued values n) where
       (square_size (at values) n v.zones v.near.size i j h k)
 
 -- ---- the sum of the front of a list, as std has it
-front_sum : (l : List ℕ) (i : ℕ) → i ≤ length l → pos (sum_by (λ x. x) (take i l)) ≡ sum (λ k. pos (get_or l k 0)) i
+pub front_sum : (l : List ℕ) (i : ℕ) → i ≤ length l → pos (sum_by (λ x. x) (take i l)) ≡ sum (λ k. pos (get_or l k 0)) i
 unfolding sum
 front_sum l zero h = refl
 front_sum l (suc i) h =

@@ -70,8 +70,38 @@ fn gather<'a>(kept: &KeptLists, room: &'a mut Room) -> Gathered<'a>
     }
 }
 
-// The sums of a job some of whose zones are left out. That a list has room for each zone is a clause here, below and of what is called here:
-// n is the job's, and no type can say it of a list that C lends.
+// The local numerators of a job some of whose zones are left out. That a list has room for each zone is a clause here, below and of what is
+// called here: n is the job's, and no type can say it of a list that C lends.
+fn gathered_locals(kept: &KeptLists, locals: &mut [i64])
+    requires { length locals.old ≡ kept.now.job.n }
+    ensures { locals.new
+        ≡ job_locals kept.now.job.n kept.now.job.values.now kept.now.job.weights.now }
+{
+    let mut room = Room::new();
+    let gathered = gather(kept, &mut room);
+    let job = gathered.job;
+    let mut local_space: [i64; 64] = [0; 64];
+    let kept_locals = &mut local_space[..job.n];
+    working::zone_locals(&job.summed(), job.weights, kept_locals);
+    keeping::put_back(gathered.places, kept_locals, locals);
+}
+
+// The local numerators of a job.
+pub(super) fn put_locals(kept: &KeptLists, locals: &mut [i64])
+    requires { length locals.old ≡ kept.now.job.n }
+    ensures { locals.new
+        ≡ job_locals kept.now.job.n kept.now.job.values.now kept.now.job.weights.now }
+{
+    let KeptLists { job, zones } = *kept;
+    if zones.len() == job.n {
+        let whole = kept.whole();
+        working::zone_locals(&whole.summed(), whole.weights, locals);
+        return;
+    }
+    gathered_locals(kept, locals);
+}
+
+// The sums of a job some of whose zones are left out.
 fn gathered_sums(kept: &KeptLists, locals: &mut [i64]) -> Sums
     requires { length locals.old ≡ kept.now.job.n }
     ensures result_value { listed result

@@ -84,6 +84,22 @@ pub fn account(
     Ok(kept_zones::job_sums(&kept, locals))
 }
 
+// Works the local numerators alone, by the rules of the account and into `locals` as the account does: for who needs no sums.
+pub fn local_numerators(
+    n: usize,
+    values: &[i32],
+    weights: &[u8],
+    locals: &mut [i64],
+) -> Result<(), Refusal>
+    ensures number { number_of result ≡ account_refusal n values.now weights.now locals.old }
+    ensures lent { locals.new ≡ account_locals n values.now weights.now locals.old }
+{
+    let mut zones: [u8; 64] = [0; 64];
+    let kept = judging::judge_account(n, values, weights, locals.len(), &mut zones)?;
+    kept_zones::put_locals(&kept, locals);
+    Ok(())
+}
+
 // Works the class account of the job, whose pairs have the classes lent, and answers what the account answers: `rows` has 27 places for
 // W, P and G of class 0, of class 1, .., `class_locals` 9 × n for the local numerators of class 0, of class 1, .., and `locals` n for the
 // job's own. All three are left as they were where the job is refused.

@@ -115,7 +115,8 @@ pub extern "C" fn dca_class_account(
     refusals::number_of(class_account_into(n, values, weights, classes, rows, class_locals))
 }
 
-// The zone numbers by falling L(i), equal ones by rising zone number, go to `zones`, n places.
+// The zone numbers by falling L(i), equal ones by falling row sum of the weights that count and then by rising zone number, go to `zones`,
+// n places.
 #[unsafe(no_mangle)]
 pub extern "C" fn dca_hot_list(n: usize, values: &[i32], weights: &[u8], zones: &mut [u8]) -> u8
     ensures number { result ≡ account_refusal n values.now weights.now zones.old }

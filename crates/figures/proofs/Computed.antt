@@ -27,7 +27,7 @@ use Rattle.account.specs.Refusals.{job_spread}
 use Rattle.account.specs.Answers.{class_row, zones_figures, zones_local, job_kept, job_figures, job_row, job_locals}
 use Rattle.account.specs.Classes.{class_weight, zones_class_row, class_row_of}
 use Rattle.account.specs.Rank.{values_cross, shuffle_cross, compared, zones_rank, job_rank}
-use Rattle.hot_list.specs.HotList.{hotter, in_order, hot_list}
+use Rattle.hot_list.specs.HotList.{falling, hotter, row_sum, in_order, hot_list}
 use Rattle.joins.specs.Joins.{weight_between, joins_of, join_table}
 use Rattle.places.specs.Places.{across, up, squared_distance}
 use Rattle.places.specs.Bands.{within_band, band_class, pair_class, band_classes}
@@ -39,6 +39,6 @@ unfolding right all_right published sum some count first place_of ordered table 
     missing missing_count reduced passing keeps kept_zones kept_count kept_values kept_pairs kept_row kept_shuffles kept_first put_back
     total_of deviation_of spread_of row_of pairs_of weight_of cross_of squares_of local_of class_row class_weight
     zones_figures zones_local zones_class_row zones_rank job_spread job_kept job_figures job_row job_locals class_row_of
-    hotter in_order hot_list weight_between joins_of join_table across up squared_distance within_band band_class pair_class band_classes
+    falling hotter row_sum in_order hot_list weight_between joins_of join_table across up squared_distance within_band band_class pair_class band_classes
     shuffle_count values_cross shuffle_cross compared job_rank coefficient pair_of job_pair class_pair
 figures_right = tt

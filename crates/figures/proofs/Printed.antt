@@ -30,7 +30,7 @@ use Rattle.account.specs.Refusals.{job_spread}
 use Rattle.account.specs.Answers.{class_row, zones_local, job_kept, job_locals}
 use Rattle.account.specs.Classes.{class_weight, zones_class_row, class_row_of}
 use Rattle.account.specs.Rank.{values_cross, shuffle_cross, compared, zones_rank, job_rank}
-use Rattle.hot_list.specs.HotList.{hotter, in_order, hot_list}
+use Rattle.hot_list.specs.HotList.{falling, hotter, row_sum, in_order, hot_list}
 use Rattle.joins.specs.Joins.{weight_between, joins_of}
 use Rattle.places.specs.Places.{across, up, squared_distance}
 use Rattle.places.specs.Bands.{within_band, band_class, pair_class, band_classes}
@@ -64,7 +64,7 @@ unfolding job_text whole_lines counts_line job_lines local_lines local_line pair
     missing reduced passing keeps kept_zones kept_count kept_values kept_pairs kept_row kept_shuffles kept_first put_back
     total_of deviation_of spread_of row_of pairs_of weight_of cross_of squares_of local_of class_row class_weight
     zones_local zones_class_row zones_rank job_spread job_kept job_locals class_row_of
-    hotter in_order hot_list shuffle_count values_cross shuffle_cross compared job_rank weight_between joins_of across up squared_distance
+    falling hotter row_sum in_order hot_list shuffle_count values_cross shuffle_cross compared job_rank weight_between joins_of across up squared_distance
     within_band band_class pair_class band_classes coefficients.coefficient pair_of class_pair
 computed = refl
 

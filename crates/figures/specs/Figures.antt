@@ -1,6 +1,6 @@
 -- The published cases as one table, a row each: what is worked, and what document 01 says that it gives, or document 02: A.6, by which a
--- zone that touches nobody is left out, A.7, by which a zone whose value is not returned is left out too, and A.10, by which each figure says
--- on which side of its ratio it lies. Assumes nothing.
+-- zone that touches nobody is left out, A.7, by which a zone whose value is not returned is left out too, A.10, by which each figure says
+-- on which side of its ratio it lies, and A.2, by which of equal local numerators the one of the larger row sum comes first. Assumes nothing.
 use Rattle.std.specs.Prelude.{Bool, true, false, ◌&&◌, List, [], ◌∷◌, ◌++◌, ℕ, ◌^◌, eqb, ℤ, pos, negsuc, ◌*ℤ◌}
 use Prim.Native.String.{String}
 use Rattle.std.specs.Float.{binary64}
@@ -149,6 +149,17 @@ unreturned = record {
   classes = table (λ k. 0) 25;
 }
 
+-- zones 0, 1 and 2 have the local numerator 16, and row sums 1, 3 and 1, and zone 3 has 0; the columns hold 3, 1, 2 and 1. Zone 4 has not
+-- returned its value; the weight of 9 to it counts as 0, or zone 2 would be the first
+abbrev pub tied : Job
+tied = record {
+  zones = 5;
+  values = pos 0 ∷ pos 0 ∷ pos 2 ∷ pos 2 ∷ not_returned ∷ [];
+  weights =
+      0 ∷ 1 ∷ 0 ∷ 0 ∷ 0 ∷ 2 ∷ 0 ∷ 1 ∷ 0 ∷ 0 ∷ 0 ∷ 0 ∷ 0 ∷ 1 ∷ 9 ∷ 1 ∷ 0 ∷ 1 ∷ 0 ∷ 0 ∷ 0 ∷ 0 ∷ 0 ∷ 0 ∷ 0 ∷ [];
+  classes = table (λ k. 0) 25;
+}
+
 -- so many entries of 0
 abbrev pub zeros : ℕ → List ℤ
 zeros n = table (λ k. pos 0) n
@@ -177,4 +188,9 @@ published =
     )
     ∷ ("its hot list", hot unreturned (2 ∷ 3 ∷ 4 ∷ 0 ∷ 1 ∷ []))
     ∷ ("its joins", joins unreturned (0 ∷ 1 ∷ 0 ∷ 0 ∷ 1 ∷ []) ((pos 2 ∷ pos 1 ∷ zeros 6) ++ (pos 1 ∷ zeros 7) ++ zeros 48))
+    ∷ (
+      "A.2, equal local numerators",
+      sums tied (pos 48) (pos 7) (pos 16) (pos 8) (pos 4) (pos 1) (pos 16 ∷ pos 16 ∷ pos 16 ∷ pos 0 ∷ pos 0 ∷ []),
+    )
+    ∷ ("their hot list", hot tied (1 ∷ 0 ∷ 2 ∷ 3 ∷ 4 ∷ []))
     ∷ []

@@ -15,8 +15,8 @@ use refusals::Refusal;
 // The order of the hot list by itself, which the report asks for too.
 pub use ordering::order;
 
-// Works the hot list of the job: `zones` is lent n places for the zone numbers by falling L(i), equal ones by rising zone number, those
-// left out last and by number, and is left as it was where the job is refused.
+// Works the hot list of the job: `zones` is lent n places for the zone numbers by falling L(i), equal ones by falling row sum of the weights
+// that count and then by rising zone number, those left out last and by number, and is left as it was where the job is refused.
 pub fn hot_list(n: usize, values: &[i32], weights: &[u8], zones: &mut [u8]) -> Result<(), Refusal>
     ensures number { number_of result ≡ account_refusal n values.now weights.now zones.old }
     ensures lent { zones.new ≡ hot_zones n values.now weights.now zones.old }
@@ -31,6 +31,6 @@ pub fn hot_list(n: usize, values: &[i32], weights: &[u8], zones: &mut [u8]) -> R
     )?;
     let mut space: [i64; 64] = [0; 64];
     let locals = &mut space[..n];
-    account::account(n, values, weights, locals)?;
+    account::local_numerators(n, values, weights, locals)?;
     ordering::order(n, values, weights, locals, zones)
 }

@@ -1,9 +1,11 @@
--- A territory in which every value is returned and every zone touches another: its report leaves nothing out, and is the one of document 01 alone. Assumes nothing.
+-- A territory in which every value is returned and every zone touches another: its report leaves nothing out, and is the one of document 01 with
+-- its zones in hot-list order; where equal numerators have equal row sums that is document 01's own order. Assumes nothing.
 use mathlib.Core.Path.{◌≡◌, refl, sym, ap, ◌∙◌}
 use mathlib.Core.Bool.{false, cond}
 use mathlib.Core.List.{List, [], ◌++◌}
 use Prim.Native.Nat.{ℕ, suc, ◌*◌, ◌<◌}
 use native.Mathlib.Omega.{arith}
+use lib.Dec.{ltb}
 use lib.IntN.{ℤ}
 use lib.ListN.{length, get_or}
 use Rattle.whole.specs.Order.{lacks, ordered}
@@ -22,8 +24,8 @@ use Rattle.account.specs.Steps.{zones_locals}
 use Rattle.account.specs.declared.ClassRow.{ClassRow}
 use Rattle.account.proofs.Accepted.{rank_accepted}
 use Rattle.account.proofs.AllKept.{nothing_reduced, all_kept, all_spread, all_locals, all_class_row, all_rank}
-use Rattle.hot_list.specs.HotList.{hotter, hot_list}
-use Rattle.hot_list.proofs.HotTheorems.{hot_list_length, hot_list_each, hot_list_of_all}
+use Rattle.hot_list.specs.HotList.{falling, row_sum, hot_list}
+use Rattle.hot_list.proofs.HotTheorems.{hot_list_length, hot_list_each, hot_list_of_level}
 use Rattle.places.specs.Bands.{band_classes}
 use Rattle.coefficients.specs.Coefficients.{pair_of, class_pair}
 use Rattle.image.specs.Image.{Job, count, job_of, image_refusal}
@@ -33,9 +35,15 @@ use Rattle.image.proofs.BytesBack.{within_counts}
 use Rattle.image.proofs.TakenByAll.{all_take}
 use Rattle.report.specs.Text.{numbered, whole_lines, local_line, class_line, counts_line, where_given}
 use Rattle.report.specs.Text.{job_lines, local_lines, pair_lines, rank_line, class_lines, job_text, image_text}
-use Rattle.report.specs.DocumentOne.{base_text}
+use Rattle.report.specs.DocumentOne.{base_order, base_text}
 use Rattle.report.proofs.Classing.{band_classes_length}
 use Rattle.report.proofs.Listed.{class_text}
+
+-- zones of equal numerators have equal row sums
+abbrev pub Level : ℕ → List ℤ → List ℕ → Type 0
+Level n values weights =
+    let locals = table (zones_local n values weights) n in
+    (j i : ℕ) → j < n → i < n → at locals i ≡ at locals j → row_sum n weights i ≡ row_sum n weights j
 
 module _ (n : ℕ) (values : List ℤ) (weights : List ℕ) (all : kept_count n (reduced n values weights) ≡ n) (values_fit : length values ≡ n)
     (weights_fit : length weights ≡ n * n) where
@@ -55,7 +63,7 @@ module _ (n : ℕ) (values : List ℤ) (weights : List ℕ) (all : kept_count n 
   whole_same =
       rw (as_lent, same_values n weights every values values_fit, same_pairs n weights every weights weights_fit, every) refl
 
-  -- those of its zones: each has one, in the order of the numerators alone
+  -- those of its zones: each has one
   abbrev own : List ℤ
   own = job_locals n values weights
 
@@ -76,12 +84,15 @@ module _ (n : ℕ) (values : List ℤ) (weights : List ℕ) (all : kept_count n 
 
   locals_same :
       local_lines n values weights
-      ≡ each (local_line (table (zones_local n values weights) n) (spread_of (at values) n))
-      (ordered (hotter (at (table (zones_local n values weights) n))) n)
-  locals_same =
-      none_out
-      ∙ ap (each (local_line own M)) (hot_list_of_all n values weights all)
-      ∙ rw (numerators_same, all_spread n values weights all values_fit weights_fit) refl
+      ≡ each (local_line (table (zones_local n values weights) n) (spread_of (at values) n)) (hot_list n values weights)
+  locals_same = none_out ∙ rw (numerators_same, all_spread n values weights all values_fit weights_fit) refl
+
+  -- the order of the zones is document 01's where of equal numerators the row sums are equal
+  order_same : Level n values weights → hot_list n values weights ≡ ordered (falling (at (table (zones_local n values weights) n)) ltb) n
+  order_same level =
+      hot_list_of_level n values weights all
+      (rw (as_lent, numerators_same) (λ j i p q e f. level j i p q))
+      ∙ ap (λ l. ordered (falling (at l) ltb) n) numerators_same
 
   -- those of its classes
   module _ (places : List ℤ) (bands : List ℕ) where
@@ -128,7 +139,7 @@ pub all_kept_text :
     (n : ℕ) (job : Job) → job_kept n job.values job.weights ≡ n → length job.values ≡ n → length job.weights ≡ n * n →
     length job.shuffles ≡ shuffle_count n (length job.shuffles) * n →
     ((r : ℕ) → r < shuffle_count n (length job.shuffles) → lacks (pair_at job.shuffles n r) n ≡ false) →
-    job_text n job ≡ base_text n job
+    job_text n job ≡ base_text n job (hot_list n job.values job.weights)
 unfolding job_text base_text job_kept
 all_kept_text n job all v w long full =
     ap
@@ -148,10 +159,22 @@ all_kept_text n job all v w long full =
 -- of an accepted image
 pub all_kept_report :
     (image : List ℕ) → image_refusal image ≡ 0 → job_kept (count image) (job_of image).values (job_of image).weights ≡ count image →
-    image_text image ≡ base_text (count image) (job_of image)
+    image_text image ≡ base_text (count image) (job_of image) (hot_list (count image) (job_of image).values (job_of image).weights)
 unfolding image_text given_in
 all_kept_report image e all =
     let a = accepted image e in
     let fit = within_counts image a in
     let shuffled = (rank_accepted _ _ _ _ (all_take image a).rank).rows in
     all_kept_text (count image) (job_of image) all fit.values fit.weights shuffled.count shuffled.full
+
+-- and where of equal numerators the row sums are equal it is document 01's byte for byte
+pub all_level_report :
+    (image : List ℕ) → image_refusal image ≡ 0 → job_kept (count image) (job_of image).values (job_of image).weights ≡ count image →
+    Level (count image) (job_of image).values (job_of image).weights →
+    image_text image ≡ base_text (count image) (job_of image) (base_order (count image) (job_of image))
+unfolding base_order given_in job_kept
+all_level_report image e all level =
+    let fit = within_counts image (accepted image e) in
+    let job = job_of image in
+    all_kept_report image e all
+    ∙ ap (base_text (count image) job) (order_same (count image) job.values job.weights all fit.values fit.weights level)

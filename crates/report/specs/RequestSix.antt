@@ -1,5 +1,5 @@
--- The report of a job as request A.6 has it, by the weights that count: what the text is where every value is returned, and, by the reduced
--- weights, where some is not. Assumes nothing.
+-- The report of a job as request A.6 has it, with the order of request A.2, by the weights that count: what the text is where every value is
+-- returned, and, by the reduced weights, where some is not. Assumes nothing.
 use Rattle.std.specs.Prelude.{cond, List, [], ◌++◌, ℕ, suc, length}
 use Rattle.whole.specs.Order.{ordered}
 use Rattle.whole.specs.Table.{table, at, pair_at, each}
@@ -9,7 +9,7 @@ use Rattle.account.specs.Measures.{spread_of}
 use Rattle.account.specs.Answers.{zones_local}
 use Rattle.account.specs.Classes.{zones_class_row}
 use Rattle.account.specs.Rank.{zones_rank}
-use Rattle.hot_list.specs.HotList.{hotter}
+use Rattle.hot_list.specs.HotList.{hotter, row_sum}
 use Rattle.places.specs.Bands.{band_classes}
 use Rattle.coefficients.specs.Coefficients.{pair_of}
 use Rattle.image.specs.Image.{Job}
@@ -26,7 +26,7 @@ six_text n job counting =
     let rows = shuffle_count n (length job.shuffles) in
     whole_lines many (at x) (pair_at w many)
     ++ (each (λ zone. cond (keeps n counting zone) (local_line locals m zone) [])
-    (ordered (kept_first (keeps n counting) (hotter (at locals))) n)
+    (ordered (kept_first (keeps n counting) (hotter (at locals) (row_sum n counting))) n)
     ++ (where_given job.categories (pair_lines n job.categories counting)
     ++ (where_given job.bands (each (λ k. class_line (row k) (pair_of many m (row k)) k) (numbered (suc (length job.bands))))
     ++ where_given job.shuffles (counts_line (zones_rank rows many x w (kept_shuffles n counting rows job.shuffles))))))

@@ -27,18 +27,18 @@ returns-in_err-judge_lent c =
     let e = refusal_by_sizes a.n a.values.now a.weights.now a.zones.now _ c.in_err-judge_lent.ensures (not_refused _) in
     rw (p.1, p.2) (record { number = e; lent = sym (left_by _ _ _ _ e) })
 
-pub returns-in_err-account : goal.returns-in_err-account
+pub returns-in_err-local_numerators : goal.returns-in_err-local_numerators
 unfolding hot_zones
-returns-in_err-account c =
-    let g = (goal.at.returns-in_err-account c).In_ok-judge_lent in
-    let p = err_from_is_err_and c.from_residual-in_err-account.result c.from_residual-in_err-account.ensures.1 in
-    let e = c.in_err-account.ensures.number ∙ same _ _ _ _ (good g) _ (length-take-le _ _ (fit g)) in
+returns-in_err-local_numerators c =
+    let g = (goal.at.returns-in_err-local_numerators c).In_ok-judge_lent in
+    let p = err_from_is_err_and c.from_residual-in_err-local_numerators.result c.from_residual-in_err-local_numerators.ensures.1 in
+    let e = c.in_err-local_numerators.ensures.number ∙ same _ _ _ _ (good g) _ (length-take-le _ _ (fit g)) in
     rw (p.1, p.2) (record { number = e; lent = sym (left_by _ _ _ _ e) })
 
 pub returns : goal.returns
 returns c =
     let g = (goal.at.returns c).In_ok-judge_lent in
-    let own = c.in_ok-account.ensures in
+    let own = c.in_ok-local_numerators.ensures in
     let put = c.order.ensures in record {
       number = put.number ∙ number_put _ _ _ _ (good g) _ (length-take-le _ _ (fit g)) _ own.number own.lent;
       lent = put.lent ∙ zones_put _ _ _ _ (good g) _ (length-take-le _ _ (fit g)) _ own.number own.lent;
