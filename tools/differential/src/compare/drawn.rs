@@ -499,11 +499,11 @@ pub fn write(run: &mut Run, draw: &mut Draw) -> Outcome {
 pub fn report(run: &mut Run, draw: &mut Draw) -> Outcome {
     let (image, kinds) = draw::image(draw);
     run.kinds = kinds;
-    run.ties = ties::ties_of_image(&image);
     report_image(run, draw, &image)
 }
 
 pub fn report_image(run: &mut Run, draw: &mut Draw, image: &[u8]) -> Outcome {
+    run.ties = ties::ties_of_image(image);
     let mut lengths = [TEXT, 1];
     spoil_one(draw, &mut lengths);
     calls::report::compare(
