@@ -2,8 +2,8 @@
  * The district clustering account, for C and C++.
  *
  * What this is: the calls of the proved library, as the archive libexports.a has them (`rt lib` in crates/exports). Each call is proved, in
- * crates/exports/src, to answer and to store what the definitions of document 01 say, as requests A.6, A.7 and A.10 of document 02 changed
- * them.
+ * crates/exports/src, to answer and to store what the definitions of document 01 say, as requests A.2, A.6, A.7 and A.10 of document 02
+ * changed them.
  * This header and what follows from a promise broken by the caller are not part of the proof.
  *
  * Lists: each list is a pointer and then a length, which is the number of entries, not of bytes. An `out` list is written by the call,
@@ -189,8 +189,8 @@ uint8_t dca_nearest(int64_t p, int64_t q,
 /*
  * The hot list of a job.
  *   n, values, weights   as dca_account
- *   zones  out           n: the numbers of the zones kept by falling L(i), equal ones by rising zone number; behind them all those left
- *                        out by rising zone number
+ *   zones  out           n: the numbers of the zones kept by falling L(i), equal ones by falling row sum, the sum over j of the w(i,j) that
+ *                        count, then by rising zone number; behind them all those left out by rising zone number
  * Refusals: 1 2 3 4 5 6 7.
  */
 uint8_t dca_hot_list(size_t n,
@@ -299,8 +299,9 @@ uint8_t dca_write(const int32_t *values, size_t values_len,
 
 /*
  * The report of an image as text. The text is ASCII, each line ends with a newline, and no 0 byte closes it. Its lines `zones` and
- * `expected` count the zones kept, and a zone left out has no line `local`. It does not say how many values are not returned. Right behind
- * the 16 digits of a float is the sign of its side; the `-` of a class without weight has none.
+ * `expected` count the zones kept, and a zone left out has no line `local`; these lines are in the order of dca_hot_list. It does not say
+ * how many values are not returned. Right behind the 16 digits of a float is the sign of its side; the `-` of a class without weight has
+ * none.
  *   image         any length
  *   text    out   16,384: the text is at the front, the rest is kept
  *   length  out   1: the bytes of the text

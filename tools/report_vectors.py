@@ -10,7 +10,8 @@ OTHER is meant to be tools/independent_report.c, compiled with gcc -O2. What is 
 its W as that of the joins that count, its n, S and M as those of the zones that these touch, the numerators and divisors by the numbers of
 its first lines, a local line for each of these zones and no other, in hot-list order, that local numerators add up to P, classes to the
 joins line, categories to W and the rank to the number of shuffles, that each float is the nearest to its ratio, and that its sign says
-on which side of the ratio the printed float lies, both in exact fractions. That wrong signs would be seen is tried on the samples' reports.
+on which side of the ratio the printed float lies, both in exact fractions. That wrong signs, and local lines in another order, would be
+seen is tried on the samples' reports.
 Where zones are left out, the text must be that of the job of the kept zones alone, with the joins among them, but for the zone numbers;
 where none is kept, the number must be 6, and where the kept values are equal, 7. An image whose number was found by hand must be refused
 with that number, and that of a job that breaks no rule must be accepted; any other must be accepted, or refused with a number that the
@@ -69,6 +70,8 @@ NO_ZONE, ONE, SEVERAL, FIRST, LAST, BUT_TWO = ('no zone left out', 'one left out
 ROW, COLUMN = 'a kept zone with weight in its row only', 'in its column only'
 OUT_PAIR, OUT_CLASS, OUT_RANK = 'zones left out and pair lines', 'and class lines', 'and a rank of less, equal and greater'
 RETURNED, MARK, MARKS, UNTOUCHED = 'all values returned', 'one not returned', 'several not returned', 'one of a zone without joins'
+BY_ROW, BY_NUMBER, ROW_FIRST = 'equal L by row sum', 'by number', 'by row sum against the number'
+COLUMNS, AS_LENT = 'against the column sum', 'against the row sum as listed'
 LEAVES, FROM, TO = 'a neighbour that leaves with such a zone', 'a join from such a zone to a kept one', 'to such a zone'
 LOST_PAIR, LOST_CLASS, LOST_RANK = ('joins that do not count, with pair lines', 'with class lines',
                                     'with a rank of less, equal and greater')
@@ -77,7 +80,7 @@ SIDES = {(name, is_negative, sign): f'{name}{" below 0" * is_negative} `{sign}`'
          for name, is_negative, sign in itertools.product(NAMES, (False, True), SIGNS) if 'geary' not in name or not is_negative}
 REACHED = [PAIR, CLASS, RANK, WEIGHTLESS, NEGATIVE_P, NEGATIVE_L, TIES, NOUGHT, DOWN, UP, EIGHT, BEYOND, THREE, TWO, MANY, LONG, NO_ZONE,
            ONE, SEVERAL, FIRST, LAST, BUT_TWO, ROW, COLUMN, OUT_PAIR, OUT_CLASS, OUT_RANK, RETURNED, MARK, MARKS, UNTOUCHED, LEAVES, FROM,
-           TO, LOST_PAIR, LOST_CLASS, LOST_RANK, *SIDES.values()]
+           TO, LOST_PAIR, LOST_CLASS, LOST_RANK, BY_ROW, BY_NUMBER, ROW_FIRST, COLUMNS, AS_LENT, *SIDES.values()]
 
 
 def must(holds, told):
@@ -165,6 +168,24 @@ def few_kept(rng):
     for k, n in itertools.product(range(4), (3, 4, 5, 9, 33, 64)):
         for word, kept in choices_of_kept(rng, n).items():
             yield f'kept-{n}-{word}-{k}', job_with_all(rng, n, kept)
+
+
+def with_ties(rng, job):
+    """The job with its kept values at one number, but for as many below as above by one size: L is 0 at the first, whatever the joins."""
+    values, kept = [*job.values], kept_of(job)
+    mean, size, apart = rng.randint(-50000, 50000), rng.choice((1, 2, 1000, 50000)), rng.sample(kept, 2 * rng.randint(1, len(kept) // 2))
+    for zone in kept:
+        values[zone] = mean
+    for below, above in zip(apart[::2], apart[1::2]):
+        values[below], values[above] = mean - size, mean + size
+    return replace(job, values=values)
+
+
+def tied(rng):
+    """Many equal L, and unequal ones; in one job of two some values are not returned."""
+    for k, n in itertools.product(range(40), (4, 6, 9, 14)):
+        job = job_with_all(rng, n, drawn_kept(rng, n))
+        yield f'tied-{n}-{k}', with_ties(rng, with_drawn_marks(rng, job) if k % 2 else job)
 
 
 def full(rng):
@@ -282,7 +303,7 @@ def beyond(rng):
 def cases():
     """The cases that are compared; the jobs of our own break no rule."""
     rng = random.Random(SEED)
-    for kind in (at_limits, rings, two_zones, banded, far_apart, ranked, few_kept, full, not_returned, halfway, whole):
+    for kind in (at_limits, rings, two_zones, banded, far_apart, ranked, few_kept, tied, full, not_returned, halfway, whole):
         for name, job in kind(rng):
             yield name, 0, encode(job)
     yield from of_images(rng)
@@ -334,15 +355,24 @@ def look_at_job(lines, job, kept):
     return n, m, w, p, g
 
 
-def look_at_locals(lines, kept, m, p):
-    """The local lines: every kept zone once and no other, by falling L and rising zone, adding up to P; answers the L."""
-    rows = [numbers(fields[:3]) for fields in lines['local']]
-    order = [(-l, zone) for zone, l, _ in rows]
+def weights_at(joins, end):
+    """What the joins that have a zone at this end weigh together, by the zone: 0 is for row sums, 1 for column sums."""
+    sums = collections.Counter()
+    for join in joins:
+        sums[join[end]] += join[2]
+    return sums
+
+
+def look_at_locals(lines, job, kept, m, p):
+    """The local lines: every kept zone once and no other, by falling L, falling row sum of the joins that count and rising zone, adding up
+    to P; answers the zones and their L."""
+    rows, row_sums = [numbers(fields[:3]) for fields in lines['local']], weights_at(counting(job), 0)
+    order = [(-l, -row_sums[zone], zone) for zone, l, _ in rows]
     must(sorted(zone for zone, _, _ in rows) == kept, 'a kept zone lacks, or there is another')
     must(order == sorted(order), 'the local lines are not in hot-list order')
     must(sum(l for _, l, _ in rows) == p, 'the local numerators do not add up to P')
     must(all(under == m for _, _, under in rows), 'a local divisor that is not M')
-    return [l for _, l, _ in rows]
+    return [(zone, l) for zone, l, _ in rows]
 
 
 def look_at_pairs(lines, w):
@@ -407,28 +437,37 @@ def shape_of_marks(job, kept, lines):
             LOST_CLASS: lost and lines['class'], LOST_RANK: lost and lines['rank'] and '0' not in lines['rank'][0]}
 
 
+def shape_of_ties(job, local):
+    """What zones of equal L, in their order, are ordered by, and what would order them otherwise."""
+    rows, columns, listed = weights_at(counting(job), 0), weights_at(counting(job), 1), weights_at(job.joins, 0)
+    pairs = [(a, b) for (a, l), (b, other) in itertools.combinations(local, 2) if l == other]
+    by_row = [(a, b) for a, b in pairs if rows[a] > rows[b]]
+    return {BY_ROW: by_row, BY_NUMBER: len(by_row) < len(pairs), ROW_FIRST: any(a > b for a, b in by_row),
+            COLUMNS: any(columns[a] < columns[b] for a, b in pairs), AS_LENT: any(listed[a] < listed[b] for a, b in pairs)}
+
+
 def look(text, data):
     """Looks at the text of an accepted image; answers what it has."""
     job = decode(data)
     must(encode(job) == data, 'accepted, and not a whole image')
     lines, kept = lines_by_word(text, job), kept_of(job)
     n, m, w, p, g = look_at_job(lines, job, kept)
-    local = look_at_locals(lines, kept, m, p)
+    local = look_at_locals(lines, job, kept, m, p)
     look_at_pairs(lines, w)
     weights = look_at_classes(lines, [w, p, g])
     sides = look_at_coefficients(lines, n, m)
     rank = [numbers(fields) for fields in lines['rank']]
     must(all(sum(counts) == len(job.shuffles) for counts in rank), 'the rank does not add up to the number of shuffles')
     parts = [part % 4 for part in itertools.starmap(odd_part, ratios_of(n, m, w, p, g)) if part.bit_length() == 54]
-    has = {PAIR: lines['pair'], CLASS: weights, RANK: rank, WEIGHTLESS: 0 in weights, NEGATIVE_P: p < 0, NEGATIVE_L: min(local) < 0,
-           TIES: len(set(local)) < n, NOUGHT: p == 0, DOWN: 1 in parts, UP: 3 in parts, EIGHT: len(weights) == 9,
+    has = {PAIR: lines['pair'], CLASS: weights, RANK: rank, WEIGHTLESS: 0 in weights, NEGATIVE_P: p < 0, NEGATIVE_L: local[-1][1] < 0,
+           TIES: len({l for _, l in local}) < n, NOUGHT: p == 0, DOWN: 1 in parts, UP: 3 in parts, EIGHT: len(weights) == 9,
            BEYOND: weights and weights[0] > 0, THREE: rank and min(rank[0]) > 0, TWO: len(job.values) == 2, MANY: n == 64,
-           LONG: len(data) == LONGEST, **shape(job, kept, lines), **shape_of_marks(job, kept, lines),
+           LONG: len(data) == LONGEST, **shape(job, kept, lines), **shape_of_marks(job, kept, lines), **shape_of_ties(job, local),
            **{told: side in sides for side, told in SIDES.items()}}
     return [word for word in REACHED if has[word]]
 
 
-# ---- that a wrong sign would be seen
+# ---- that a wrong sign and a wrong order would be seen
 
 def with_wrong_signs(text):
     """A report with one sign wrong, or with one behind a `-`: another sign, none, two, and one apart from the digits."""
@@ -438,6 +477,12 @@ def with_wrong_signs(text):
     for found in re.finditer(r'(?<= )-(?=\s)', text):
         for wrong in SIGNS:
             yield text[:found.end()] + wrong + text[found.end():]
+
+
+def with_wrong_order(text):
+    """A report in which a local line has changed places with the one behind it, of another L or of the same."""
+    for found in re.finditer('(?m)^(local .*\n)(?=(local .*\n))', text):
+        yield text[:found.start()] + found[2] + found[1] + text[found.end(2):]
 
 
 def is_seen(wrong, data):
@@ -450,16 +495,18 @@ def is_seen(wrong, data):
 
 
 def look_at_samples():
-    """The reports of the samples by themselves, and again with wrong signs, each of which must be seen; answers how many."""
-    count = 0
+    """The reports of the samples by themselves, and again with wrong signs and with local lines in a wrong order, each of which must be
+    seen; answers how many of either."""
+    signs, orders = 0, 0
     for path in sorted(SAMPLES.glob('*.image')):
         text, data = path.with_suffix('.report').read_text(), path.read_bytes()
         if text not in REFUSALS:
             look(text, data)
-            wrongs = [*with_wrong_signs(text)]
-            must(all(is_seen(wrong, data) for wrong in wrongs), f'{path.stem}: a wrong sign is not seen')
-            count += len(wrongs)
-    return count
+            wrong_signs, wrong_orders = [*with_wrong_signs(text)], [*with_wrong_order(text)]
+            must(all(is_seen(wrong, data) for wrong in wrong_signs), f'{path.stem}: a wrong sign is not seen')
+            must(all(is_seen(wrong, data) for wrong in wrong_orders), f'{path.stem}: a wrong order of local lines is not seen')
+            signs, orders = signs + len(wrong_signs), orders + len(wrong_orders)
+    return signs, orders
 
 
 # ---- the comparison
@@ -599,7 +646,7 @@ def compare_all(program, other, made):
 
 def compare(program, other):
     """Compares all images and prints what was compared."""
-    begun, wrong, made = time.monotonic(), look_at_samples(), list(cases())
+    begun, (signs, orders), made = time.monotonic(), look_at_samples(), list(cases())
     samples, pieces = compare_samples((program, other)), compare_pieces((program, other))
     given, marked_given, reached, with_left_out = compare_all(program, other, made)
     taken, marked_taken = given.pop(0), marked_given.pop(0)
@@ -610,7 +657,7 @@ def compare(program, other):
     must(set(marked_given) >= NUMBERS - {1}, 'every number but 1 must be reached where values are not returned')
     must(len(made) >= 6000 and taken >= 2000, 'too few images')
     print(f"{samples} samples as they are kept, document 01's report among them; {pieces} inputs in pieces: equal")
-    print(f'{wrong} wrong signs in the reports of the samples, all seen')
+    print(f'{signs} wrong signs and {orders} wrong orders in the reports of the samples, all seen')
     print(f'{with_left_out} accepted with zones left out, each as the job of its kept zones alone')
     print(f'{marked_taken + sum(marked_given.values())} with values not returned, {marked_taken} of them accepted, {marked_given[6]} refused '
           f'with 6 and {marked_given[7]} with 7')

@@ -8,9 +8,10 @@
 `report` is document 01's worked report: the job that the document names, in the image put together by hand in image_cases.py, and its
 text as requests A.6 and A.10 changed it. `island` is a job with all parts and of the largest number of zones. `lagoon` is a small one
 with a district that touches nobody, which is left out. `atoll` is one with a value not returned (request A.7), so that this district is
-left out, and with it the one that has no other neighbour. `refused` is a job with one plain mistake. The reports of island, lagoon and
-atoll are those of independent_report.c, which is compiled here with gcc; that program must write the other two reports as well, byte for
-byte. The reports together show each side of a float, below 0 and above.
+left out, and with it the one that has no other neighbour. `delta` is one without the parts that need not be there, in which local
+numerators are equal (request A.2). `refused` is a job with one plain mistake. The reports of island, lagoon, atoll and delta are those of
+independent_report.c, which is compiled here with gcc; that program must write the other two reports as well, byte for byte. The reports
+together show each side of a float, below 0 and above.
 """
 import itertools
 import pathlib
@@ -146,6 +147,32 @@ shuffle 3 0 4 1 6 5 2
 shuffle 1 0 2 6 4 3 5
 shuffle 2 4 6 0 5 1 3
 """
+
+DELTA = """\
+# seven districts of a delta: dwellings that were built in a year
+# 0 landing, 1 market, 2 mill, 3 east bank, 4 west bank, 5 polder, 6 dyke
+# district 5, the polder, sent nothing; the mean of the others is 20, and a district that has 20 has the local numerator 0
+# of equal local numerators the one with the larger row sum comes first: the grades of its boundaries to others that count. They are
+# 5 at the landing, 7 at the market, 5 at the mill, 4 at the dyke; 5 on the east bank, 11 on the west bank; equal ones stay by number
+values 20 20 20 24 16 - 20
+# boundaries by their grade, both ways
+join 0 1 2
+join 1 0 2
+join 0 3 3
+join 3 0 3
+join 1 2 1
+join 2 1 1
+join 1 4 4
+join 4 1 4
+join 2 6 4
+join 6 2 4
+join 3 4 2
+join 4 3 2
+join 2 5 9   # with the polder: listed all the same, but in no row sum
+join 5 2 9
+join 4 6 5   # down the river, one way only: it is in the row of the west bank, and not in that of the dyke
+"""
+TIED = [1, 0, 2, 6, 4, 3]  # the districts of the delta that are kept, as its notes order them
 
 REFUSED = """\
 # a job of six districts with one mistake: the program answers `refused 5`
@@ -287,7 +314,7 @@ def must_be_document_01(image):
 def made():
     """The files by their names; document 01's image and the reports that are known beforehand must come out."""
     texts = {'report': noted(text_of(REPORT)[0], REPORT_NOTES), 'island': noted(text_of(encode(island()))[0], ISLAND_NOTES),
-             'lagoon': LAGOON, 'atoll': ATOLL, 'refused': REFUSED}
+             'lagoon': LAGOON, 'atoll': ATOLL, 'delta': DELTA, 'refused': REFUSED}
     images = {name: image_of(text) for name, text in texts.items()}
     must_be_document_01(images['report'])
     printed = reports(images)
@@ -296,6 +323,7 @@ def made():
     must_have_all(printed['island'].decode())
     for name, zones in LEFT_OUT.items():
         must_leave_out(name, zones, decode(images[name]), printed[name].decode())
+    must_show_ties(printed['delta'].decode())
     must_show_sides(b''.join(printed.values()).decode())
     files = {f'{name}.txt': text.encode() for name, text in texts.items()}
     files |= {f'{name}.image': image for name, image in images.items()}
@@ -322,6 +350,13 @@ def must_leave_out(name, zones, job, report):
     must({line[1] for line in lines if line[0] == 'local'} == {str(zone) for zone in kept}, f'{name}: local lines of other districts')
     must({line[0] for line in lines} >= {'pair', 'class', 'rank'}, f'{name}: lines of some kind lack')
     must('0' not in lines[-1], f'{name}: no shuffles on each side of the rank')
+
+
+def must_show_ties(report):
+    """The local lines of the delta must have the order of its notes, four of them with the local numerator 0 and two with one below 0."""
+    zones, local = zip(*(map(int, line.split()[1:3]) for line in report.splitlines() if line.startswith('local ')))
+    must([*zones] == TIED, 'the delta has another order')
+    must(local[:4] == (0,) * 4 and local[4] == local[5] < 0, 'the delta has no equal local numerators')
 
 
 def must_show_sides(reports):

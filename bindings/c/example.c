@@ -87,14 +87,22 @@ static void show_account(void)
         printf("  zone %d: L %" PRId64 "\n", zone, locals[zone]);
 }
 
-static void show_hot_list(void)
+static void print_hot_list(const char *of, const int32_t given[N])
 {
     uint8_t zones[N];
-    done("dca_hot_list", dca_hot_list(N, LIST(values), LIST(weights), LIST(zones)));
-    printf("hot list:");
+    done("dca_hot_list", dca_hot_list(N, given, N, LIST(weights), LIST(zones)));
+    printf("%s:", of);
     for (int place = 0; place < N; place++)
         printf(" %d", zones[place]);
     printf("\n");
+}
+
+/* With the other values every L is 0, so that the row sums of the weights say the order: 3, 4 and 1 at the zones kept. */
+static void show_hot_list(void)
+{
+    static const int32_t all_tie[N] = {1, 2, 3, 3};
+    print_hot_list("hot list", values);
+    print_hot_list("hot list where every L is 0", all_tie);
 }
 
 /* The class of each pair comes from the bands of squared distance. */

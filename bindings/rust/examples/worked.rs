@@ -39,11 +39,17 @@ fn show_account() -> Result<(), Refusal> {
     Ok(())
 }
 
-fn show_hot_list() -> Result<(), Refusal> {
+fn print_hot_list(of: &str, values: &[i32; N]) -> Result<(), Refusal> {
     let mut zones = [0; N];
-    dca::hot_list(N, &VALUES, &WEIGHTS, &mut zones)?;
-    println!("hot list: {}", zones.map(|zone| zone.to_string()).join(" "));
+    dca::hot_list(N, values, &WEIGHTS, &mut zones)?;
+    println!("{of}: {}", zones.map(|zone| zone.to_string()).join(" "));
     Ok(())
+}
+
+/// With the other values every L is 0, so that the row sums of the weights say the order: 3, 4 and 1 at the zones kept.
+fn show_hot_list() -> Result<(), Refusal> {
+    print_hot_list("hot list", &VALUES)?;
+    print_hot_list("hot list where every L is 0", &[1, 2, 3, 3])
 }
 
 /// The class of each pair comes from the bands of squared distance.

@@ -243,8 +243,8 @@ pub fn nearest(p: i64, q: i64) -> Result<Rounded, Refusal> {
     Ok(figure.at(0))
 }
 
-/// The zones kept by falling L(i), equal ones by rising zone number, then those left out by rising zone number, into `zones`, which has n
-/// entries.
+/// The zones kept by falling L(i), equal ones by falling row sum, the sum over j of the w(i,j) that count, then by rising zone number; behind
+/// them those left out by rising zone number. Into `zones`, which has n entries.
 ///
 /// `n`, `values` and `weights` as [`account`].
 ///

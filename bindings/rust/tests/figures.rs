@@ -1,5 +1,5 @@
-//! Document 01's figures at the edges, as request A.6 changed them, values not returned, the sides of floats, the refusals, and that a refused
-//! call leaves what it was lent as it was.
+//! Document 01's figures at the edges, as request A.6 changed them, ties, values not returned, the sides of floats, the refusals, and that a
+//! refused call leaves what it was lent as it was.
 
 use dca::{Buffers, Counts, Given, Move, Pair, Refusal, Rounded, Sections, Side};
 
@@ -148,6 +148,18 @@ fn figures_c_to_f_the_worked_report() {
             greater: 0
         })
     );
+}
+
+/// Local numerators that are all 0: the larger row sum comes first, then the lower number, then the zone that touches nobody.
+#[test]
+fn ties_in_the_hot_list() {
+    let mut zones = [9; 4];
+    dca::hot_list(4, &[1, 2, 3, 9], &WEIGHTS, &mut zones).unwrap();
+    assert_eq!(zones, [1, 0, 2, 3]);
+    // As lent the row sums would be 1, 2 and 11; zone 3 sends nothing, and without its weights they are 1, 2 and 2.
+    let weights = [0, 1, 0, 0, 1, 0, 1, 0, 0, 2, 0, 9, 0, 0, 0, 0];
+    dca::hot_list(4, &[1, 2, 3, dca::NOT_RETURNED], &weights, &mut zones).unwrap();
+    assert_eq!(zones, [1, 2, 0, 3]);
 }
 
 /// The line of three with a zone that touches nobody in front: figures of the line, whatever value that zone has.

@@ -64,19 +64,6 @@ macro_rules! every_call {
     };
 }
 
-/// The calls that give floats as they were before request A.10, when they gave no sides.
-#[cfg(before)]
-macro_rules! calls_without_sides {
-    ($make:ident $($front:literal)?) => {
-        $make! {
-            $($front;)?
-            float_report = dca_float_report [n: usize] [values: i32, weights: u8, classes: u8]
-                [globals: f64, locals: f64, pairs: f64, has_pair: u8];
-            nearest = dca_nearest [p: i64, q: i64] [] [out: f64];
-        }
-    };
-}
-
 /// The proved calls.
 pub mod proved {
     use dca::raw;
@@ -95,17 +82,6 @@ mod copies {
                 }
 
                 every_call!(over_slices);
-
-                /// What an archive from before request A.10 has in the place of two calls above; else they are not called.
-                #[allow(dead_code)]
-                pub mod without_sides {
-                    #[allow(clashing_extern_declarations)]
-                    mod raw {
-                        calls_without_sides!(declare $front);
-                    }
-
-                    calls_without_sides!(over_slices);
-                }
             })*
         };
     }
@@ -171,29 +147,7 @@ pub const INDEPENDENT: Calls = calls_of!(differential);
 pub struct Placed {
     pub at: usize,
     pub now: Calls,
-    /// With the arguments that the calls have now.
-    before: Calls,
-    /// With those that two of them had before request A.10; the lists of sides that they are lent are dropped.
-    before_without_sides: Calls,
-}
-
-impl Placed {
-    /// The earlier calls, each with the arguments of its archive.
-    pub fn before(&self) -> Calls {
-        if stores_a_side(self.before.nearest) {
-            self.before
-        } else {
-            self.before_without_sides
-        }
-    }
-}
-
-/// Whether the archive is one from after request A.10: an earlier nearest float passes over the arguments behind its last.
-fn stores_a_side(nearest: cases::Nearest) -> bool {
-    let (mut out, mut side) = ([0.0], [7]);
-    let number = nearest(1, 3, &mut out, &mut side);
-    assert_eq!((number, out), (0, [1.0 / 3.0]), "a third");
-    side != [7]
+    pub before: Calls,
 }
 
 #[cfg(before)]
@@ -203,16 +157,6 @@ macro_rules! placed {
             at: $at,
             now: calls_of!($now),
             before: calls_of!($before),
-            before_without_sides: Calls {
-                #[rustfmt::skip]
-                float_report: |n, values, weights, classes, globals, _, locals, _, pairs, _, has_pair| {
-                    $before::without_sides::float_report(
-                        n, values, weights, classes, globals, locals, pairs, has_pair,
-                    )
-                },
-                nearest: |p, q, out, _| $before::without_sides::nearest(p, q, out),
-                ..calls_of!($before)
-            },
         }
     };
 }

@@ -8,7 +8,7 @@
 //! DCA_LIB_DIR names the folder of the archive libexports.a, if it is not crates/exports/out. DCA_BEFORE_DIR names the folder of an
 //! earlier libexports.a: then the calls are measured beside those of that archive instead, and one table is printed, now against before.
 //! Both are paths from the root. build.rs links the earlier archive under other names, so that the program is built anew for it.
-//! The earlier archive may be one from before request A.10: its nearest float and its float report are called as they were then.
+//! The calls of both have today's arguments.
 
 mod calls;
 mod input;
@@ -247,7 +247,7 @@ fn beside_earlier(rounds: usize, placements: &[Placed]) {
     println!("|---|{}", "---:|".repeat(at.len() + 4));
     let mut lines: Vec<(&str, Vec<Beside>)> = Vec::new();
     for placed in placements {
-        let lines_here = both(inputs, &placed.now, &placed.before());
+        let lines_here = both(inputs, &placed.now, &placed.before);
         for (line, ((name, _, now), (_, _, before))) in lines_here.enumerate() {
             if line == lines.len() {
                 lines.push((name, Vec::new()));

@@ -1,4 +1,5 @@
-//! Part 4: the zones by falling local numerator, equal ones by rising number; then those that are left out.
+//! Part 4 and request A.2: the zones by falling local numerator, equal ones by falling row sum of weights, then by rising number; then those
+//! that are left out.
 
 use crate::account::{self, Spread};
 use crate::judge::Job;
@@ -6,14 +7,23 @@ use crate::kept::Kept;
 use crate::{judge, ZONES};
 use std::cmp::Reverse;
 
-/// Puts the zone numbers in order. A zone left out comes behind every kept one, though its numerator, 0, may be the greater.
-pub(crate) fn order(kept: Kept, locals: &[i64], zones: &mut [u8]) {
+/// Puts the zone numbers in order. A zone left out comes behind every kept one, though its numerator, 0, may be the greater. The weights
+/// are those without the values not returned.
+pub(crate) fn order(kept: Kept, locals: &[i64], weights: &[u8], zones: &mut [u8]) {
+    let mut row_sums = [0; ZONES];
+    for (sum, row) in row_sums.iter_mut().zip(weights.chunks_exact(locals.len())) {
+        *sum = row.iter().map(|&w| u32::from(w)).sum();
+    }
     for (zone, i) in zones.iter_mut().zip(0..) {
         *zone = i;
     }
     zones.sort_unstable_by_key(|&number| {
         let zone = usize::from(number);
-        (!kept.has(zone), Reverse(locals[zone]), number)
+        (
+            !kept.has(zone),
+            Reverse((locals[zone], row_sums[zone])),
+            number,
+        )
     });
 }
 
@@ -32,6 +42,6 @@ pub fn hot_list(n: usize, values: &[i32], weights: &[u8], zones: &mut [u8]) -> u
     let mut locals = [0; ZONES];
     let locals = &mut locals[..n];
     account::work(values, &Spread::of(values, kept), weights, locals);
-    order(kept, locals, zones);
+    order(kept, locals, weights, zones);
     0
 }

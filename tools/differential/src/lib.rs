@@ -1,5 +1,5 @@
-//! The calls of the district clustering account once more, written from document 01, requests A.6, A.7 and A.10 of document 02
-//! and their readings alone.
+//! The calls of the district clustering account once more, written from document 01, requests A.2, A.6, A.7 and A.10 of document
+//! 02 and their readings alone.
 //!
 //! Nothing here is shared with the proved library or taken from it. Each function has the arguments of the exported call of
 //! the same name, as slices, and returns the number of the refusal, 0 where there is none; on a refusal every lent list stays

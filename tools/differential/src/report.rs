@@ -109,7 +109,7 @@ fn job_lines(page: &mut Page, spread: &Spread, values: &[i32], weights: &[u8]) {
 
     let mut zones = [0; ZONES];
     let zones = &mut zones[..values.len()];
-    hot::order(spread.kept, locals, zones);
+    hot::order(spread.kept, locals, weights, zones);
     for &zone in &zones[..spread.kept.count()] {
         let local = locals[usize::from(zone)];
         page.line("local", &[i64::from(zone), local, m], &[ratio(local, m)]);

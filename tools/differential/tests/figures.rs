@@ -1,4 +1,5 @@
-//! The figures that document 01, request A.6 and their readings print, by the independent calls; and what requests A.7 and A.10 say of them.
+//! The figures that document 01, request A.6 and their readings print, by the independent calls; and what requests A.2, A.7 and A.10 say of
+//! them.
 
 use differential as own;
 
@@ -99,6 +100,27 @@ fn not_returned() {
     assert_eq!((number, table), (0, [0; 64]));
     let number = own::join_table(5, &values, &[0; 5], &weights, &mut table);
     assert_eq!((number, table[0]), (0, 4));
+}
+
+/// Four zones at the mean, which have an L of 0, and two apart, which have one of -72: the larger row sum comes first, not the larger column,
+/// then the lower number.
+#[test]
+fn ties() {
+    let apart = [(4, 5, 2), (5, 4, 2), (5, 0, 1)];
+    let near = [(0, 1, 1), (1, 2, 3), (2, 0, 2), (3, 0, 3)];
+    let weights = job(6, &[&near[..], &apart].concat());
+    let mut zones = [7; 6];
+    let values = [0, 0, 0, 0, -1, 1];
+    assert_eq!(own::hot_list(6, &values, &weights, &mut zones), 0);
+    assert_eq!(zones, [1, 3, 2, 0, 5, 4]);
+    // Zone 3 sends nothing: it is left out, and the column that had most loses its weight.
+    let values = [0, 0, 0, own::NOT_RETURNED, -1, 1];
+    assert_eq!(own::hot_list(6, &values, &weights, &mut zones), 0);
+    assert_eq!(zones, [1, 2, 0, 5, 4, 3]);
+    // Zone 1 gave its weight to one that sends nothing, and stays by its column.
+    let values = [0, 0, own::NOT_RETURNED, 0, -1, 1];
+    assert_eq!(own::hot_list(6, &values, &weights, &mut zones), 0);
+    assert_eq!(zones, [3, 0, 1, 5, 4, 2]);
 }
 
 /// 4 and 5 judge the weights of a zone that sends nothing as they are lent.

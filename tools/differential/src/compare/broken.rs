@@ -4,11 +4,13 @@
 //! asked always: it is given the right call's number and answers its own.
 
 use super::left_out::parted;
+use super::ties::{job_of, standings, tied_by, Standing};
 use differential as own;
 use differential::{ABOVE, BELOW, EQUAL, NOT_RETURNED, SUMS, ZONES};
+use std::cmp::Reverse;
 
 /// The names that `--broken` takes, and what is wrong.
-pub const NAMES: [(&str, &str); 51] = [
+pub const NAMES: [(&str, &str); 59] = [
     (
         "last-local",
         "account: the last local numerator is not stored",
@@ -86,7 +88,28 @@ pub const NAMES: [(&str, &str); 51] = [
         "side-before-tie",
         "nearest: the side is taken from the remainder before a tie is settled",
     ),
-    ("hot-ties", "hot list: equal zones by falling number"),
+    (
+        "hot-ties",
+        "hot list: zones of equal row sums by falling number",
+    ),
+    (
+        "ties-by-number",
+        "hot list: equal zones by rising number alone",
+    ),
+    ("ties-by-smaller", "hot list: equal zones by rising row sum"),
+    ("ties-by-column", "hot list: equal zones by column sum"),
+    (
+        "ties-by-both",
+        "hot list: equal zones by row and column sum together",
+    ),
+    (
+        "ties-as-lent",
+        "hot list: equal zones by row sum of the weights as lent",
+    ),
+    (
+        "ties-in-a-byte",
+        "hot list: equal zones by what a byte holds of the row sum",
+    ),
     (
         "left-out-as-zero",
         "hot list: a zone left out comes before a kept one with L below 0",
@@ -136,6 +159,14 @@ pub const NAMES: [(&str, &str); 51] = [
     (
         "joins-dropped",
         "write: the joins of a zone not returned are dropped",
+    ),
+    (
+        "local-ties-by-number",
+        "report: local lines of equal zones by rising number alone",
+    ),
+    (
+        "local-ties-as-lent",
+        "report: local lines of equal zones by row sum of the weights as lent",
     ),
     ("lower-case", "report: hexadecimal digits in lower case"),
     (
@@ -380,17 +411,43 @@ pub fn side_before_tie(p: i64, q: i64, out: &[f64], side: &mut [u8]) {
     }
 }
 
-pub fn hot_ties(job: &Job, zones: &mut [u8]) {
-    let (locals, _) = job.worked();
-    zones.sort_by_key(|&zone| {
-        let zone = usize::from(zone);
-        (-locals[zone], ZONES - zone)
-    });
+pub fn hot_ties(x: &[i32], w: &[u8], zones: &mut [u8]) {
+    tied_by(x, w, zones, |z| Reverse((z.row, z.zone)));
 }
 
-pub fn left_out_as_zero(job: &Job, zones: &mut [u8]) {
-    let (locals, _) = job.worked();
-    zones.sort_by_key(|&zone| (-locals[usize::from(zone)], zone));
+/// As before request A.2.
+pub fn ties_by_number(x: &[i32], w: &[u8], zones: &mut [u8]) {
+    tied_by(x, w, zones, |z| z.zone);
+}
+
+pub fn ties_by_smaller(x: &[i32], w: &[u8], zones: &mut [u8]) {
+    tied_by(x, w, zones, |z| (z.row, z.zone));
+}
+
+pub fn ties_by_column(x: &[i32], w: &[u8], zones: &mut [u8]) {
+    tied_by(x, w, zones, |z| (Reverse(z.column), z.zone));
+}
+
+pub fn ties_by_both(x: &[i32], w: &[u8], zones: &mut [u8]) {
+    tied_by(x, w, zones, |z| (Reverse(z.row + z.column), z.zone));
+}
+
+pub fn ties_as_lent(x: &[i32], w: &[u8], zones: &mut [u8]) {
+    tied_by(x, w, zones, |z| (Reverse(z.lent), z.zone));
+}
+
+pub fn ties_in_a_byte(x: &[i32], w: &[u8], zones: &mut [u8]) {
+    tied_by(x, w, zones, |z| (Reverse(z.row % 256), z.zone));
+}
+
+/// The zones left out stay in their order, as they stand last.
+pub fn left_out_as_zero(x: &[i32], w: &[u8], zones: &mut [u8]) {
+    let standings = standings(x, w);
+    let is_below = |zone: &u8| {
+        let same = standings.iter().find(|z| z.zone == usize::from(*zone));
+        same.is_some_and(|z| z.local < 0)
+    };
+    zones.sort_by_key(is_below);
 }
 
 pub fn rank_inverse(job: &Job, shuffles: &[u8], counts: &mut [u64]) {
@@ -486,6 +543,41 @@ pub fn joins_dropped(
     own::write(
         values, categories, &left, places, bands, shuffles, counts, out, length,
     );
+}
+
+/// Puts the local lines by falling L, those of equal ones by another rising key.
+fn lines_tied_by<K: Ord>(
+    image: &[u8],
+    text: &mut [u8],
+    length: &mut [u64],
+    key: fn(&Standing) -> K,
+) {
+    let (values, weights) = job_of(image).expect("it is accepted");
+    let said = said(text, length);
+    let is_local = |line: &&str| line.starts_with("local ");
+    let (local, others): (Vec<&str>, Vec<&str>) = said.split_inclusive('\n').partition(is_local);
+    let mut zones = vec![0; local.len()];
+    tied_by(&values, &weights, &mut zones, key);
+    let line = |zone: &u8| {
+        let front = format!("local {zone} ");
+        let mut local = local.iter();
+        *local
+            .find(|line| line.starts_with(&front))
+            .expect("it is kept")
+    };
+    let local: String = zones.iter().map(line).collect();
+    let (before, behind) = others.split_at(5);
+    let said = [before.concat(), local, behind.concat()].concat();
+    store(&said, text, length);
+}
+
+/// As before request A.2.
+pub fn local_ties_by_number(image: &[u8], text: &mut [u8], length: &mut [u64]) {
+    lines_tied_by(image, text, length, |z| z.zone);
+}
+
+pub fn local_ties_as_lent(image: &[u8], text: &mut [u8], length: &mut [u64]) {
+    lines_tied_by(image, text, length, |z| (Reverse(z.lent), z.zone));
 }
 
 pub fn lower_case(text: &mut [u8], length: &[u64]) {

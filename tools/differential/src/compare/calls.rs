@@ -5,6 +5,7 @@ use super::left_out::Kinds;
 use super::lent::{Lent, Memory};
 use super::stored::Arguments;
 use super::tally::Tally;
+use super::ties::Ties;
 use super::{faulty, Swapped};
 use dca::raw;
 use differential as own;
@@ -22,6 +23,8 @@ pub struct Run<'a> {
     pub expected: Option<u8>,
     /// What a drawn job shows of requests A.6 and A.7.
     pub kinds: Kinds,
+    /// What ties it shows, of those that request A.2 settles.
+    pub ties: Ties,
 }
 
 impl Run<'_> {
@@ -45,6 +48,7 @@ impl Run<'_> {
         outputs: &[(&str, &dyn Memory)],
     ) -> Outcome {
         self.tally.add(call, own, &self.kinds);
+        self.tally.add_ties(call, own, &self.ties);
         if let Some(what) = self.wrong_number(proved, own) {
             return Err(format!("{call}: {what}"));
         }
@@ -234,13 +238,21 @@ calls! {
         lends(zones: u8)
         independent(own::hot_list)
         stores(
-            "hot-ties": broken::hot_ties [&left(values, weights), zones.own_mut()],
-            "left-out-as-zero": broken::left_out_as_zero [&left(values, weights), zones.own_mut()]
+            "hot-ties": broken::hot_ties [values.own(), weights.own(), zones.own_mut()],
+            "ties-by-number": broken::ties_by_number [values.own(), weights.own(), zones.own_mut()],
+            "ties-by-smaller": broken::ties_by_smaller [values.own(), weights.own(), zones.own_mut()],
+            "ties-by-column": broken::ties_by_column [values.own(), weights.own(), zones.own_mut()],
+            "ties-by-both": broken::ties_by_both [values.own(), weights.own(), zones.own_mut()],
+            "ties-as-lent": broken::ties_as_lent [values.own(), weights.own(), zones.own_mut()],
+            "ties-in-a-byte": broken::ties_in_a_byte [values.own(), weights.own(), zones.own_mut()],
+            "left-out-as-zero": broken::left_out_as_zero [values.own(), weights.own(), zones.own_mut()]
         )
         answers("five-as-left": broken::five_as_left [values.own(), weights.own()])
         faulty(
             "values-sorted": faulty::values_sorted [values],
-            "left-out-falling": faulty::left_out_falling [values, weights, zones]
+            "left-out-falling": faulty::left_out_falling [values, weights, zones],
+            "left-out-by-weight": faulty::left_out_by_weight [values, weights, zones],
+            "former-ties": faulty::former_ties [values, weights, zones]
         );
 
     rank: dca_rank
@@ -351,6 +363,8 @@ calls! {
         lends(text: u8, length: u64)
         independent(own::report)
         stores(
+            "local-ties-by-number": broken::local_ties_by_number [image.own(), text.own_mut(), length.own_mut()],
+            "local-ties-as-lent": broken::local_ties_as_lent [image.own(), text.own_mut(), length.own_mut()],
             "lower-case": broken::lower_case [text.own_mut(), length.own()],
             "expected-of-all": broken::expected_of_all [image.own(), text.own_mut(), length.own_mut()],
             "missing-said": broken::missing_said [image.own(), text.own_mut(), length.own_mut()],

@@ -257,6 +257,23 @@ fn part_values(draw: &mut Draw, weights: &[u8], values: &mut [i32]) {
     }
 }
 
+/// Kept zones get few values round their mean: some lie at it, and the others are as many below as above, by one size. So many local
+/// numerators are equal, whatever the weights are.
+fn tie_values(draw: &mut Draw, weights: &[u8], values: &mut [i32]) {
+    let (mut kept, _) = parted(values, weights);
+    let mean = draw.between(-50_000, 50_000) as i32;
+    let size = draw.pick(&[1, 2, 1000, 50_000]);
+    for last in (1..kept.len()).rev() {
+        kept.swap(last, draw.below(last + 1));
+    }
+    kept.iter().for_each(|&zone| values[zone] = mean);
+    let pairs = draw.below(kept.len() / 2 + 1);
+    for pair in kept.as_chunks::<2>().0.iter().take(pairs.max(1)) {
+        values[pair[0]] = mean - size;
+        values[pair[1]] = mean + size;
+    }
+}
+
 /// The zones whose values are not to be returned: one, some, all of them, all but two, all that touch one, some that touch nobody.
 fn zones_to_miss(draw: &mut Draw, n: usize, weights: &[u8]) -> Vec<usize> {
     let touch = |i: usize, j: usize| weights[i * n + j] > 0 || weights[j * n + i] > 0;
@@ -301,7 +318,7 @@ fn miss_values(draw: &mut Draw, n: usize, values: &mut [i32], weights: &mut [u8]
 }
 
 /// The values and the weights of a job. In half of the jobs some zones touch nobody, or one touches others one way only; in a third some
-/// values are not returned.
+/// values are not returned; in a sixth kept zones tie.
 pub fn job(draw: &mut Draw, n: usize) -> (Vec<i32>, Vec<u8>) {
     let mut values = values(draw, n);
     let mut weights = weights(draw, n);
@@ -317,6 +334,9 @@ pub fn job(draw: &mut Draw, n: usize) -> (Vec<i32>, Vec<u8>) {
     }
     if draw.once_in(3) {
         miss_values(draw, n, &mut values, &mut weights);
+    }
+    if draw.once_in(6) {
+        tie_values(draw, &weights, &mut values);
     }
     if draw.once_in(20) {
         part_values(draw, &weights, &mut values);

@@ -4,6 +4,7 @@ use super::calls::{self, Outcome, Run};
 use super::draw::{self, Draw, Sections};
 use super::left_out::{self, Kinds};
 use super::lent::Lent;
+use super::ties;
 use differential::image::SHUFFLE_BYTES;
 use differential::{BANDS, CLASSES, SHUFFLES, SUMS, TEXT, ZONES};
 
@@ -210,6 +211,7 @@ pub fn nearest(run: &mut Run, draw: &mut Draw) -> Outcome {
 pub fn hot_list(run: &mut Run, draw: &mut Draw) -> Outcome {
     let (job, lengths) = spoiled(draw, |n| [n]);
     run.kinds = job.kinds;
+    run.ties = ties::ties(&job.values, &job.weights);
     calls::hot_list::compare(
         run,
         job.n,
@@ -501,6 +503,7 @@ pub fn report(run: &mut Run, draw: &mut Draw) -> Outcome {
 }
 
 pub fn report_image(run: &mut Run, draw: &mut Draw, image: &[u8]) -> Outcome {
+    run.ties = ties::ties_of_image(image);
     let mut lengths = [TEXT, 1];
     spoil_one(draw, &mut lengths);
     calls::report::compare(

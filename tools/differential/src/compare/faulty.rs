@@ -5,10 +5,12 @@
 
 use super::left_out::parted;
 use super::lent::{Entry, Lent};
+use super::ties::tied_by;
 use differential::NOT_RETURNED;
+use std::cmp::Reverse;
 
 /// The names that `--faulty` takes, and what is wrong.
-pub const NAMES: [(&str, &str); 28] = [
+pub const NAMES: [(&str, &str); 30] = [
     ("beyond-end", "account: an entry is stored beyond the sums"),
     ("count-of-all", "account: the zones kept are all zones"),
     (
@@ -61,6 +63,14 @@ pub const NAMES: [(&str, &str); 28] = [
     (
         "left-out-falling",
         "hot list: the zones left out come by falling number",
+    ),
+    (
+        "left-out-by-weight",
+        "hot list: the zones left out come by row sum of the weights as lent",
+    ),
+    (
+        "former-ties",
+        "hot list: equal zones by rising number alone",
     ),
     (
         "weights-reduced",
@@ -269,6 +279,39 @@ pub fn left_out_falling(
     if number == 0 {
         let (kept, _) = parted(values.own(), weights.own());
         zones.proved_list()[kept.len()..].reverse();
+    }
+    number
+}
+
+/// The row sum of a zone, by the weights as they are lent.
+fn row_sum(weights: &[u8], n: usize, zone: u8) -> u32 {
+    let row = &weights[usize::from(zone) * n..][..n];
+    row.iter().map(|&w| u32::from(w)).sum()
+}
+
+pub fn left_out_by_weight(
+    number: u8,
+    values: &mut Lent<i32>,
+    weights: &mut Lent<u8>,
+    zones: &mut Lent<u8>,
+) -> u8 {
+    if number == 0 {
+        let (kept, _) = parted(values.own(), weights.own());
+        let left_out = &mut zones.proved_list()[kept.len()..];
+        left_out.sort_by_key(|&zone| Reverse(row_sum(weights.own(), values.len(), zone)));
+    }
+    number
+}
+
+/// As before request A.2.
+pub fn former_ties(
+    number: u8,
+    values: &mut Lent<i32>,
+    weights: &mut Lent<u8>,
+    zones: &mut Lent<u8>,
+) -> u8 {
+    if number == 0 {
+        tied_by(values.own(), weights.own(), zones.proved_list(), |z| z.zone);
     }
     number
 }

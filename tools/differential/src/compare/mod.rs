@@ -10,6 +10,7 @@ mod lent;
 mod required;
 pub mod stored;
 mod tally;
+mod ties;
 mod written;
 
 use calls::Run;
@@ -103,6 +104,7 @@ pub fn compare(plan: &Plan) -> Result<Tally, Difference> {
             swapped: plan.swapped,
             expected: None,
             kinds: left_out::NONE,
+            ties: ties::NONE,
         };
         let outcome = if input < 2 * systematic {
             let mut image = sample.clone();

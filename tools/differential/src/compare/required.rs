@@ -1,10 +1,10 @@
-//! Document 01's run-only cases, its figures (g) to (j) with their sides, and cases of requests A.6, A.7 and A.10. Each must be among the
-//! stored ones.
+//! Document 01's run-only cases, its figures (g) to (j) with their sides, and cases of requests A.2, A.6, A.7 and A.10. Each must be among
+//! the stored ones.
 
 use super::stored::Case;
 
 /// Name, call, number, and a line of the case.
-const REQUIRED: [(&str, &str, u8, &str); 49] = [
+const REQUIRED: [(&str, &str, u8, &str); 54] = [
     (
         "example-2",
         "dca_account",
@@ -169,6 +169,31 @@ const REQUIRED: [(&str, &str, u8, &str); 49] = [
     ),
     ("short-pair_sides", "dca_float_report", 2, "pair_sides 17*7"),
     ("report", "dca_report", 0, "length 7 -> 355"),
+    (
+        "ties-by-row-sum",
+        "dca_hot_list",
+        0,
+        "zones 6*7 -> 1 3 2 0 5 4",
+    ),
+    (
+        "ties-of-equal-row-sums",
+        "dca_hot_list",
+        0,
+        "zones 7*7 -> 0 1 2 3 4 6 5",
+    ),
+    (
+        "ties-left-out",
+        "dca_hot_list",
+        0,
+        "zones 9*7 -> 4 7 1 2 6 5 0 3 8",
+    ),
+    (
+        "ties-not-returned",
+        "dca_hot_list",
+        0,
+        "zones 7*7 -> 1 2 4 6 0 3 5",
+    ),
+    ("ties-by-row-sum", "dca_report", 0, "length 7 -> 299"),
 ];
 
 /// Says which one is not among the cases.

@@ -7,6 +7,7 @@ use super::left_out;
 use super::lent::Lent;
 use super::required;
 use super::tally::Tally;
+use super::ties;
 use super::written::{entries, Written};
 use super::Swapped;
 use std::str::FromStr;
@@ -179,6 +180,7 @@ impl<'a> Case<'a> {
             swapped,
             expected: Some(self.gives),
             kinds: left_out::NONE,
+            ties: ties::NONE,
         })
     }
 }

@@ -2,6 +2,7 @@
 
 use super::left_out::{Kinds, KINDS};
 use super::lent::Memory;
+use super::ties::{Ties, TIES};
 use std::collections::BTreeMap;
 
 #[cfg(test)]
@@ -62,6 +63,9 @@ const SIDES: [(&str, &str); 4] = [
 /// What a side says, by its number.
 const SAID: [&str; 3] = ["equal", "below", "above"];
 
+/// The calls that put zones in hot-list order. Each tie must come in each of them.
+const ORDERED: [&str; 2] = ["dca_hot_list", "dca_report"];
+
 /// What comes less often than this was not tried well.
 const SELDOM: u64 = 20;
 
@@ -73,6 +77,8 @@ pub struct Tally {
     kinds: BTreeMap<&'static str, [u64; KINDS.len()]>,
     /// By list of sides and side, those that were stored.
     sides: [[u64; SAID.len()]; SIDES.len()],
+    /// By ordering call and tie, those that were accepted.
+    ties: [[u64; TIES.len()]; ORDERED.len()],
 }
 
 impl Tally {
@@ -96,6 +102,15 @@ impl Tally {
             for side in memory.stored() {
                 self.sides[place][side as usize] += 1;
             }
+        }
+    }
+
+    /// Counts the ties of an accepted job; of a call that orders nothing they are passed over.
+    pub fn add_ties(&mut self, call: &str, number: u8, ties: &Ties) {
+        let place = ORDERED.iter().position(|of| *of == call);
+        if let (Some(place), 0) = (place, number) {
+            let counts = self.ties[place].iter_mut().zip(ties);
+            counts.for_each(|(count, &is)| *count += u64::from(is));
         }
     }
 
@@ -144,6 +159,24 @@ impl Tally {
         }
     }
 
+    pub fn print_ties(&self) {
+        println!("| ties | {} |", ORDERED.join(" | "));
+        println!("|---|{}", "---:|".repeat(ORDERED.len()));
+        for (place, tie) in TIES.iter().enumerate() {
+            let counts = self.ties.map(|counts| counts[place].to_string());
+            println!("| {tie} | {} |", counts.join(" | "));
+        }
+    }
+
+    /// The ties that came too seldom.
+    fn tie_faults(&self) -> impl Iterator<Item = String> + '_ {
+        ORDERED.iter().zip(self.ties).flat_map(|(call, counts)| {
+            let seldom = TIES.iter().zip(counts).filter(|&(_, came)| came < SELDOM);
+            seldom
+                .map(move |(tie, came)| format!("{call}: a tie where {tie} came {came} times only"))
+        })
+    }
+
     /// The sides that came too seldom.
     fn side_faults(&self) -> impl Iterator<Item = String> + '_ {
         let lists = SIDES.iter().zip(self.sides);
@@ -166,10 +199,14 @@ impl Tally {
         })
     }
 
-    /// The answers that came too seldom though the call can give them, those that came though it cannot, and the kinds of jobs and the sides
-    /// that came too seldom.
+    /// The answers that came too seldom though the call can give them, those that came though it cannot, and the kinds of jobs, the sides and
+    /// the ties that came too seldom.
     pub fn faults(&self) -> Vec<String> {
-        let mut faults: Vec<String> = self.kind_faults().chain(self.side_faults()).collect();
+        let mut faults: Vec<String> = self
+            .kind_faults()
+            .chain(self.side_faults())
+            .chain(self.tie_faults())
+            .collect();
         for (call, numbers) in CAN_GIVE {
             for number in 0..=u8::MAX {
                 let came = self.count(call, number);
