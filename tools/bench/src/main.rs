@@ -128,7 +128,7 @@ fn other_rows<'a>(inputs: &'a Inputs, calls: &Calls) -> Vec<Row<'a>> {
         ("report, no shuffles", None, no_shuffles),
         ("report, refused at the last shuffle", None, refused_last),
         ("report, refused at the first count", None, refused_first),
-        ("hot list", None, cases::hot_list(job, calls.hot_list)),
+        ("hot list", Some(1.2), cases::hot_list(job, calls.hot_list)),
         ("join table", None, cases::join_table(job, calls.join_table)),
         ("gabriel", None, cases::gabriel(job, calls.gabriel)),
         ("bands", None, cases::bands(job, calls.bands)),
