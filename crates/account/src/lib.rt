@@ -94,8 +94,8 @@ pub fn local_numerators(
     ensures number { number_of result ≡ account_refusal n values.now weights.now locals.old }
     ensures lent { locals.new ≡ account_locals n values.now weights.now locals.old }
 {
-    let mut zones: [u8; 64] = [0; 64];
-    let kept = judging::judge_account(n, values, weights, locals.len(), &mut zones)?;
+    let mut space: [u8; 64] = [0; 64];
+    let kept = judging::judge_account(n, values, weights, locals.len(), &mut space)?;
     kept_zones::put_locals(&kept, locals);
     Ok(())
 }
