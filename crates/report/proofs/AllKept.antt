@@ -24,8 +24,8 @@ use Rattle.account.specs.Steps.{zones_locals}
 use Rattle.account.specs.declared.ClassRow.{ClassRow}
 use Rattle.account.proofs.Accepted.{rank_accepted}
 use Rattle.account.proofs.AllKept.{nothing_reduced, all_kept, all_spread, all_locals, all_class_row, all_rank}
-use Rattle.hot_list.specs.HotList.{falling, row_sum, hot_list}
-use Rattle.hot_list.proofs.HotTheorems.{hot_list_length, hot_list_each, hot_list_of_level}
+use Rattle.hot_list.specs.HotList.{falling, hot_list}
+use Rattle.hot_list.proofs.HotTheorems.{hot_list_length, hot_list_each, Level, hot_list_of_level}
 use Rattle.places.specs.Bands.{band_classes}
 use Rattle.coefficients.specs.Coefficients.{pair_of, class_pair}
 use Rattle.image.specs.Image.{Job, count, job_of, image_refusal}
@@ -38,12 +38,6 @@ use Rattle.report.specs.Text.{job_lines, local_lines, pair_lines, rank_line, cla
 use Rattle.report.specs.DocumentOne.{base_order, base_text}
 use Rattle.report.proofs.Classing.{band_classes_length}
 use Rattle.report.proofs.Listed.{class_text}
-
--- zones of equal numerators have equal row sums
-abbrev pub Level : ℕ → List ℤ → List ℕ → Type 0
-Level n values weights =
-    let locals = table (zones_local n values weights) n in
-    (j i : ℕ) → j < n → i < n → at locals i ≡ at locals j → row_sum n weights i ≡ row_sum n weights j
 
 module _ (n : ℕ) (values : List ℤ) (weights : List ℕ) (all : kept_count n (reduced n values weights) ≡ n) (values_fit : length values ≡ n)
     (weights_fit : length weights ≡ n * n) where
@@ -89,10 +83,7 @@ module _ (n : ℕ) (values : List ℤ) (weights : List ℕ) (all : kept_count n 
 
   -- the order of the zones is document 01's where of equal numerators the row sums are equal
   order_same : Level n values weights → hot_list n values weights ≡ ordered (falling (at (table (zones_local n values weights) n)) ltb) n
-  order_same level =
-      hot_list_of_level n values weights all
-      (rw (as_lent, numerators_same) (λ j i p q e f. level j i p q))
-      ∙ ap (λ l. ordered (falling (at l) ltb) n) numerators_same
+  order_same level = hot_list_of_level n values weights all level ∙ ap (λ l. ordered (falling (at l) ltb) n) numerators_same
 
   -- those of its classes
   module _ (places : List ℤ) (bands : List ℕ) where
