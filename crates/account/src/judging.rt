@@ -159,15 +159,17 @@ pub(super) fn judge_classes<'a>(
     Ok(kept)
 }
 
-// 1 to 7, then 13: the rank's refusal. The rows of the list of shuffles are judged before the job, and what they name after it.
+// 1 to 7, then 13 and 24: the rank's refusal. How many rows there are, and how many desk numbers, is judged before the job, and what they
+// name after it.
 pub(super) fn judge_rank<'a>(
     n: usize,
     values: &'a [i32],
     weights: &'a [u8],
     shuffles: &[u8],
+    desks: &[u8],
     zones: &'a mut [u8; 64],
 ) -> Result<KeptLists<'a>, Refusal>
-    ensures number { number_of result ≡ rank_refusal n values.now weights.now shuffles.now }
+    ensures number { number_of result ≡ rank_refusal n values.now weights.now shuffles.now desks.now }
     ensures job { IfOk result (λ kept. Judged n values.now weights.now kept.job.n kept.job.values.now kept.job.weights.now) }
 {
     judges::judge_lent(
@@ -178,7 +180,13 @@ pub(super) fn judge_rank<'a>(
         ],
     )?;
     shuffles::judge_rows(n, shuffles)?;
+    if desks.len() != shuffles.len() / n {
+        return Err(Refusal::Length);
+    }
     let kept = judge_job(n, values, weights, zones)?;
     shuffles::judge_shuffles(n, shuffles)?;
+    if judges::any_above(3, desks) {
+        return Err(Refusal::Desk);
+    }
     Ok(kept)
 }

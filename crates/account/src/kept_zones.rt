@@ -6,7 +6,7 @@ ghost use Rattle.std.specs.Prelude.{◌≡◌, ◌*◌, length};
 ghost use Rattle.whole.specs.Table.{table};
 ghost use Rattle.account.specs.Answers.{listed, job_figures, job_locals};
 ghost use Rattle.account.specs.Classes.{class_sums, class_locals_of};
-ghost use Rattle.account.specs.Rank.{three};
+ghost use Rattle.account.specs.Rank.{twelve};
 ghost use Rattle.account.specs.Steps.{Classed, gathered, gathered_pairs, place_in, ranked};
 
 use crate::keeping::KeptLists;
@@ -208,11 +208,12 @@ pub(super) fn work_classes<'a>(
     gathered_classes(kept, classes, rows, class_locals, locals)
 }
 
-// The rank of a job some of whose zones are left out.
-fn gathered_rank(kept: &KeptLists, shuffles: &ShuffleRows) -> Counts
+// The rank of a job some of whose zones are left out, by desk.
+fn gathered_rank(kept: &KeptLists, shuffles: &ShuffleRows) -> [Counts; 4]
     requires { shuffles.now.n ≡ kept.now.job.n }
-    ensures { three result
-        ≡ ranked kept.now.job.n kept.now.job.values.now kept.now.job.weights.now shuffles.now.rows shuffles.now.shuffles.now }
+    ensures { twelve result
+        ≡ ranked kept.now.job.n kept.now.job.values.now kept.now.job.weights.now shuffles.now.rows shuffles.now.shuffles.now
+        shuffles.now.desks.now }
 {
     let mut room = Room::new();
     let gathered = gather(kept, &mut room);
@@ -225,16 +226,18 @@ fn gathered_rank(kept: &KeptLists, shuffles: &ShuffleRows) -> Counts
     let kept_rows = ShuffleRows {
         n: many,
         shuffles: kept_shuffles,
+        desks: shuffles.desks,
         rows,
     };
     ranking::zone_rank(&gathered.job, &kept_rows)
 }
 
-// The rank of a job.
-pub(super) fn work_rank(kept: &KeptLists, shuffles: &ShuffleRows) -> Counts
+// The rank of a job, by desk.
+pub(super) fn work_rank(kept: &KeptLists, shuffles: &ShuffleRows) -> [Counts; 4]
     requires { shuffles.now.n ≡ kept.now.job.n }
-    ensures { three result
-        ≡ ranked kept.now.job.n kept.now.job.values.now kept.now.job.weights.now shuffles.now.rows shuffles.now.shuffles.now }
+    ensures { twelve result
+        ≡ ranked kept.now.job.n kept.now.job.values.now kept.now.job.weights.now shuffles.now.rows shuffles.now.shuffles.now
+        shuffles.now.desks.now }
 {
     let KeptLists { job, zones } = *kept;
     if zones.len() == job.n {

@@ -59,7 +59,7 @@ pub struct ClassRow {
     pub squares: i64,
 }
 
-// How many shuffles have a P that compares so with the job's own.
+// How many shuffles of a desk have a P that compares so with the job's own.
 #[derive(Clone, Copy)]
 pub struct Counts {
     pub less: usize,
@@ -144,15 +144,26 @@ pub fn class_account(
     ))
 }
 
-// Counts the shuffles whose P is less than, equal to and greater than the job's own, which is not counted itself. `shuffles` has a row
-// of n zone numbers for each, 0 to 499 of them: the zones kept take, in order, the values of the kept zones that it names.
-pub fn rank(n: usize, values: &[i32], weights: &[u8], shuffles: &[u8]) -> Result<Counts, Refusal>
-    ensures number { number_of result ≡ rank_refusal n values.now weights.now shuffles.now }
-    ensures counts { counts_of result ≡ rank_counts n values.now weights.now shuffles.now }
+// Counts, for each of the desks 0 to 3, its shuffles whose P is less than, equal to and greater than the job's own, which is not counted
+// itself. `shuffles` has a row of n zone numbers for each, 0 to 499 of them: the zones kept take, in order, the values of the kept zones
+// that it names. `desks` has a desk number for each row.
+pub fn rank(
+    n: usize,
+    values: &[i32],
+    weights: &[u8],
+    shuffles: &[u8],
+    desks: &[u8],
+) -> Result<[Counts; 4], Refusal>
+    ensures number { number_of result ≡ rank_refusal n values.now weights.now shuffles.now desks.now }
+    ensures counts { counts_of result ≡ rank_counts n values.now weights.now shuffles.now desks.now }
 {
     let mut zones: [u8; 64] = [0; 64];
-    let kept = judging::judge_rank(n, values, weights, shuffles, &mut zones)?;
-    let rows = shuffles.len() / n;
-    let lent = ShuffleRows { n, shuffles, rows };
+    let kept = judging::judge_rank(n, values, weights, shuffles, desks, &mut zones)?;
+    let lent = ShuffleRows {
+        n,
+        shuffles,
+        desks,
+        rows: desks.len(),
+    };
     Ok(kept_zones::work_rank(&kept, &lent))
 }

@@ -5,7 +5,7 @@ ghost use Rattle.whole.specs.Order.{lacks};
 ghost use Rattle.whole.specs.Table.{table, at};
 ghost use Rattle.shuffles.specs.Steps.{Shuffles};
 ghost use Rattle.account.specs.Measures.{total_of, deviation_of};
-ghost use Rattle.account.specs.Steps.{Sized, Valued, Weighted, Job, Lent, ClassJob};
+ghost use Rattle.account.specs.Steps.{Sized, Valued, Weighted, Job, Lent, ClassJob, Desked};
 
 use crate::deviations;
 
@@ -92,13 +92,15 @@ pub(super) struct ShuffleRow<'a> {
     ghost full: { lacks (λ i. get_or zones.now i 0) (length zones.now) ≡ false },
 }
 
-// A list of shuffles, so many rows of n.
+// A list of shuffles, so many rows of n, with the desk number of each.
 #[derive(Clone, Copy)]
 pub(super) struct ShuffleRows<'a> {
     pub(super) n: usize,
     pub(super) shuffles: &'a [u8],
+    pub(super) desks: &'a [u8],
     pub(super) rows: usize,
     ghost good: { Shuffles shuffles.now n rows },
+    ghost desked: { Desked desks.now rows },
 }
 
 impl ShuffleRows<'_> {

@@ -1,9 +1,9 @@
-// The rank's work on zones all of which count: S, d and their own P are worked once, then the P of each shuffle.
-ghost use Rattle.std.specs.Prelude.{◌≡◌, length, get_or};
+// The rank's work on zones all of which count: S, d and their own P are worked once, then the P of each shuffle, whatever its desk.
+ghost use Rattle.std.specs.Prelude.{◌≡◌, ◌≤◌, length, get_or};
 ghost use Rattle.whole.specs.Table.{at, pair_at};
 ghost use Rattle.account.specs.Measures.{cross_of};
-ghost use Rattle.account.specs.Rank.{shuffled, compared, zones_rank, three};
-ghost use Rattle.account.specs.Steps.{cross_held, cross_moved};
+ghost use Rattle.account.specs.Rank.{shuffled, compared_of, of_desk, zones_desk, three, four, twelve};
+ghost use Rattle.account.specs.Steps.{cross_held, cross_moved, more};
 
 use crate::lists::{JobLists, ShuffleRow, ShuffleRows, Weighed};
 use crate::{Counts, deviations, shuffling};
@@ -39,39 +39,68 @@ pub(super) fn shuffle_cross(weighed: &Weighed, row: &ShuffleRow) -> i64
     })
 }
 
-// How many shuffles have a P less than, equal to, greater than the job's own.
-pub(super) fn tally(weighed: &Weighed, shuffles: &ShuffleRows) -> Counts
+// The counts with one shuffle more, whose P compares so.
+fn counted(counts: Counts, order: Ordering) -> Counts
+    requires less_bound { counts.less ≤ 498 }
+    requires equal_bound { counts.equal ≤ 498 }
+    requires greater_bound { counts.greater ≤ 498 }
+    ensures { result ≡ more counts order }
+{
+    let Counts {
+        less,
+        equal,
+        greater,
+    } = counts;
+    match order {
+        Ordering::Less => Counts {
+            less: less + 1,
+            equal,
+            greater,
+        },
+        Ordering::Equal => Counts {
+            less,
+            equal: equal + 1,
+            greater,
+        },
+        Ordering::Greater => Counts {
+            less,
+            equal,
+            greater: greater + 1,
+        },
+    }
+}
+
+// Of each desk, how many of its shuffles have a P less than, equal to, greater than the job's own.
+pub(super) fn tally(weighed: &Weighed, shuffles: &ShuffleRows) -> [Counts; 4]
     requires { shuffles.now.n ≡ weighed.now.n }
-    ensures { three result
-        ≡ compared (cross_moved weighed.now.weights.now weighed.now.n weighed.now.d.now shuffles.now.shuffles.now)
-        (cross_held weighed.now.weights.now weighed.now.n weighed.now.d.now) shuffles.now.rows }
+    ensures { twelve result
+        ≡ four (λ k. compared_of (of_desk shuffles.now.desks.now k)
+        (cross_moved weighed.now.weights.now weighed.now.n weighed.now.d.now shuffles.now.shuffles.now)
+        (cross_held weighed.now.weights.now weighed.now.n weighed.now.d.now) shuffles.now.rows) }
 {
     let own = cross_sum(weighed);
-    let mut less: usize = 0;
-    let mut equal: usize = 0;
-    let mut greater: usize = 0;
+    let none = Counts {
+        less: 0,
+        equal: 0,
+        greater: 0,
+    };
+    let mut counts: [Counts; 4] = [none; 4];
     // by r: chunks_exact is no plainer, as it wants an n above 0, which each caller would have to show for a loop that is no shorter
     for r in 0..shuffles.rows {
         let row = shuffles.shuffle(r);
         let cross = shuffle_cross(weighed, &row);
-        match cross.cmp(&own) {
-            Ordering::Less => less += 1,
-            Ordering::Equal => equal += 1,
-            Ordering::Greater => greater += 1,
-        }
+        let desk = usize::from(shuffles.desks[r]);
+        counts[desk] = counted(counts[desk], cross.cmp(&own));
     }
-    Counts {
-        less,
-        equal,
-        greater,
-    }
+    counts
 }
 
-// The rank of n zones.
-pub(super) fn zone_rank(job: &JobLists, shuffles: &ShuffleRows) -> Counts
+// The rank of n zones, by desk.
+pub(super) fn zone_rank(job: &JobLists, shuffles: &ShuffleRows) -> [Counts; 4]
     requires { shuffles.now.n ≡ job.now.n }
-    ensures { three result
-        ≡ zones_rank shuffles.now.rows job.now.n job.now.values.now job.now.weights.now shuffles.now.shuffles.now }
+    ensures { twelve result
+        ≡ four (zones_desk shuffles.now.rows job.now.n job.now.values.now job.now.weights.now shuffles.now.shuffles.now
+        shuffles.now.desks.now) }
 {
     let JobLists { n, weights, .. } = *job;
     let summed = job.summed();

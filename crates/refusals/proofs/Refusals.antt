@@ -3,14 +3,14 @@ use Rattle.std.proofs.Common.{◌≡◌, refl, sym, ap, ◌∙◌, ℕ, List, []
 use Rattle.whole.specs.Rules.{unless_refused}
 use Rattle.whole.proofs.Rules.{kept_when_refused, worked_when_taken}
 use Rattle.refusals.specs.declared.Refusal.{Refusal}
-use Rattle.refusals.specs.declared.Refusal.TheVariants.{Zones, Length, Value, Weight, Diagonal, Weightless, Spreadless, Category, Class, Coordinate, Place, Bands, Shuffle, Cut, Count, Joins, Trailing, Ratio, Output}
+use Rattle.refusals.specs.declared.Refusal.TheVariants.{Zones, Length, Value, Weight, Diagonal, Weightless, Spreadless, Category, Class, Coordinate, Place, Bands, Shuffle, Cut, Count, Joins, Trailing, Ratio, Output, Desk}
 use Rattle.refusals.specs.Refusals.{number_by}
 
 -- ---- a cause is known by its number
 causes : List Refusal
 causes =
     Zones ∷ Zones ∷ Length ∷ Value ∷ Weight ∷ Diagonal ∷ Weightless ∷ Spreadless ∷ Category ∷ Class ∷ Coordinate ∷ Place ∷ Bands ∷ Shuffle
-    ∷ Cut ∷ Count ∷ Joins ∷ Trailing ∷ Ratio ∷ Output ∷ []
+    ∷ Cut ∷ Count ∷ Joins ∷ Trailing ∷ Ratio ∷ Output ∷ Zones ∷ Zones ∷ Zones ∷ Zones ∷ Desk ∷ []
 
 by_place : ℕ → Refusal
 by_place k = get_or causes k Zones
@@ -36,6 +36,7 @@ found_by_place Joins = refl
 found_by_place Trailing = refl
 found_by_place Ratio = refl
 found_by_place Output = refl
+found_by_place Desk = refl
 
 pub cause_unique : (a b : Refusal) → number_by a ≡ number_by b → a ≡ b
 cause_unique a b e = sym (found_by_place a) ∙ ap by_place e ∙ found_by_place b

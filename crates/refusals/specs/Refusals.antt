@@ -1,7 +1,7 @@
 -- Why a call is refused, and by which number: the causes are the cases of the enum. Assumes nothing.
 use Rattle.std.specs.Prelude.{ℕ, Result, Ok, Err}
 use Rattle.refusals.specs.declared.Refusal.{Refusal}
-use Rattle.refusals.specs.declared.Refusal.TheVariants.{Zones, Length, Value, Weight, Diagonal, Weightless, Spreadless, Category, Class, Coordinate, Place, Bands, Shuffle, Cut, Count, Joins, Trailing, Ratio, Output}
+use Rattle.refusals.specs.declared.Refusal.TheVariants.{Zones, Length, Value, Weight, Diagonal, Weightless, Spreadless, Category, Class, Coordinate, Place, Bands, Shuffle, Cut, Count, Joins, Trailing, Ratio, Output, Desk}
 
 -- the number of a cause
 abbrev pub number_by : Refusal → ℕ
@@ -24,6 +24,7 @@ number_by Joins = 16
 number_by Trailing = 17
 number_by Ratio = 18
 number_by Output = 19
+number_by Desk = 24
 
 -- the number of an answer, 0 where nothing is refused
 abbrev pub number_of : {A : Type 0} → Result A Refusal → ℕ

@@ -45,6 +45,8 @@ pub enum Refusal {
     Ratio = 18,
     // the output is shorter than the image
     Output = 19,
+    // a desk number above 3
+    Desk = 24,
 }
 
 // The number of a cause.

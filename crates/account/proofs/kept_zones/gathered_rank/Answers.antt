@@ -42,6 +42,7 @@ invariant_of-kept_rows c =
       good = rw g.n
           (gathered_shuffles k.job.n (counting k.job) k.zones.now k.kept s.rows s.shuffles.now (of_zones c.requires s.good) _ g.places _
           (rw (sym g.n, sym c.requires) c.keep_rows.ensures));
+      desked = s.desked;
     }
 
 pub returns : goal.returns
@@ -50,5 +51,5 @@ returns c =
     let s = c.args.shuffles.now in
     let g = c.gather-gathered.ensures in
     rank_kept k.job.n k.job.values.now k.job.weights.now k.zones.now k.kept _ _ g.values g.weights s.rows s.shuffles.now
-    (of_zones c.requires s.good) _ g.places c.keep_rows.new.out (rw (sym g.n, sym c.requires) c.keep_rows.ensures) _
+    (of_zones c.requires s.good) _ g.places c.keep_rows.new.out (rw (sym g.n, sym c.requires) c.keep_rows.ensures) s.desks.now _
     (rw (sym g.n) c.zone_rank.ensures)

@@ -11,5 +11,5 @@ returns-then-zones-job c =
     let s = c.args.shuffles.now in
     let all = sym (zones_count job.n (reduced job.n job.values.now job.weights.now) k.zones.now k.kept) ∙ c.if-zones-job.true in
     let w = c.whole.ensures in
-    rank_of_all job.n job.values.now job.weights.now all job.good s.rows s.shuffles.now (of_zones c.requires s.good) _
+    rank_of_all job.n job.values.now job.weights.now all job.good s.rows s.shuffles.now (of_zones c.requires s.good) s.desks.now _
     (rw (sym w.n, sym w.values, sym w.weights) c.zone_rank.ensures)

@@ -9,11 +9,11 @@ use Rattle.whole.specs.Table.{table, at, pair_at}
 use Rattle.whole.proofs.Lists.{front}
 use Rattle.whole.proofs.Table.{table_length}
 use Rattle.account.specs.Measures.{deviation_of}
-use Rattle.account.specs.Rank.{values_cross, shuffle_cross, compared, zones_rank}
+use Rattle.account.specs.Rank.{compared_of, of_desk, zones_desk, four}
 use Rattle.account.specs.Steps.{cross_held, cross_moved}
 use Rattle.account.proofs.Locals.{summed_alike, deviations_sized}
 use Rattle.account.proofs.Shuffled.{own_cross, its_cross}
-use Rattle.account.proofs.Tallied.{compared_cong}
+use Rattle.account.proofs.Tallied.{four_cong, compared_cong}
 use Rattle.account.proofs.ranking.zone_rank.Goals as goal
 use Rattle.account.proofs.ranking.zone_rank.Goals.{After-deviations, Start}
 
@@ -36,17 +36,20 @@ module _ (c : After-deviations) where
       (d : List ℤ) → d ≡ expected →
       let g = a.args in
       let s = g.shuffles.now in
-      compared (cross_moved g.job.now.weights.now g.job.now.n d s.shuffles.now) (cross_held g.job.now.weights.now g.job.now.n d) s.rows
-      ≡ compared (shuffle_cross g.job.now.n g.job.now.values.now g.job.now.weights.now s.shuffles.now)
-      (values_cross g.job.now.n g.job.now.weights.now (at g.job.now.values.now))
-      s.rows
+      four
+      (λ k. compared_of (of_desk s.desks.now k) (cross_moved g.job.now.weights.now g.job.now.n d s.shuffles.now)
+      (cross_held g.job.now.weights.now g.job.now.n d)
+      s.rows)
+      ≡ four (zones_desk s.rows g.job.now.n g.job.now.values.now g.job.now.weights.now s.shuffles.now s.desks.now)
+  unfolding zones_desk
   same d e =
       let g = a.args in
       let s = g.shuffles.now in
-      compared_cong _ _ _ _ s.rows
+      four_cong _ _
+      (λ k l. compared_cong (of_desk s.desks.now k) _ _ _ _ s.rows
       (λ r h. its_cross g.job.now.values.now g.job.now.weights.now g.job.now.n d e s.shuffles.now r
       (ap (λ (m : ℕ). lacks (pair_at s.shuffles.now m r) m) (sym a.requires) ∙ s.good.full r h))
-      (own_cross g.job.now.values.now g.job.now.weights.now g.job.now.n d e)
+      (own_cross g.job.now.values.now g.job.now.weights.now g.job.now.n d e))
 
 pub invariant_of-weighed : goal.invariant_of-weighed
 invariant_of-weighed c =
@@ -58,7 +61,6 @@ invariant_of-weighed c =
     }
 
 pub returns : goal.returns
-unfolding zones_rank
 returns c =
     let after_deviations = (goal.at.returns c).After-deviations in
     c.tally.ensures ∙ same after_deviations _ (front {A = ℤ} _ _ (expected after_deviations) _ (told after_deviations) (as_long after_deviations))
