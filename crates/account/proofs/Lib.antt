@@ -26,4 +26,5 @@ pub mod ClassAnswered
 pub mod Theorems
 pub mod ClassTheorems
 pub mod RankTheorems
+pub mod DeskTheorems
 pub mod Papers

@@ -23,6 +23,14 @@ besides false true c d e = refl
 besides false false true d e = refl
 besides false false false d e = e
 
+-- it and two others
+behind : (a b c d g : Bool) → (a || (b || (g || false))) ≡ true → (a || (b || (c || (d || (g || false))))) ≡ true
+behind true b c d g e = refl
+behind false true c d g e = refl
+behind false false true d g e = refl
+behind false false false true g e = refl
+behind false false false false g e = e
+
 -- where a list does not fit, it and others do not
 pub among : (a b c g : Bool) (others : Bool) → (a || (b || (g || false))) ≡ true → (a || (b || (c || (g || others)))) ≡ true
 among true b c g others e = refl
@@ -77,20 +85,26 @@ module _ (n : ℕ) (values : List ℤ) (weights : List ℕ) where
     unfolding account_number account_refusal account_rules
     account_below = then_below (length sums) 7 (length locals) n []
 
-  module _ (shuffles counts : List ℕ) where
-    abbrev thirteen : List Rule
-    thirteen = (any_lacking n shuffles, 13) ∷ []
+  module _ (shuffles desks counts : List ℕ) where
+    abbrev rows : ℕ
+    rows = shuffle_count n (length shuffles)
 
-    abbrev whole_rows : ℕ
-    whole_rows = shuffle_count n (length shuffles) * n
+    pub rank_sizes : (r : ℕ) → r ≡ own (length counts) 12 → (r ≡ 0 → ⊥) → r ≡ rank_number n values weights shuffles desks counts
+    unfolding rank_number call_rules
+    rank_sizes r e f =
+        sizes_first n ((length values, n) ∷ (length weights, n * n) ∷ (length counts, 12) ∷ [])
+        (job_lengths n (length values) (length weights) ((length shuffles, rows * n) ∷ (length desks, rows) ∷ (length counts, 12) ∷ []))
+        (job_rules n values weights ++ ((any_lacking n shuffles, 13) ∷ (any_above 3 desks, 24) ∷ []))
+        r
+        (behind (not (eqb (length values) n)) (not (eqb (length weights) (n * n))) (not (eqb (length shuffles) (rows * n)))
+        (not (eqb (length desks) rows))
+        (not (eqb (length counts) 12)))
+        e f
 
-    pub rank_sizes : (r : ℕ) → r ≡ own (length counts) 3 → (r ≡ 0 → ⊥) → r ≡ rank_number n values weights shuffles counts
-    unfolding rank_number
-    rank_sizes = sizes_number (length counts) 3 (length shuffles) whole_rows thirteen
-
-    pub rank_below : own (length counts) 3 ≡ 0 → rank_number n values weights shuffles counts ≡ rank_refusal n values weights shuffles
-    unfolding rank_number rank_refusal rank_rules
-    rank_below = then_below (length counts) 3 (length shuffles) whole_rows thirteen
+    pub rank_below :
+        own (length counts) 12 ≡ 0 → rank_number n values weights shuffles desks counts ≡ rank_refusal n values weights shuffles desks
+    unfolding rank_number rank_refusal rank_rules call_rules
+    rank_below e = rw (eq-eqb (length counts) 12 (own_fits (length counts) 12 e)) refl
 
   module _ (classes : List ℕ) (rows locals : List ℤ) where
     pub class_sizes : (r : ℕ) → r ≡ own (length rows) 27 → (r ≡ 0 → ⊥) → r ≡ class_number n values weights classes rows locals

@@ -2,10 +2,11 @@
 -- judged with the others'; the class account answers its number alone. Every other call is the one of its own crate. Assumes nothing.
 use Rattle.std.specs.Prelude.{List, [], ◌∷◌, ℕ, ◌*◌, ℤ, length}
 use Rattle.whole.specs.Rules.{first_broken, unless_refused}
+use Rattle.whole.specs.Search.{any_above}
 use Rattle.shuffles.specs.Shuffles.{shuffle_count, any_lacking}
 use Rattle.account.specs.Answers.{job_figures, job_locals}
 use Rattle.account.specs.Classes.{class_sums, class_locals_of, class_rules}
-use Rattle.account.specs.Rank.{job_rank}
+use Rattle.account.specs.Rank.{desk_ranks}
 use Rattle.account.specs.Refusals.{call_rules}
 
 module _ (n : ℕ) (values : List ℤ) (weights : List ℕ) where
@@ -36,15 +37,17 @@ module _ (n : ℕ) (values : List ℤ) (weights : List ℕ) where
   unfoldable pub class_locals_after : List ℕ → List ℤ → List ℤ → List ℤ
   class_locals_after classes rows locals = unless_refused (class_number classes rows locals) (class_locals_of n values weights classes) locals
 
-  -- ---- dca_rank: three counts are lent
+  -- ---- dca_rank: twelve counts are lent
 
-  -- 1 to 7, then 13; 0 where no rule is broken
-  unfoldable pub rank_number : List ℕ → List ℕ → ℕ
-  rank_number shuffles counts =
+  -- 1 to 7, then 13 and 24; 0 where no rule is broken
+  unfoldable pub rank_number : List ℕ → List ℕ → List ℕ → ℕ
+  rank_number shuffles desks counts =
+      let rows = shuffle_count n (length shuffles) in
       first_broken
-      (call_rules n values weights ((length shuffles, shuffle_count n (length shuffles) * n) ∷ (length counts, 3) ∷ [])
-      ((any_lacking n shuffles, 13) ∷ []))
+      (call_rules n values weights ((length shuffles, rows * n) ∷ (length desks, rows) ∷ (length counts, 12) ∷ [])
+      ((any_lacking n shuffles, 13) ∷ (any_above 3 desks, 24) ∷ []))
 
-  -- less, equal, greater after the call
-  unfoldable pub rank_after : List ℕ → List ℕ → List ℕ
-  rank_after shuffles counts = unless_refused (rank_number shuffles counts) (job_rank n values weights shuffles) counts
+  -- less, equal, greater of desk 0, of desk 1, .. after the call
+  unfoldable pub rank_after : List ℕ → List ℕ → List ℕ → List ℕ
+  rank_after shuffles desks counts =
+      unless_refused (rank_number shuffles desks counts) (desk_ranks n values weights shuffles desks) counts

@@ -131,38 +131,42 @@ fn rank_into(
     values: &[i32],
     weights: &[u8],
     shuffles: &[u8],
+    desks: &[u8],
     counts: &mut [u64],
 ) -> Result<(), Refusal>
-    ensures number { number_of result ≡ rank_number n values.now weights.now shuffles.now counts.old }
-    ensures lent { counts.new
-        ≡ rank_after n values.now weights.now shuffles.now counts.old }
+    ensures number { number_of result ≡ rank_number n values.now weights.now shuffles.now
+        desks.now counts.old }
+    ensures lent { counts.new ≡ rank_after n values.now weights.now shuffles.now
+        desks.now counts.old }
 {
     judges::judge_lent(
         n,
         &[
             (values.len(), Places::Zones),
             (weights.len(), Places::Pairs),
-            (counts.len(), Places::Fixed(3)),
+            (counts.len(), Places::Fixed(12)),
         ],
     )?;
-    let three = account::rank(n, values, weights, shuffles)?;
-    storing::put_rank(three, counts);
+    let ranks = account::rank(n, values, weights, shuffles, desks)?;
+    storing::put_ranks(ranks, counts);
     Ok(())
 }
 
-// Of 0 to 499 shuffles, a row of n zone numbers each, the numbers of those whose P is less than, equal to and greater than the job's own
-// go to `counts`, 3 places.
+// Of 0 to 499 shuffles, a row of n zone numbers each, with a desk number 0 to 3 each, the numbers of desk 0's whose P is less than, equal to
+// and greater than the job's own, then those of desk 1, of desk 2 and of desk 3, go to `counts`, 12 places.
 #[unsafe(no_mangle)]
 pub extern "C" fn dca_rank(
     n: usize,
     values: &[i32],
     weights: &[u8],
     shuffles: &[u8],
+    desks: &[u8],
     counts: &mut [u64],
 ) -> u8
-    ensures number { result ≡ rank_number n values.now weights.now shuffles.now counts.old }
-    ensures lent { counts.new
-        ≡ rank_after n values.now weights.now shuffles.now counts.old }
+    ensures number { result ≡ rank_number n values.now weights.now shuffles.now
+        desks.now counts.old }
+    ensures lent { counts.new ≡ rank_after n values.now weights.now shuffles.now
+        desks.now counts.old }
 {
-    refusals::number_of(rank_into(n, values, weights, shuffles, counts))
+    refusals::number_of(rank_into(n, values, weights, shuffles, desks, counts))
 }

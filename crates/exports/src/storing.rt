@@ -4,7 +4,7 @@
 ghost use Rattle.std.specs.Prelude.{◌≡◌, [], ◌∷◌, ◌+◌, ◌*◌, ◌≤◌, ◌<◌, length, get_or};
 ghost use Rattle.whole.specs.Table.{table};
 ghost use Rattle.account.specs.Answers.{listed};
-ghost use Rattle.account.specs.Rank.{three};
+ghost use Rattle.account.specs.Rank.{twelve};
 ghost use Rattle.reader.specs.Answers.{six};
 ghost use Rattle.coefficients.specs.FloatReport.{no_pair};
 ghost use Rattle.coefficients.specs.Steps.{Readable, ReadablePair, ReadablePairs};
@@ -38,13 +38,27 @@ pub(super) fn put_sums(account: Sums, sums: &mut [i64])
     ]);
 }
 
-// Less, equal, greater.
-pub(super) fn put_rank(rank: Counts, counts: &mut [u64])
-    requires { length counts.old ≡ 3 }
-    ensures { counts.new ≡ three rank }
+// Less, equal, greater of desk 0, then of desk 1, of desk 2, of desk 3.
+pub(super) fn put_ranks(ranks: [Counts; 4], counts: &mut [u64])
+    requires { length counts.old ≡ 12 }
+    ensures { counts.new ≡ twelve ranks }
 {
+    let [zero, one, two, three] = ranks;
     // no From leads here from a usize; TryFrom and an unwrap is no plainer
-    counts.copy_from_slice(&[rank.less as u64, rank.equal as u64, rank.greater as u64]);
+    counts.copy_from_slice(&[
+        zero.less as u64,
+        zero.equal as u64,
+        zero.greater as u64,
+        one.less as u64,
+        one.equal as u64,
+        one.greater as u64,
+        two.less as u64,
+        two.equal as u64,
+        two.greater as u64,
+        three.less as u64,
+        three.equal as u64,
+        three.greater as u64,
+    ]);
 }
 
 // The numbers of values, categories, joins, places, bands and shuffles.

@@ -11,39 +11,39 @@ use Rattle.exports.proofs.jobs.rank_into.Goals.{In_ok-judge_lent}
 
 module _ (c : In_ok-judge_lent) where
   -- the sizes are good, those of the list of counts among them
-  fit : own c.args.n c.args.values.now c.args.weights.now (length c.args.counts.now) 3 ≡ 0
+  fit : own c.args.n c.args.values.now c.args.weights.now (length c.args.counts.now) 12 ≡ 0
   fit = sym c.in_ok-judge_lent.ensures
 
   -- so that the rank's number is the call's
   below :
-      rank_refusal c.args.n c.args.values.now c.args.weights.now c.args.shuffles.now
-      ≡ rank_number c.args.n c.args.values.now c.args.weights.now c.args.shuffles.now c.args.counts.now
-  below = sym (rank_below _ _ _ _ _ fit)
+      rank_refusal c.args.n c.args.values.now c.args.weights.now c.args.shuffles.now c.args.desks.now
+      ≡ rank_number c.args.n c.args.values.now c.args.weights.now c.args.shuffles.now c.args.desks.now c.args.counts.now
+  below = sym (rank_below _ _ _ _ _ _ fit)
 
 pub returns-in_err-judge_lent : goal.returns-in_err-judge_lent
 unfolding rank_after
 returns-in_err-judge_lent c =
     let p = err_from_is_err_and c.from_residual.result c.from_residual.ensures.1 in
     let a = c.args in
-    let e = rank_sizes a.n a.values.now a.weights.now a.shuffles.now a.counts.now _ c.in_err-judge_lent.ensures (not_refused _) in
+    let e = rank_sizes a.n a.values.now a.weights.now a.shuffles.now a.desks.now a.counts.now _ c.in_err-judge_lent.ensures (not_refused _) in
     rw (p.1, p.2) (record { number = e; lent = sym (left_by _ _ _ _ e) })
 
-pub returns-in_err-three : goal.returns-in_err-three
+pub returns-in_err-ranks : goal.returns-in_err-ranks
 unfolding rank_after
-returns-in_err-three c =
-    let p = err_from_is_err_and c.from_residual-in_err-three.result c.from_residual-in_err-three.ensures.1 in
-    let e = c.in_err-three.ensures.number ∙ below ((goal.at.returns-in_err-three c).In_ok-judge_lent) in
+returns-in_err-ranks c =
+    let p = err_from_is_err_and c.from_residual-in_err-ranks.result c.from_residual-in_err-ranks.ensures.1 in
+    let e = c.in_err-ranks.ensures.number ∙ below ((goal.at.returns-in_err-ranks c).In_ok-judge_lent) in
     rw (p.1, p.2) (record { number = e; lent = sym (left_by _ _ _ _ e) })
 
-pub put_rank-requires : goal.put_rank-requires
-put_rank-requires c =
-    let a = c.args in own_fits a.n a.values.now a.weights.now _ 3 (fit ((goal.at.put_rank-requires c).In_ok-judge_lent))
+pub put_ranks-requires : goal.put_ranks-requires
+put_ranks-requires c =
+    let a = c.args in own_fits a.n a.values.now a.weights.now _ 12 (fit ((goal.at.put_ranks-requires c).In_ok-judge_lent))
 
 pub returns : goal.returns
 unfolding counts_of rank_counts rank_after
 returns c =
-    let told = c.in_ok-three.ensures in
+    let told = c.in_ok-ranks.ensures in
     let z = told.number ∙ below ((goal.at.returns c).In_ok-judge_lent) in record {
       number = z;
-      lent = c.put_rank.ensures ∙ told.counts ∙ worked_by _ _ _ told.number ∙ sym (worked_by _ _ _ z);
+      lent = c.put_ranks.ensures ∙ told.counts ∙ worked_by _ _ _ told.number ∙ sym (worked_by _ _ _ z);
     }
