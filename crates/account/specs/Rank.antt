@@ -6,9 +6,9 @@ use Rattle.std.specs.Int.Signed.{lt_z}
 use Rattle.whole.specs.Integer.{equal}
 use Rattle.whole.specs.Rules.{Rule, first_broken, unless_refused}
 use Rattle.whole.specs.Search.{count, any_above}
-use Rattle.whole.specs.Table.{at, pair_at}
+use Rattle.whole.specs.Table.{table_rows, at, pair_at}
 use Rattle.refusals.specs.declared.Refusal.{Refusal}
-use Rattle.kept.specs.Kept.{kept_count, kept_values, kept_pairs, kept_shuffles}
+use Rattle.kept.specs.Kept.{passing, kept_count, kept_values, kept_pairs, kept_shuffles}
 use Rattle.kept.specs.Returned.{reduced}
 use Rattle.shuffles.specs.Shuffles.{shuffle_count, any_lacking}
 use Rattle.account.specs.Measures.{deviation_of, cross_of}
@@ -70,6 +70,12 @@ desk_rank n values weights shuffles desks k =
     let rows = shuffle_count n (length shuffles) in
     let w = reduced n values weights in
     zones_desk rows (kept_count n w) (kept_values n w values) (kept_pairs n w w) (kept_shuffles n w rows shuffles) desks k
+
+-- the rows of the shuffles of desk k alone, in their order
+unfoldable pub desk_rows : ℕ → List ℕ → List ℕ → ℕ → List ℕ
+desk_rows n shuffles desks k =
+    let own = passing (of_desk desks k) (shuffle_count n (length shuffles)) in
+    table_rows (λ q. pair_at shuffles n (get_or own q 0)) (length own) n
 
 -- what desk 0, 1, 2 and 3 have, one after another
 abbrev pub four : (ℕ → List ℕ) → List ℕ

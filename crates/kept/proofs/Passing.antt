@@ -1,14 +1,14 @@
 -- Laws of `passing`, the numbers below n that pass a test, rising: how many they are, which number stands at a place and at which place a
 -- number stands, a sum over them, and where all pass. Assumes nothing.
 use mathlib.Core.Path.{◌≡◌, refl, sym, ap, ◌∙◌, subst}
-use mathlib.Core.Bool.{Bool, true, false, cond}
+use mathlib.Core.Bool.{Bool, true, false, cond, ◌&&◌}
 use mathlib.Core.List.{List, [], ◌∷◌, ◌++◌, append-nil}
 use Prim.Native.Nat.{ℕ, zero, suc, ◌+◌, ◌<◌}
 use native.Mathlib.Nat as N
 use native.Mathlib.Decide.{ℕ_discrete, dec_lt}
 use native.Mathlib.Numerals.{add-one}
 use native.Mathlib.Omega.{arith}
-use lib.IntN.{ℤ, pos, ◌+ℤ◌, +ℤ_idr}
+use lib.IntN.{ℤ, pos, nat_abs, ◌+ℤ◌, +ℤ_idr}
 use lib.ListN.{length, get_or, length-append, get_or-append}
 use lib.Seq.{get_or_at}
 use Rattle.whole.specs.Search.{count}
@@ -156,7 +156,28 @@ unfolding passing
 passing_cong a b zero h = refl
 passing_cong a b (suc n) h = rw (passing_cong a b n (λ k p. h k (omega arith)), h n (omega arith)) refl
 
+-- where none passes
+pub passing_none : (test : ℕ → Bool) (n : ℕ) → ((i : ℕ) → i < n → test i ≡ false) → passing test n ≡ []
+unfolding passing
+passing_none test zero h = refl
+passing_none test (suc n) h = rw (passing_none test n (λ i p. h i (omega arith)), h n (omega arith)) refl
+
 -- a count is a sum of ones
 pub count_ones : (test : ℕ → Bool) (n : ℕ) → pos (count test n) ≡ sum (λ i. cond (test i) (pos 1) (pos 0)) n
 count_ones test n =
     sym (sum_const (pos 1) (count test n) ∙ ap pos (N.mul-one (count test n))) ∙ passing_sum test (λ i. pos 1) n
+
+-- of those that pass as many pass a further test as pass both
+pub passing_count :
+    (test further : ℕ → Bool) (n : ℕ) →
+    count (λ k. further (get_or (passing test n) k 0)) (count test n) ≡ count (λ i. test i && further i) n
+passing_count test further n =
+    ap nat_abs
+    (count_ones (λ k. further (get_or (passing test n) k 0)) (count test n)
+    ∙ passing_sum test (λ i. cond (further i) (pos 1) (pos 0)) n
+    ∙ sum_cong _ _ n (λ i p. both (test i) (further i))
+    ∙ sym (count_ones (λ i. test i && further i) n))
+  where
+    both : (a b : Bool) → cond a (cond b (pos 1) (pos 0)) (pos 0) ≡ cond (a && b) (pos 1) (pos 0)
+    both true b = refl
+    both false b = refl
