@@ -19,11 +19,11 @@ use Rattle.whole.proofs.Counting.{count_cong, count_le}
 use Rattle.whole.proofs.Sum.{sum_cong}
 use Rattle.whole.proofs.TableRows.{rows_length, rows_at}
 use Rattle.shuffles.specs.Shuffles.{shuffle_count}
-use Rattle.shuffles.proofs.ShuffleList.{at_most_499, rows_counted}
+use Rattle.shuffles.proofs.ShuffleList.{at_most_499, rows_counted, whole_rows}
 use Rattle.kept.specs.Returned.{reduced}
 use Rattle.kept.specs.Kept.{passing, keeps, kept_count, kept_place, kept_values, kept_pairs, kept_row, kept_shuffles}
 use Rattle.kept.proofs.KeptShuffle.{as_many, shuffle_at}
-use Rattle.kept.proofs.Passing.{passing_length, passing_count, passing_cong, passing_none, nth_stands}
+use Rattle.kept.proofs.Passing.{all_pass, passing_length, passing_count, passing_cong, passing_none, nth_stands}
 use Rattle.account.specs.Measures.{total_of, deviation_of}
 use Rattle.account.specs.Rank.{shuffled, values_cross, shuffle_cross, compared, compared_of, of_desk, zones_rank, zones_desk, job_rank}
 use Rattle.account.specs.Rank.{desk_rows, desk_rank, desk_ranks, four, rank_refusal}
@@ -210,6 +210,22 @@ module _ (desks : List ℕ) (passes : ℕ → Bool) where
   four_counts (suc rows) low =
       omega (arith, four_counts rows (λ r h. low r (omega arith)), under_one (get_or desks rows 0) (passes rows) (low rows (omega arith)))
 
+-- each row names one desk
+all_rows_named :
+    (desks : List ℕ) (rows : ℕ) → ((r : ℕ) → r < rows → get_or desks r 0 ≤ 3) →
+    let of : ℕ → ℕ = λ k. count (of_desk desks k) rows in
+    of 0 + of 1 + of 2 + of 3 ≡ rows
+all_rows_named desks rows low =
+    let every : ℕ → Bool = λ r. true in
+    let alone : (k : ℕ) → count (λ r. of_desk desks k r && true) rows ≡ count (of_desk desks k) rows =
+    λ k. count_cong (λ r. of_desk desks k r && true) (of_desk desks k) rows (λ r h. and_true (of_desk desks k r)) in
+    let four = four_counts desks every rows low in
+    omega (arith, four, alone 0, alone 1, alone 2, alone 3, all_pass every rows (λ r h. refl))
+  where
+    and_true : (b : Bool) → (b && true) ≡ b
+    and_true true = refl
+    and_true false = refl
+
 module _ (n : ℕ) (values : List ℤ) (weights shuffles desks : List ℕ) (taken : rank_refusal n values weights shuffles desks ≡ 0) where
   -- less for place 0, equal for place 1, greater for place 2
   pub desks_add_up :
@@ -329,6 +345,21 @@ module _
       four_at (suc (suc zero)) h = refl
       four_at (suc (suc (suc zero))) h = refl
       four_at (suc (suc (suc (suc k)))) h = let z : ⊥ = omega (arith, h) in absurd z
+
+  -- the four desks' counts add up to the number of rows
+  pub ranked_adds_up :
+      (counts : List Counts) → r ≡ Ok counts →
+      let of : ℕ → ℕ = λ k. let c = get_or counts k no_counts in c.less + c.equal + c.greater in
+      of 0 + of 1 + of 2 + of 3 ≡ length shuffles / n
+  ranked_adds_up counts g =
+      let good = rank_accepted n values weights shuffles desks taken in
+      let rows = shuffle_count n (length shuffles) in
+      let of : (k : ℕ) → k < 4 → let c = get_or counts k no_counts in c.less + c.equal + c.greater ≡ count (of_desk desks k) rows =
+      λ k h.
+      ap (λ t. get_or t 0 0 + get_or t 1 0 + get_or t 2 0) (ranked_counts counts g k h) ∙ desk_adds_up n values weights shuffles desks k taken in
+      let all = all_rows_named desks rows good.desked.low in
+      let whole = whole_rows n (length shuffles) (omega (arith, good.two)) good.rows.count in
+      omega (arith, of 0 (omega arith), of 1 (omega arith), of 2 (omega arith), of 3 (omega arith), all, whole)
 
   pub never_refused : (k : Refusal) → r ≡ Err k → ⊥
   unfolding counts_of desk_ranks desk_rank zones_desk compared_of
