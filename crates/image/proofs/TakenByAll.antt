@@ -11,7 +11,7 @@ use Rattle.whole.specs.Rules.{Rule, first_broken, misfits}
 use Rattle.whole.specs.Search.{any_above, any_on_diagonal}
 use Rattle.whole.proofs.Rules.{holds, neither}
 use Rattle.judges.specs.Values.{any_value_beyond}
-use Rattle.shuffles.specs.Shuffles.{shuffle_count}
+use Rattle.shuffles.specs.Shuffles.{shuffle_count, any_lacking}
 use Rattle.shuffles.proofs.ShuffleList.{rows_counted}
 use Rattle.account.specs.Refusals.{call_rules, job_refusal, account_rules, account_refusal}
 use Rattle.account.specs.Classes.{class_rules}
@@ -85,16 +85,21 @@ module _ (image : List ℕ) (a : Accepted image) where
   classes_taken classes lent e low fit =
       call_taken ((length classes, n * n) ∷ lent) ((any_above 8 classes, 9) ∷ []) (rw (eq-eqb (length classes) (n * n) e) fit) (rw low)
 
-  rank_taken : rank_refusal n job.values job.weights job.shuffles ≡ 0
+  -- of the rank, under any desk numbers 0 to 3, one for each shuffle
+  rank_taken :
+      (desks : List ℕ) → length desks ≡ count (from_shuffles image) → any_above 3 desks ≡ false →
+      rank_refusal n job.values job.weights job.shuffles desks ≡ 0
   unfolding rank_refusal rank_rules job_of given_in
-  rank_taken =
+  rank_taken desks each low =
       let long = (within_counts image a).shuffles in
       let k = c.two in
+      let many = shuffle_count n (length job.shuffles) in
       let rows = rows_counted n (length job.shuffles) (count (from_shuffles image)) (omega arith) c.shuffles long in
       let whole = long ∙ ap (λ m. m * n) (sym rows) in
-      call_taken ((length job.shuffles, shuffle_count n (length job.shuffles) * n) ∷ []) _
-      (rw (eq-eqb (length job.shuffles) (shuffle_count n (length job.shuffles) * n) whole))
-      a.shuffles.listed
+      let full = (holds (any_lacking n job.shuffles) 12 0 a.shuffles.listed).0 in
+      call_taken ((length job.shuffles, many * n) ∷ (length desks, many) ∷ []) ((any_lacking n job.shuffles, 13) ∷ (any_above 3 desks, 24) ∷ [])
+      (rw (eq-eqb (length job.shuffles) (many * n) whole, eq-eqb (length desks) many (each ∙ sym rows)))
+      (rw (full, low))
 
   joins_taken : (count (from_categories image) ≡ 0 → ⊥) → join_refusal n job.values job.categories job.weights 64 ≡ 0
   unfolding join_refusal join_rules job_of given_in

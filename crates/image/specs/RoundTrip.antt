@@ -1,7 +1,8 @@
 -- What goes in comes out. Stated for what the two calls answer and leave by their contracts: a job that is written and read is the same job
 -- with the same counts, and an accepted image that is read and written is the same bytes. And what reads an accepted image need expect no
 -- refusal from the calls on its job. Assumes nothing.
-use Rattle.std.specs.Prelude.{◌≡◌, List, [], ◌∷◌, ℕ, ◌*◌, ℤ, length, take}
+use Rattle.std.specs.Prelude.{◌≡◌, false, List, [], ◌∷◌, ℕ, ◌*◌, ℤ, length, take}
+use Rattle.whole.specs.Search.{any_above}
 use Rattle.whole.specs.Table.{over}
 use Rattle.account.specs.Refusals.{account_refusal}
 use Rattle.account.specs.Rank.{rank_refusal}
@@ -71,7 +72,10 @@ pub record TakenByAll (image : List ℕ) : Type 0 where
       account_refusal (count image) (job_of image).values (job_of image).weights locals ≡ 0
   pub hot_list :
       (zones : List ℕ) → length zones ≡ count image → account_refusal (count image) (job_of image).values (job_of image).weights zones ≡ 0
-  pub rank : rank_refusal (count image) (job_of image).values (job_of image).weights (job_of image).shuffles ≡ 0
+  -- under any desk numbers 0 to 3, one for each of its shuffles
+  pub rank :
+      (desks : List ℕ) → length desks ≡ count (from_shuffles image) → any_above 3 desks ≡ false →
+      rank_refusal (count image) (job_of image).values (job_of image).weights (job_of image).shuffles desks ≡ 0
   -- where it has categories
   pub join_table :
       (count (from_categories image) ≡ 0 → ⊥) →

@@ -15,6 +15,8 @@ use Rattle.kept.specs.Kept.{keeps, kept_count}
 use Rattle.kept.specs.Returned.{reduced}
 use Rattle.kept.proofs.KeptZones.{keeps_all, same_values, same_pairs}
 use Rattle.shuffles.specs.Shuffles.{shuffle_count}
+use Rattle.shuffles.specs.Steps.{Shuffles}
+use Rattle.shuffles.proofs.Theorems.{list_taken}
 use Rattle.account.specs.Measures.{spread_of}
 use Rattle.account.specs.Refusals.{job_spread}
 use Rattle.account.specs.Answers.{zones_local, job_kept, job_locals}
@@ -22,17 +24,16 @@ use Rattle.account.specs.Classes.{zones_class_row}
 use Rattle.account.specs.Rank.{zones_rank}
 use Rattle.account.specs.Steps.{zones_locals}
 use Rattle.account.specs.declared.ClassRow.{ClassRow}
-use Rattle.account.proofs.Accepted.{rank_accepted}
 use Rattle.account.proofs.AllKept.{nothing_reduced, all_kept, all_spread, all_locals, all_class_row, all_rank}
 use Rattle.hot_list.specs.HotList.{falling, hot_list}
 use Rattle.hot_list.proofs.HotTheorems.{hot_list_length, hot_list_each, Level, hot_list_of_level}
 use Rattle.places.specs.Bands.{band_classes}
 use Rattle.coefficients.specs.Coefficients.{pair_of, class_pair}
-use Rattle.image.specs.Image.{Job, count, job_of, image_refusal}
+use Rattle.image.specs.Image.{Job, count, from_shuffles, job_of, image_refusal}
 use Rattle.image.specs.RoundTrip.{given_in}
-use Rattle.image.proofs.Accepted.{accepted}
+use Rattle.image.proofs.Accepted.{Accepted, accepted, counted}
 use Rattle.image.proofs.BytesBack.{within_counts}
-use Rattle.image.proofs.TakenByAll.{all_take}
+use Rattle.image.proofs.Weights.{shuffles_decide}
 use Rattle.report.specs.Text.{numbered, whole_lines, local_line, class_line, counts_line, where_given}
 use Rattle.report.specs.Text.{job_lines, local_lines, pair_lines, rank_line, class_lines, job_text, image_text}
 use Rattle.report.specs.DocumentOne.{base_order, base_text}
@@ -147,6 +148,18 @@ all_kept_text n job all v w long full =
     (ap (where_given job.bands) (classes_same n job.values job.weights all v w job.places job.bands))
     (ap (where_given job.shuffles) (rank_same n job.values job.weights all v w job.shuffles long full))
 
+-- the shuffles of an accepted image
+its_shuffles :
+    (image : List ℕ) → Accepted image →
+    Shuffles (job_of image).shuffles (count image) (shuffle_count (count image) (length (job_of image).shuffles))
+unfolding given_in job_of
+its_shuffles image a =
+    let c = counted image a in
+    let shuffles = (job_of image).shuffles in
+    let long = (within_counts image a).shuffles in
+    list_taken (count image) shuffles
+    (shuffles_decide (count image) (count (from_shuffles image)) shuffles c.two c.zones c.shuffles long ∙ a.shuffles.listed)
+
 -- of an accepted image
 pub all_kept_report :
     (image : List ℕ) → image_refusal image ≡ 0 → job_kept (count image) (job_of image).values (job_of image).weights ≡ count image →
@@ -155,7 +168,7 @@ unfolding image_text given_in
 all_kept_report image e all =
     let a = accepted image e in
     let fit = within_counts image a in
-    let shuffled = (rank_accepted _ _ _ _ (all_take image a).rank).rows in
+    let shuffled = its_shuffles image a in
     all_kept_text (count image) (job_of image) all fit.values fit.weights shuffled.count shuffled.full
 
 -- and where of equal numerators the row sums are equal it is document 01's byte for byte

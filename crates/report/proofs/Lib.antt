@@ -3,6 +3,7 @@ pub mod Puts
 pub mod LineLaws
 pub mod Listed
 pub mod Classing
+pub mod Desks
 pub mod JobText
 pub mod ReadJob
 pub mod Printing

@@ -2,12 +2,13 @@
 use mathlib.Core.Path.{◌≡◌, refl, sym, ap, ◌∙◌, subst}
 use mathlib.Core.Bool.{false}
 use mathlib.Core.List.{List, [], ◌∷◌}
-use Prim.Native.Nat.{ℕ, ◌*◌, ◌≤◌}
+use Prim.Native.Nat.{ℕ, ◌*◌, ◌/◌, ◌≤◌}
+use native.Mathlib.Nat as N
 use native.Mathlib.Omega.{arith}
 use lib.ListN.{length, get_or}
 use Rattle.whole.specs.Rules.{misfits}
 use Rattle.whole.proofs.Rules.{worked_when_taken}
-use Rattle.image.specs.Image.{Job, count, job_of, image_refusal}
+use Rattle.image.specs.Image.{Job, count, from_shuffles, job_of, image_refusal}
 use Rattle.image.specs.Reader.{Buffers, buffer_lengths, counts_in, read_refusal, read_counts, read_left}
 use Rattle.image.specs.RoundTrip.{given_in}
 use Rattle.image.specs.Writer.{lent_job}
@@ -24,10 +25,22 @@ use Rattle.refusals.proofs.Refusals.{left_by}
 use Rattle.report.specs.Text.{job_text, image_text, length_in}
 use Rattle.report.proofs.Puts.{put_over}
 use Rattle.image.proofs.Buffers.{Exact}
-use Rattle.report.specs.Steps.{Put, Prints, SoundJob, Held, given_of}
+use Rattle.report.specs.Steps.{Put, Prints, Rankable, SoundJob, Held, given_of}
 
 -- ---- an image that is read
 module _ (image : List ℕ) (lent : Buffers) (e : read_refusal image lent ≡ 0) where
+  -- the rank takes its shuffles under any desk numbers
+  rankable : Rankable (count image) (job_of image).values (job_of image).weights (job_of image).shuffles
+  unfolding given_in
+  rankable =
+      let two = (job_counted image lent e).two in
+      let rows =
+      ap (λ m. m / count image) (job_lengths image lent e).shuffles ∙ N.mul-div_cancel (count (from_shuffles image)) (omega (arith, two)) in record {
+        some = omega (arith, two);
+        few = omega (arith, rows, (job_counted image lent e).shuffles);
+        taken = λ desks each low. (taken_by_all image lent e).rank desks (each ∙ rows) low;
+      }
+
   -- no call refuses its job
   sound : SoundJob (count image) (job_of image)
   unfolding given_in
@@ -46,7 +59,7 @@ module _ (image : List ℕ) (lent : Buffers) (e : read_refusal image lent ≡ 0)
         joined = λ f. all.join_table (λ none. f (long.categories ∙ none));
         banded = λ f. all.bands (λ none. f (long.bands ∙ none));
         few_bands = omega (arith, long.bands, few.bands);
-        ranked = all.rank;
+        ranked = rankable;
       }
 
   module _ (counts : Counts) (told : six counts ≡ counts_in image) (held : Buffers) (left : held ≡ read_left image lent) where

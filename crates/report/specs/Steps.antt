@@ -1,5 +1,5 @@
 -- What the private functions of the report promise each other. Assumes nothing.
-use Rattle.std.specs.Prelude.{◌≡◌, false, cond, List, [], ◌∷◌, ◌++◌, ℕ, ◌+◌, ◌*◌, ◌-◌, ◌≤◌, ◌<◌, ℤ, pos, negsuc, nat_abs, ◌*ℤ◌, length, get_or, ◌≤ℤ◌, Result}
+use Rattle.std.specs.Prelude.{◌≡◌, false, cond, List, [], ◌∷◌, ◌++◌, ℕ, ◌+◌, ◌*◌, ◌/◌, ◌-◌, ◌≤◌, ◌<◌, ℤ, pos, negsuc, nat_abs, ◌*ℤ◌, length, get_or, ◌≤ℤ◌, Result}
 use Rattle.std.proofs.lemmas.List.Edits.{sets}
 use Rattle.std.specs.Int.Signed.{lt_z}
 use Rattle.whole.specs.Rules.{first_broken, misfits, unless_refused, ratio_limit}
@@ -101,13 +101,20 @@ pub record Classed (n : ℕ) (places : List ℤ) (bands classes : List ℕ) : Ty
   pub within : Low n classes
   pub made : (length bands ≡ 0 → ⊥) → classes ≡ band_classes n places bands
 
+-- at most 499 shuffles, which the rank takes under any desk numbers 0 to 3, one for each
+pub record Rankable (n : ℕ) (values : List ℤ) (weights shuffles : List ℕ) : Type 0 where
+  pub some : 1 ≤ n
+  pub few : length shuffles / n ≤ 499
+  pub taken :
+      (desks : List ℕ) → length desks ≡ length shuffles / n → any_above 3 desks ≡ false → rank_refusal n values weights shuffles desks ≡ 0
+
 -- its values and weights, and its other lists, each where it has something in it
 pub record SoundJob (n : ℕ) (job : Job) : Type 0 where
   pub weighted : Sound n job.values job.weights
   pub joined : Joinable n job.values job.categories job.weights
   pub banded : (length job.bands ≡ 0 → ⊥) → band_refusal n job.places job.bands (n * n) ≡ 0
   pub few_bands : length job.bands ≤ 8
-  pub ranked : rank_refusal n job.values job.weights job.shuffles ≡ 0
+  pub ranked : Rankable n job.values job.weights job.shuffles
 
 -- the job in six lists, each of them whole
 abbrev pub job_in : Lists → Job

@@ -2,16 +2,17 @@
 ghost use Rattle.std.specs.Prelude.{◌≡◌, cond, [], ◌++◌, suc, ◌≤◌, eqb, length, take};
 ghost use Rattle.whole.specs.Table.{each};
 ghost use Rattle.kept.specs.Returned.{reduced};
-ghost use Rattle.account.specs.Rank.{rank_refusal};
+ghost use Rattle.account.specs.Rank.{three, job_rank};
 ghost use Rattle.hot_list.specs.HotList.{in_order};
 ghost use Rattle.coefficients.specs.Steps.{ReadablePair, ReadablePairs};
 ghost use Rattle.report.specs.Text.{numbered, pair_lines, rank_line, where_given, job_text};
-ghost use Rattle.report.specs.Steps.{Put, Room, Within, SoundJob, Joinable, Bandable, Classed};
+ghost use Rattle.report.specs.Steps.{Put, Room, Within, SoundJob, Joinable, Bandable, Classed, Rankable};
 ghost use Rattle.report.specs.Steps.{sum_lines, ratio_lines, zone_line, row_line, job_in};
 
 use crate::Page;
 use crate::lines::{self, Zones};
 use crate::putting::{self, Line};
+use account::Counts;
 use coefficients::{Pair, Whole};
 use image::Lists;
 use nearest::Side;
@@ -103,9 +104,20 @@ fn put_classes(
     lines::put_rows(page, at, rows, pairs, bands)
 }
 
+// The counts of all shuffles. An image has no desk numbers, so that each shuffle is desk 0's.
+fn rank_all(values: &[i32], weights: &[u8], shuffles: &[u8]) -> Counts
+    requires { Rankable (length values.now) values.now weights.now shuffles.now }
+    ensures { three result ≡ job_rank (length values.now) values.now weights.now shuffles.now }
+{
+    let n = values.len();
+    let rows = shuffles.len() / n;
+    let desks: [u8; 499] = rooms::room();
+    account::rank(n, values, weights, shuffles, &desks[..rows]).unwrap()[0]
+}
+
 // The rank line, which needs a shuffle.
 fn put_rank(page: &mut [u8], at: usize, values: &[i32], weights: &[u8], shuffles: &[u8]) -> usize
-    requires shuffles_value { rank_refusal (length values.now) values.now weights.now shuffles.now ≡ 0 }
+    requires rankable { Rankable (length values.now) values.now weights.now shuffles.now }
     requires room { Room page.old at 96 }
     ensures { Put page.old page.new at result 96
         (where_given shuffles.now (rank_line (length values.now) values.now weights.now shuffles.now)) }
@@ -113,7 +125,7 @@ fn put_rank(page: &mut [u8], at: usize, values: &[i32], weights: &[u8], shuffles
     if shuffles.is_empty() {
         return at;
     }
-    let counts = account::rank(values.len(), values, weights, shuffles).unwrap();
+    let counts = rank_all(values, weights, shuffles);
     // no From leads here from a usize; TryFrom and an unwrap is no plainer
     let line = Line {
         word: b"rank",
