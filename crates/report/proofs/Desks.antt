@@ -1,21 +1,20 @@
 -- Shuffles each of which is desk 0's: the rank takes them, and desk 0 has the counts of all. Assumes nothing.
-use mathlib.Core.Path.{◌≡◌, sym, ap, ◌∙◌}
+use mathlib.Core.Path.{◌≡◌, ◌∙◌}
 use mathlib.Core.Bool.{false}
 use mathlib.Core.List.{List}
 use Prim.Native.Nat.{ℕ, ◌/◌, ◌<◌}
 use native.Mathlib.Omega.{arith}
 use lib.IntN.{ℤ}
-use lib.ListN.{length, get_or, take}
+use lib.ListN.{length, get_or}
 use Rattle.std.proofs.Common.{Result, Ok, All}
 use Rattle.std.proofs.lemmas.List.Elements.{All-get_or}
 use Rattle.whole.specs.Search.{any_above}
 use Rattle.whole.proofs.Search.{all_within}
-use Rattle.whole.proofs.Rules.{worked_when_taken}
 use Rattle.refusals.specs.declared.Refusal.{Refusal}
 use Rattle.shuffles.proofs.ShuffleList.{all_rows}
-use Rattle.account.specs.Rank.{compared_of, zones_desk, job_rank, desk_rank, desk_ranks, rank_refusal, three, no_counts, counts_of, rank_counts}
+use Rattle.account.specs.Rank.{job_rank, rank_refusal, three, no_counts, counts_of, rank_counts}
 use Rattle.account.specs.declared.Counts.{Counts}
-use Rattle.account.proofs.DeskTheorems.{one_desk}
+use Rattle.account.proofs.DeskTheorems.{one_desk, ranked_counts}
 use Rattle.report.specs.Steps.{Rankable}
 
 module _ (desks : List ℕ) (zeros : All (λ desk. desk ≡ 0) desks) where
@@ -33,9 +32,7 @@ module _ (desks : List ℕ) (zeros : All (λ desk. desk ≡ 0) desks) where
     pub counted :
         (r : Result (List Counts) Refusal) → counts_of r ≡ rank_counts n values weights shuffles desks → (counts : List Counts) →
         r ≡ Ok counts → three (get_or counts 0 no_counts) ≡ job_rank n values weights shuffles
-    unfolding counts_of rank_counts desk_ranks desk_rank zones_desk compared_of
     counted r told counts ok =
-        let twelve = sym (ap counts_of ok) ∙ told ∙ worked_when_taken _ _ _ taken in
-        ap (take 3) twelve
+        ranked_counts n values weights shuffles desks taken r told counts ok 0 (omega arith)
         ∙ one_desk n values weights shuffles desks 0
         (λ r h. zero r (omega (arith, h, each, all_rows n (length shuffles) so.few)))
