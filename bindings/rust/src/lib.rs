@@ -56,6 +56,8 @@ pub const NOT_RETURNED: i32 = i32::MIN;
 pub const ZONES_MOST: usize = 64;
 /// The most shuffles of a rank and of an image.
 pub const SHUFFLES_MOST: usize = 499;
+/// The desks of a rank, 0 to 3.
+pub const DESKS: usize = 4;
 /// The classes of pairs, 0 to 8.
 pub const CLASSES: usize = 9;
 /// The entries of the class rows: W, P and G of each class.
