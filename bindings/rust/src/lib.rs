@@ -16,6 +16,8 @@
 //! gives it, is kept. Lengths, the counts of an image and every refusal but 6 and 7 count all zones. The join table, the networks and the
 //! bands leave out nothing.
 //!
+//! The shuffles of a [`rank()`] come from up to four desks, each of which has counts of its own.
+//!
 //! ```
 //! use dca::{account, nearest, Refusal, Side};
 //!
