@@ -2,15 +2,15 @@
  * The district clustering account, for C and C++.
  *
  * What this is: the calls of the proved library, as the archive libexports.a has them (`rt lib` in crates/exports). Each call is proved, in
- * crates/exports/src, to answer and to store what the definitions of document 01 say, as requests A.2, A.6, A.7 and A.10 of document 02
- * changed them.
+ * crates/exports/src, to answer and to store what the definitions of document 01 say, as requests A.2, A.6, A.7, A.9 and A.10 of document
+ * 02 changed them.
  * This header and what follows from a promise broken by the caller are not part of the proof.
  *
  * Lists: each list is a pointer and then a length, which is the number of entries, not of bytes. An `out` list is written by the call,
  * every other list is only read.
  *
- * Answer: each call returns a number. 0: done, the out lists are filled. Any other: refused, the number is that of document 01's table
- * (enum dca_refusal), and all lent memory holds what it held before. No value that is lent, and no length, makes a call
+ * Answer: each call returns a number. 0: done, the out lists are filled. Any other: refused, the number is that of document 01's table,
+ * or 24 by request A.9 (enum dca_refusal), and all lent memory holds what it held before. No value that is lent, and no length, makes a call
  * fail in any other way: there is no precondition besides the duties below. A call gives the least number that applies to what it
  * was lent, and once 1 or 2 applies nothing further is judged; dca_read, dca_write and dca_report judge by place, as said there.
  *
@@ -62,6 +62,7 @@ extern "C" {
 #define DCA_COORDINATE_MOST 30000           /* a coordinate is from -this to this */
 #define DCA_BANDS_MOST 8
 #define DCA_SHUFFLES_MOST 499
+#define DCA_DESKS 4                         /* a desk is 0 to 3 */
 #define DCA_JOINS_MOST 4032                 /* joins of an image */
 #define DCA_RATIO_MOST INT64_C(6000000000000000000) /* p and q of dca_nearest are from -this to this, q above 0 */
 
@@ -71,7 +72,7 @@ extern "C" {
 #define DCA_CLASS_ROWS 27                   /* W P G of each class */
 #define DCA_GLOBALS 2                       /* Moran, Geary */
 #define DCA_PAIRS 18                        /* Moran, Geary of each class */
-#define DCA_RANK_COUNTS 3                   /* less, equal, greater */
+#define DCA_RANK_COUNTS 12                  /* less, equal, greater of each desk */
 #define DCA_JOIN_TABLE 64                   /* T(r,s) at 8 * r + s */
 
 /* The six buffers of dca_read and dca_write, their counts, an image and a report. */
@@ -86,7 +87,7 @@ extern "C" {
 #define DCA_IMAGE_MOST 44908                /* bytes of the longest image */
 #define DCA_REPORT_TEXT 16384               /* bytes lent for a report */
 
-/* The causes of refusal, in document 01's words; 7 as request A.6 has it, 3 and 6 as request A.7. */
+/* The causes of refusal, in document 01's words; 7 as request A.6 has it, 3 and 6 as request A.7, 24 as request A.9. */
 enum dca_refusal {
     DCA_REFUSED_NOTHING = 0,      /* done */
     DCA_REFUSED_ZONES = 1,        /* n, or r x c, outside 2 to 64 */
@@ -108,7 +109,8 @@ enum dca_refusal {
     DCA_REFUSED_JOINS = 16,       /* joins not rising, or an end not below n */
     DCA_REFUSED_BYTES_AFTER = 17, /* bytes after the last section */
     DCA_REFUSED_RATIO = 18,       /* divisor below 1, or p or q beyond 6x10^18 in size */
-    DCA_REFUSED_OUTPUT = 19       /* the writer's output is shorter than the image */
+    DCA_REFUSED_OUTPUT = 19,      /* the writer's output is shorter than the image */
+    DCA_REFUSED_DESK = 24         /* a desk number above 3 */
 };
 
 /* Where a float lies beside the exact ratio that it is nearest to: by value, not by size. */
@@ -199,17 +201,20 @@ uint8_t dca_hot_list(size_t n,
                      uint8_t *zones, size_t zones_len);
 
 /*
- * The rank of a job's P among shuffles of the values of the zones kept.
+ * The rank of a job's P among shuffles of the values of the zones kept, for each of four desks that contribute them.
  *   n, values, weights   as dca_account
  *   shuffles             0 to 499 whole rows of n, each with each zone once, also those left out. The numbers of zones left out are struck
  *                        from a row; the i-th zone kept takes the value of the zone that the i-th number left names
- *   counts  out          3: the shuffles whose P is less than, equal to, greater than the job's own
- * Refusals: 1 2 (also where shuffles is not 0 to 499 whole rows) 3 4 5 6 7 13.
+ *   desks                the desk of each row, 0 to 3; as many entries as shuffles has rows
+ *   counts  out          12: of the shuffles of desk k those whose P is less than, equal to, greater than the job's own at 3 * k, 3 * k + 1,
+ *                        3 * k + 2; 0 0 0 of a desk that has none. The rows of the other desks have no part in them
+ * Refusals: 1 2 (also where shuffles is not 0 to 499 whole rows, or desks has not an entry for each) 3 4 5 6 7 13 24.
  */
 uint8_t dca_rank(size_t n,
                  const int32_t *values, size_t values_len,
                  const uint8_t *weights, size_t weights_len,
                  const uint8_t *shuffles, size_t shuffles_len,
+                 const uint8_t *desks, size_t desks_len,
                  uint64_t *counts, size_t counts_len);
 
 /*
@@ -301,7 +306,7 @@ uint8_t dca_write(const int32_t *values, size_t values_len,
  * The report of an image as text. The text is ASCII, each line ends with a newline, and no 0 byte closes it. Its lines `zones` and
  * `expected` count the zones kept, and a zone left out has no line `local`; these lines are in the order of dca_hot_list. It does not say
  * how many values are not returned. Right behind the 16 digits of a float is the sign of its side; the `-` of a class without weight has
- * none.
+ * none. An image has no desks: its line `rank` counts all shuffles, as dca_rank does where each is of desk 0.
  *   image         any length
  *   text    out   16,384: the text is at the front, the rest is kept
  *   length  out   1: the bytes of the text

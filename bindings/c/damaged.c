@@ -8,8 +8,8 @@
  * call, so that valgrind sees a read or a write one past. Looked at after each call: the number is one that the call may give, 1 and 2 are
  * given exactly where they apply, a report is refused as the reader refuses its image, lists that are only read are as they were, and so is
  * every lent byte where the call is refused; an account counts the zones kept and the values not returned, and has 0 at zones left out; a
- * float report has +0 and the equal side there, and a side for each float; a nearest float has the side that its distance shows; a join
- * table has the weights between zones that are returned. Ends with 1 at the first fault.
+ * float report has +0 and the equal side there, and a side for each float; a nearest float has the side that its distance shows; a rank
+ * counts each shuffle at its desk; a join table has the weights between zones that are returned. Ends with 1 at the first fault.
  */
 #include <inttypes.h>
 #include <stdint.h>
@@ -19,7 +19,7 @@
 
 #include "dca.h"
 
-enum { ROUNDS = 1000, LISTS_MOST = 10, NUMBERS = 20 };
+enum { ROUNDS = 1000, LISTS_MOST = 10, NUMBERS = 25 };
 
 enum call { ACCOUNT, CLASS_ACCOUNT, FLOAT_REPORT, NEAREST, HOT_LIST, RANK, JOIN_TABLE, GABRIEL, BANDS, ROOK, BISHOP, QUEEN, READ, WRITE,
             REPORT, CALLS };
@@ -39,7 +39,7 @@ static const struct {
     {"dca_float_report", UP_TO_7 | BIT(9)},
     {"dca_nearest", BIT(0) | BIT(2) | BIT(18)},
     {"dca_hot_list", UP_TO_7},
-    {"dca_rank", UP_TO_7 | BIT(13)},
+    {"dca_rank", UP_TO_7 | BIT(13) | BIT(24)},
     {"dca_join_table", BIT(0) | BIT(1) | BIT(2) | BIT(3) | BIT(4) | BIT(5) | BIT(8)},
     {"dca_gabriel", PLACED},
     {"dca_bands", PLACED | BIT(12)},
@@ -197,7 +197,7 @@ static void take_back(void)
 static struct {
     size_t n, bands_len, rows;
     int32_t values[64], places[128];
-    uint8_t categories[64], weights[4096], classes[4096], shuffles[31936];
+    uint8_t categories[64], weights[4096], classes[4096], shuffles[31936], desks[DCA_SHUFFLES_MOST];
     uint32_t bands[8];
 } job;
 
@@ -207,6 +207,16 @@ static void shuffle_row(uint8_t *row)
         size_t j = below(i + 1);
         row[i] = row[j];
         row[j] = (uint8_t)i;
+    }
+}
+
+/* Few rows or many, and the desk of each; where they are few, some desks have none. */
+static void draw_rows(void)
+{
+    job.rows = one_in(8) ? DCA_SHUFFLES_MOST : below(6);
+    for (size_t r = 0; r < job.rows; r++) {
+        shuffle_row(job.shuffles + r * job.n);
+        job.desks[r] = (uint8_t)below(DCA_DESKS);
     }
 }
 
@@ -252,9 +262,7 @@ static void draw_job(void)
     job.bands_len = 1 + below(8);
     for (size_t b = 0; b < job.bands_len; b++)
         job.bands[b] = (uint32_t)(b * 500000000 + 1 + below(500000000));
-    job.rows = one_in(8) ? 499 : below(6);
-    for (size_t r = 0; r < job.rows; r++)
-        shuffle_row(job.shuffles + r * n);
+    draw_rows();
 }
 
 static int is_returned(size_t zone) { return job.values[zone] != DCA_NOT_RETURNED; }
@@ -291,7 +299,7 @@ static void spoil(void)
 {
     static const int32_t wild[] = {100001, -100001, INT32_MAX, DCA_NOT_RETURNED + 1};
     size_t n = job.n;
-    switch (below(13)) {
+    switch (below(14)) {
     case 0: job.values[below(n)] = wild[below(4)]; break;
     case 1: job.weights[below(n * n)] = (uint8_t)(10 + below(246)); break;
     case 2: job.weights[below(n) * (n + 1)] = (uint8_t)(1 + below(one_in(4) ? 255 : 9)); break;
@@ -304,6 +312,7 @@ static void spoil(void)
     case 9: memcpy(job.places + 2 * (n - 1), job.places, 2 * sizeof job.places[0]); break;
     case 10: job.bands[below(job.bands_len)] = 0; break;
     case 11: if (job.bands_len > 1) job.bands[job.bands_len - 1] = job.bands[0]; break;
+    case 12: if (job.rows > 0) job.desks[below(job.rows)] = (uint8_t)(DCA_DESKS + below(252)); break;
     default: if (job.rows > 0) job.shuffles[below(job.rows * n)] = (uint8_t)draw(); break;
     }
 }
@@ -484,15 +493,35 @@ static void try_hot_list(void)
     take_back();
 }
 
+/* The counts of each desk add up to its rows. */
+static void look_at_counts(const struct list *desks, const uint64_t *counts)
+{
+    uint64_t rows[DCA_DESKS] = {0};
+    for (size_t r = 0; r < desks->len; r++) {
+        if (desks->at[r] >= DCA_DESKS)
+            fault(RANK, "a desk above 3 taken");
+        rows[desks->at[r]]++;
+    }
+    for (size_t k = 0; k < DCA_DESKS; k++)
+        if (counts[3 * k] + counts[3 * k + 1] + counts[3 * k + 2] != rows[k])
+            fault(RANK, "not the shuffles of each desk");
+}
+
+/* A desk for each row that is lent; those behind the job's rows are drawn, as such rows are. */
 static void try_rank(void)
 {
     size_t n = start();
     struct list *values = IN(job.n, job.values), *weights = IN(job.n * job.n, job.weights);
     size_t rows_len = job.rows * job.n, len = length_damage > 0 && one_in(3) ? other_length(rows_len) : rows_len;
-    struct list *shuffles = lend(len, 1, job.shuffles, rows_len, 0), *counts = OUT(3, uint64_t);
-    wrong_length = wrong_length || len % job.n != 0 || len > 499 * job.n;
-    look(RANK, dca_rank(n, GIVE(values, int32_t), GIVE(weights, uint8_t), GIVE(shuffles, uint8_t), GIVE(counts, uint64_t)),
-         first_number(n));
+    size_t rows = len / job.n, desks_len = length_damage > 0 && one_in(3) ? other_length(rows) : rows;
+    struct list *shuffles = lend(len, 1, job.shuffles, rows_len, 0), *desks = lend(desks_len, 1, job.desks, job.rows, 0);
+    struct list *counts = OUT(DCA_RANK_COUNTS, uint64_t);
+    wrong_length = wrong_length || len % job.n != 0 || rows > DCA_SHUFFLES_MOST || desks_len != rows;
+    uint8_t number = dca_rank(n, GIVE(values, int32_t), GIVE(weights, uint8_t), GIVE(shuffles, uint8_t), GIVE(desks, uint8_t),
+                              GIVE(counts, uint64_t));
+    look(RANK, number, first_number(n));
+    if (number == 0)
+        look_at_counts(desks, (const uint64_t *)(const void *)counts->at);
     take_back();
 }
 

@@ -165,11 +165,22 @@ static void show_not_returned(void)
     printf("  from category 0 to 0: %" PRId64 "\n", table[0]);
 }
 
+static void print_counts(const char *of, const uint64_t counts[3])
+{
+    printf("%s: less %" PRIu64 ", equal %" PRIu64 ", greater %" PRIu64 "\n", of, counts[0], counts[1], counts[2]);
+}
+
+/* All shuffles of desk 0, then each of a desk of its own. */
 static void show_rank(void)
 {
+    static const uint8_t one_desk[2] = {0, 0}, two_desks[2] = {0, 1};
     uint64_t counts[DCA_RANK_COUNTS];
-    done("dca_rank", dca_rank(N, LIST(values), LIST(weights), LIST(shuffles), LIST(counts)));
-    printf("rank: less %" PRIu64 ", equal %" PRIu64 ", greater %" PRIu64 "\n", counts[0], counts[1], counts[2]);
+    done("dca_rank", dca_rank(N, LIST(values), LIST(weights), LIST(shuffles), LIST(one_desk), LIST(counts)));
+    print_counts("rank", counts);
+    done("dca_rank", dca_rank(N, LIST(values), LIST(weights), LIST(shuffles), LIST(two_desks), LIST(counts)));
+    printf("rank where desk 1 sends the second shuffle:\n");
+    print_counts("  desk 0", counts);
+    print_counts("  desk 1", counts + 3);
 }
 
 /* Two networks that are worked rather than given. */

@@ -21,12 +21,12 @@ enum { STACK = 1 << 20, BOUND = 256 * 1024, PAINT = 0xA5 };
 static uint8_t image[DCA_IMAGE_MOST + 1], text[DCA_REPORT_TEXT], out[DCA_IMAGE_MOST];
 static size_t image_len;
 static int32_t values[64], places[128];
-static uint8_t categories[64], weights[4096], classes[4096], network[4096], shuffles[31936], zones[64], has_pair[9];
+static uint8_t categories[64], weights[4096], classes[4096], network[4096], shuffles[31936], desks[DCA_SHUFFLES_MOST], zones[64], has_pair[9];
 static uint32_t bands[8];
 static int64_t locals[64], sums[DCA_SUMS], rows[27], class_locals[576], table[64];
 static double globals[2], figures[64], pairs[18], nearest[1];
 static uint8_t global_sides[2], figure_sides[64], pair_sides[18], side[1];
-static uint64_t six[6], five[5], counts[3], length[1];
+static uint64_t six[6], five[5], counts[DCA_RANK_COUNTS], length[1];
 static size_t n;
 
 static int nothing(void) { return 0; }
@@ -53,7 +53,10 @@ static int call_float_report(void)
 }
 static int call_nearest(void) { return dca_nearest(-1, 3, nearest, 1, side, 1); }
 static int call_hot_list(void) { return dca_hot_list(n, values, n, weights, n * n, zones, n); }
-static int call_rank(void) { return dca_rank(n, values, n, weights, n * n, shuffles, (size_t)six[5] * n, counts, 3); }
+static int call_rank(void)
+{
+    return dca_rank(n, values, n, weights, n * n, shuffles, (size_t)six[5] * n, desks, (size_t)six[5], counts, DCA_RANK_COUNTS);
+}
 static int call_join_table(void) { return dca_join_table(n, values, n, categories, n, weights, n * n, table, 64); }
 static int call_gabriel(void) { return dca_gabriel(n, places, 2 * n, network, n * n); }
 static int call_grid(void) { return dca_grid_queen(8, 8, network, 4096); }
@@ -141,6 +144,13 @@ static void miss_first(void)
     write_image();
 }
 
+/* The rows alternate over the desks. */
+static void fill_desks(void)
+{
+    for (size_t row = 0; row < sizeof desks; row++)
+        desks[row] = (uint8_t)(row % DCA_DESKS);
+}
+
 int main(int words, char **word)
 {
     FILE *file = words > 1 ? fopen(word[1], "rb") : NULL;
@@ -150,6 +160,7 @@ int main(int words, char **word)
     }
     image_len = fread(image, 1, sizeof image, file);
     fclose(file);
+    fill_desks();
     printf("the image's job\n");
     measure();
     leave_out_last();

@@ -103,9 +103,18 @@ fn show_not_returned() -> Result<(), Refusal> {
     Ok(())
 }
 
+fn print_counts(of: &str, counts: dca::Counts) {
+    println!("{of}: less {}, equal {}, greater {}", counts.less, counts.equal, counts.greater);
+}
+
+/// All shuffles of desk 0, then each of a desk of its own.
 fn show_rank() -> Result<(), Refusal> {
-    let counts = dca::rank(N, &VALUES, &WEIGHTS, &SHUFFLES)?;
-    println!("rank: less {}, equal {}, greater {}", counts.less, counts.equal, counts.greater);
+    let [only, ..] = dca::rank(N, &VALUES, &WEIGHTS, &SHUFFLES, &[0, 0])?;
+    print_counts("rank", only);
+    println!("rank where desk 1 sends the second shuffle:");
+    let [first, second, ..] = dca::rank(N, &VALUES, &WEIGHTS, &SHUFFLES, &[0, 1])?;
+    print_counts("  desk 0", first);
+    print_counts("  desk 1", second);
     Ok(())
 }
 

@@ -1,6 +1,6 @@
 //! The account of a job and what is worked from it.
 
-use crate::{raw, Refusal, CLASSES, CLASS_ROWS, JOIN_TABLE, ZONES_MOST};
+use crate::{raw, Refusal, CLASSES, CLASS_ROWS, DESKS, JOIN_TABLE, ZONES_MOST};
 
 /// S, M, W, P, G, the number of zones kept and the number of values not returned.
 const SUMS: usize = 7;
@@ -80,8 +80,8 @@ pub struct FloatReport {
     pub classes: [Option<Pair>; CLASSES],
 }
 
-/// How many shuffles have a P less than, equal to, greater than the job's own.
-#[derive(Debug, Clone, Copy, PartialEq, Eq)]
+/// How many shuffles of a desk have a P less than, equal to, greater than the job's own.
+#[derive(Debug, Clone, Copy, PartialEq, Eq, Default)]
 pub struct Counts {
     pub less: u64,
     pub equal: u64,
@@ -266,16 +266,18 @@ pub fn hot_list(n: usize, values: &[i32], weights: &[u8], zones: &mut [u8]) -> R
     })
 }
 
-/// The rank of the job's P among shuffles of the values of the zones kept.
+/// The rank of the job's P among shuffles of the values of the zones kept, for each of the desks that contribute them: the counts of desk 0,
+/// then of 1, 2 and 3.
 ///
 /// `n`, `values` and `weights` as [`account`]; `shuffles` has 0 to 499 whole rows of n, each with each zone once, also those left out. The
-/// numbers of zones left out are struck from a row; the i-th zone kept takes the value of the zone that the i-th number left names.
+/// numbers of zones left out are struck from a row; the i-th zone kept takes the value of the zone that the i-th number left names. `desks`
+/// has the desk of each row, 0 to 3. Rows of other desks have no part in a desk's counts; a desk that has no row has none.
 ///
 /// # Errors
 ///
-/// 1 2 3 4 5 6 7 13: the least that applies; 2 too where `shuffles` is not 0 to 499 whole rows.
-pub fn rank(n: usize, values: &[i32], weights: &[u8], shuffles: &[u8]) -> Result<Counts, Refusal> {
-    let mut counts = [0; 3];
+/// 1 2 3 4 5 6 7 13 24: the least that applies; 2 too where `shuffles` is not 0 to 499 whole rows, or `desks` has not an entry for each.
+pub fn rank(n: usize, values: &[i32], weights: &[u8], shuffles: &[u8], desks: &[u8]) -> Result<[Counts; DESKS], Refusal> {
+    let mut counts = [0; 3 * DESKS];
     // As in `account`.
     Refusal::of(unsafe {
         raw::dca_rank(
@@ -286,12 +288,17 @@ pub fn rank(n: usize, values: &[i32], weights: &[u8], shuffles: &[u8]) -> Result
             weights.len(),
             shuffles.as_ptr(),
             shuffles.len(),
+            desks.as_ptr(),
+            desks.len(),
             counts.as_mut_ptr(),
             counts.len(),
         )
     })?;
-    let [less, equal, greater] = counts;
-    Ok(Counts { less, equal, greater })
+    Ok(std::array::from_fn(|desk| Counts {
+        less: counts[3 * desk],
+        equal: counts[3 * desk + 1],
+        greater: counts[3 * desk + 2],
+    }))
 }
 
 /// The join table: T(r,s), the weight from category r to category s, at 8 × r + s of `table`. Weights of a zone whose value is not returned

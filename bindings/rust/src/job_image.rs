@@ -158,7 +158,8 @@ pub fn write(from: &Buffers, given: Given, out: &mut [u8]) -> Result<usize, Refu
 
 /// Puts the lines of an image's report at the front of `text` and returns that part. It is ASCII; the rest of `text` keeps what it held.
 /// The lines `zones` and `expected` count the zones kept, and a zone left out has no line `local`; these lines are in the order of
-/// [`hot_list`](crate::hot_list).
+/// [`hot_list`](crate::hot_list). An image has no desks: the line `rank` counts all shuffles, as [`rank`](crate::rank) does where each is of
+/// desk 0.
 ///
 /// # Errors
 ///

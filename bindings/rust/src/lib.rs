@@ -16,6 +16,8 @@
 //! gives it, is kept. Lengths, the counts of an image and every refusal but 6 and 7 count all zones. The join table, the networks and the
 //! bands leave out nothing.
 //!
+//! The shuffles of a [`rank()`] come from up to four desks, each of which has counts of its own.
+//!
 //! ```
 //! use dca::{account, nearest, Refusal, Side};
 //!
@@ -56,6 +58,8 @@ pub const NOT_RETURNED: i32 = i32::MIN;
 pub const ZONES_MOST: usize = 64;
 /// The most shuffles of a rank and of an image.
 pub const SHUFFLES_MOST: usize = 499;
+/// The desks of a rank, 0 to 3.
+pub const DESKS: usize = 4;
 /// The classes of pairs, 0 to 8.
 pub const CLASSES: usize = 9;
 /// The entries of the class rows: W, P and G of each class.

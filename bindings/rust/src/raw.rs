@@ -52,6 +52,7 @@ extern "C" {
         values: *const i32, values_len: usize,
         weights: *const u8, weights_len: usize,
         shuffles: *const u8, shuffles_len: usize,
+        desks: *const u8, desks_len: usize,
         counts: *mut u64, counts_len: usize,
     ) -> u8;
 

@@ -1,33 +1,37 @@
-//! A refusal: the number of document 01's table, as an error.
+//! A refusal: the number of document 01's table, or 24 by request A.9, as an error.
 
 use std::error::Error;
 use std::fmt;
 
-/// Why a call did nothing: the number of the cause in document 01's table. All lent memory is then as it was.
+/// Why a call did nothing: the number of the cause in document 01's table, or 24 by request A.9. All lent memory is then as it was.
 #[derive(Debug, Clone, Copy, PartialEq, Eq, Hash)]
 pub struct Refusal(u8);
 
-/// The causes in document 01's words, 7 as request A.6 has it, from number 1 on.
-const CAUSES: [&str; 19] = [
-    "n, or r × c, outside 2 to 64",
-    "a lent slice not of its exact length",
-    "a value beyond 100,000 in size",
-    "a weight above 9, or 0 in an image join",
-    "a weight on the diagonal",
-    "W is 0",
-    "M of the zones kept is 0",
-    "a category above 7",
-    "a class above 8",
-    "a coordinate beyond 30,000 in size",
-    "two zones at one place",
-    "bands not strictly rising, a band of 0, a count outside 1 to 8 (an image or the writer may have 0), or bands without places",
-    "a shuffle that lacks some zone number",
-    "the image ends inside a section or its count",
-    "another count not allowed in an image",
-    "joins not rising, or an end not below n",
-    "bytes after the last section",
-    "divisor below 1, or p or q beyond 6×10^18 in size",
-    "the writer's output is shorter than the image",
+/// The causes with their numbers, in document 01's words; 7 as request A.6 has it, 24 as request A.9.
+const CAUSES: [(u8, &str); 20] = [
+    (1, "n, or r × c, outside 2 to 64"),
+    (2, "a lent slice not of its exact length"),
+    (3, "a value beyond 100,000 in size"),
+    (4, "a weight above 9, or 0 in an image join"),
+    (5, "a weight on the diagonal"),
+    (6, "W is 0"),
+    (7, "M of the zones kept is 0"),
+    (8, "a category above 7"),
+    (9, "a class above 8"),
+    (10, "a coordinate beyond 30,000 in size"),
+    (11, "two zones at one place"),
+    (
+        12,
+        "bands not strictly rising, a band of 0, a count outside 1 to 8 (an image or the writer may have 0), or bands without places",
+    ),
+    (13, "a shuffle that lacks some zone number"),
+    (14, "the image ends inside a section or its count"),
+    (15, "another count not allowed in an image"),
+    (16, "joins not rising, or an end not below n"),
+    (17, "bytes after the last section"),
+    (18, "divisor below 1, or p or q beyond 6×10^18 in size"),
+    (19, "the writer's output is shorter than the image"),
+    (24, "a desk number above 3"),
 ];
 
 impl Refusal {
@@ -69,16 +73,18 @@ impl Refusal {
     pub const RATIO: Refusal = Refusal(18);
     /// The writer's output is shorter than the image.
     pub const OUTPUT: Refusal = Refusal(19);
+    /// A desk number above 3.
+    pub const DESK: Refusal = Refusal(24);
 
-    /// The number of the cause, 1 to 19.
+    /// The number of the cause, 1 to 19 or 24.
     pub const fn number(self) -> u8 {
         self.0
     }
 
-    /// The cause in document 01's words, 7 as request A.6 has it.
+    /// The cause in document 01's words; 7 as request A.6 has it, 24 as request A.9.
     pub fn text(self) -> &'static str {
-        let place = usize::from(self.0).wrapping_sub(1);
-        CAUSES.get(place).copied().unwrap_or("no such cause")
+        let cause = CAUSES.iter().find(|(number, _)| *number == self.0);
+        cause.map_or("no such cause", |(_, text)| text)
     }
 
     /// What a call of the archive answered: 0 is no refusal.
@@ -106,8 +112,11 @@ mod tests {
     fn every_number_has_its_cause() {
         assert_eq!(Refusal::of(0), Ok(()));
         assert_eq!(Refusal::of(19), Err(Refusal::OUTPUT));
+        assert_eq!(Refusal::of(24), Err(Refusal::DESK));
         assert_eq!(Refusal::NO_SPREAD.text(), "M of the zones kept is 0");
-        assert_eq!(Refusal::OUTPUT.text(), CAUSES[18]);
+        assert_eq!(Refusal::OUTPUT.text(), "the writer's output is shorter than the image");
         assert_eq!(Refusal::NO_WEIGHT.to_string(), "refused 6: W is 0");
+        assert_eq!(Refusal::DESK.to_string(), "refused 24: a desk number above 3");
+        assert_eq!([20, 23, 25].map(|number| Refusal(number).text()), ["no such cause"; 3]);
     }
 }

@@ -1,5 +1,5 @@
-//! Document 01's figures at the edges, as request A.6 changed them, ties, values not returned, the sides of floats, the refusals, and that a
-//! refused call leaves what it was lent as it was.
+//! Document 01's figures at the edges, as request A.6 changed them, ties, values not returned, the sides of floats, ranks by desk, the
+//! refusals, and that a refused call leaves what it was lent as it was.
 
 use dca::{Buffers, Counts, Given, Move, Pair, Refusal, Rounded, Sections, Side};
 
@@ -62,6 +62,16 @@ const NO_FIGURE: Rounded = Rounded {
     float: 9.0,
     side: Side::Above,
 };
+
+fn counts(less: u64, equal: u64, greater: u64) -> Counts {
+    Counts { less, equal, greater }
+}
+
+/// The counts where desk 0 has all the rows.
+fn of_desk_0(less: u64, equal: u64, greater: u64) -> [Counts; dca::DESKS] {
+    let none = counts(0, 0, 0);
+    [counts(less, equal, greater), none, none, none]
+}
 
 fn refused(n: usize, values: &[i32], weights: &[u8]) -> u8 {
     let mut locals = vec![-7; n.min(100)];
@@ -132,22 +142,7 @@ fn figures_c_to_f_the_worked_report() {
     let mut zones = [9; 4];
     dca::hot_list(4, &VALUES, &WEIGHTS, &mut zones).unwrap();
     assert_eq!(zones, [0, 1, 2, 3]);
-    assert_eq!(
-        dca::rank(4, &VALUES, &WEIGHTS, &SHUFFLES),
-        Ok(Counts {
-            less: 1,
-            equal: 1,
-            greater: 0
-        })
-    );
-    assert_eq!(
-        dca::rank(4, &VALUES, &WEIGHTS, &[]),
-        Ok(Counts {
-            less: 0,
-            equal: 0,
-            greater: 0
-        })
-    );
+    assert_eq!(dca::rank(4, &VALUES, &WEIGHTS, &SHUFFLES, &[0, 0]), Ok(of_desk_0(1, 1, 0)));
 }
 
 /// Local numerators that are all 0: the larger row sum comes first, then the lower number, then the zone that touches nobody.
@@ -175,12 +170,12 @@ fn zones_left_out() {
         dca::hot_list(4, &values, &weights, &mut zones).unwrap();
         assert_eq!(zones, [1, 2, 3, 0]);
         // The kept numbers are 1 2 3 and 3 2 1: the line as it is, and turned round.
-        let counts = dca::rank(4, &values, &weights, &[1, 2, 0, 3, 3, 2, 1, 0]).unwrap();
-        assert_eq!((counts.less, counts.equal, counts.greater), (0, 2, 0));
+        let answer = dca::rank(4, &values, &weights, &[1, 2, 0, 3, 3, 2, 1, 0], &[0, 0]);
+        assert_eq!(answer, Ok(of_desk_0(0, 2, 0)));
     }
     assert_eq!(refused(4, &[1, 5, 5, 5], &weights), 7);
     assert_eq!(refused(4, &[100_001, 5, 5, 5], &weights), 3);
-    assert_eq!(dca::rank(4, &[9, 1, 2, 6], &weights, &[1, 1, 2, 3]), Err(Refusal::SHUFFLE));
+    assert_eq!(dca::rank(4, &[9, 1, 2, 6], &weights, &[1, 1, 2, 3], &[0]), Err(Refusal::SHUFFLE));
 }
 
 /// A zone that only gets weight is kept, with a local numerator of 0; so is one that only gives it.
@@ -209,8 +204,7 @@ fn values_not_returned() {
     dca::hot_list(5, &values, &weights, &mut zones).unwrap();
     assert_eq!(zones, [0, 1, 2, 3, 4]);
     // The kept numbers of the row are 2 1 0: the line turned round.
-    let counts = dca::rank(5, &values, &weights, &[3, 2, 4, 1, 0]).unwrap();
-    assert_eq!((counts.less, counts.equal, counts.greater), (0, 1, 0));
+    assert_eq!(dca::rank(5, &values, &weights, &[3, 2, 4, 1, 0], &[0]), Ok(of_desk_0(0, 1, 0)));
     dca::join_table(5, &values, &[0, 1, 0, 2, 2], &weights, &mut table).unwrap();
     assert_eq!((table[1], table[8], table.iter().sum::<i64>()), (2, 2, 4));
 }
@@ -373,21 +367,65 @@ fn refusals_of_the_other_lists() {
         Err(Refusal::CATEGORY)
     );
     assert_eq!(table, [-7; 64]);
-    assert_eq!(dca::rank(4, &VALUES, &WEIGHTS, &[0, 1, 2, 2]), Err(Refusal::SHUFFLE));
-    assert_eq!(dca::rank(4, &VALUES, &WEIGHTS, &[0, 1, 2]), Err(Refusal::LENGTH));
-    let row = [0, 1, 2, 3];
-    assert_eq!(
-        dca::rank(4, &VALUES, &WEIGHTS, &row.repeat(499)),
-        Ok(Counts {
-            less: 0,
-            equal: 499,
-            greater: 0
-        })
-    );
-    assert_eq!(dca::rank(4, &VALUES, &WEIGHTS, &row.repeat(500)), Err(Refusal::LENGTH));
     let mut zones = [7; 5];
     assert_eq!(dca::hot_list(4, &VALUES, &WEIGHTS, &mut zones), Err(Refusal::LENGTH));
     assert_eq!(zones, [7; 5]);
+}
+
+/// The line of three has a lesser P with the largest value in the middle, a greater one with the middle value there.
+#[test]
+fn ranks_by_desk() {
+    let values = [2, 1, 6];
+    let (less, equal, greater) = ([0, 2, 1], [2, 1, 0], [1, 0, 2]);
+    let rows = [less, equal, greater, less, greater, greater, equal];
+    let desks = [3, 0, 3, 2, 0, 3, 0];
+    let none = counts(0, 0, 0);
+    let expected = [counts(0, 2, 1), none, counts(1, 0, 0), counts(1, 0, 2)];
+    assert_eq!(dca::rank(3, &values, &LINE, rows.as_flattened(), &desks), Ok(expected));
+    // Other rows of desk 3 change nothing for the others.
+    let rows = [equal, equal, less, less, greater, less, equal];
+    let expected = [counts(0, 2, 1), none, counts(1, 0, 0), counts(2, 1, 0)];
+    assert_eq!(dca::rank(3, &values, &LINE, rows.as_flattened(), &desks), Ok(expected));
+    assert_eq!(dca::rank(3, &values, &LINE, rows.as_flattened(), &[0; 7]), Ok(of_desk_0(3, 3, 1)));
+    assert_eq!(dca::rank(3, &values, &LINE, &[], &[]), Ok([none; 4]));
+    let most = dca::rank(3, &values, &LINE, &equal.repeat(499), &[3; 499]);
+    assert_eq!(most, Ok([none, none, none, counts(0, 499, 0)]));
+}
+
+/// Rows that are whole, not too many and with a desk each; 2 comes before what is wrong with a desk.
+#[test]
+fn lengths_of_a_rank() {
+    let rank = |places: usize, desks: usize| {
+        let shuffles: Vec<u8> = (0..4).cycle().take(places).collect();
+        dca::rank(4, &VALUES, &WEIGHTS, &shuffles, &vec![4; desks])
+    };
+    for (places, desks) in [
+        (0, 1),
+        (4, 0),
+        (4, 2),
+        (4, 4),
+        (8, 1),
+        (8, 3),
+        (8, 8),
+        (3, 1),
+        (5, 1),
+        (1996, 498),
+        (2000, 500),
+    ] {
+        assert_eq!(rank(places, desks), Err(Refusal::LENGTH), "{places} {desks}");
+    }
+    assert_eq!(rank(1996, 499), Err(Refusal::DESK));
+}
+
+/// 24 looks at every desk, and comes last.
+#[test]
+fn desks_that_are_refused() {
+    let lacking = [0, 1, 2, 3, 2, 1, 0, 2];
+    for desks in [[0, 4], [4, 0], [3, 255]] {
+        assert_eq!(dca::rank(4, &VALUES, &WEIGHTS, &SHUFFLES, &desks), Err(Refusal::DESK));
+        assert_eq!(dca::rank(4, &VALUES, &WEIGHTS, &lacking, &desks), Err(Refusal::SHUFFLE));
+        assert_eq!(dca::rank(4, &[5; 4], &WEIGHTS, &lacking, &desks), Err(Refusal::NO_SPREAD));
+    }
 }
 
 #[test]

@@ -2,6 +2,8 @@
 //!
 //! Each function of `cases` lends a call its lists and answers a closure that makes the call once.
 
+use differential::RANK_COUNTS;
+
 /// Each call over slices, of those that `raw` declares.
 macro_rules! over_slices {
     ($($name:ident = $call:ident [$($number:ident: $kind:ty),*]
@@ -47,7 +49,7 @@ macro_rules! every_call {
                 [globals: f64, global_sides: u8, locals: f64, local_sides: u8, pairs: f64, pair_sides: u8, has_pair: u8];
             nearest = dca_nearest [p: i64, q: i64] [] [out: f64, side: u8];
             hot_list = dca_hot_list [n: usize] [values: i32, weights: u8] [zones: u8];
-            rank = dca_rank [n: usize] [values: i32, weights: u8, shuffles: u8] [counts: u64];
+            rank = dca_rank [n: usize] [values: i32, weights: u8, shuffles: u8, desks: u8] [counts: u64];
             join_table = dca_join_table [n: usize] [values: i32, categories: u8, weights: u8] [table: i64];
             gabriel = dca_gabriel [n: usize] [places: i32] [weights: u8];
             bands = dca_bands [n: usize] [places: i32, bands: u32] [classes: u8];
@@ -60,6 +62,17 @@ macro_rules! every_call {
                 [values: i32, categories: u8, weights: u8, places: i32, bands: u32, shuffles: u8, counts: u64]
                 [out: u8, length: u64];
             report = dca_report [] [image: u8] [text: u8, length: u64];
+        }
+    };
+}
+
+/// The rank as it was before request A.9, when it took no desks.
+#[cfg(before)]
+macro_rules! rank_without_desks {
+    ($make:ident $($front:literal)?) => {
+        $make! {
+            $($front;)?
+            rank = dca_rank [n: usize] [values: i32, weights: u8, shuffles: u8] [counts: u64];
         }
     };
 }
@@ -82,6 +95,17 @@ mod copies {
                 }
 
                 every_call!(over_slices);
+
+                /// What an archive from before request A.9 has in the place of the call above; else it is not called.
+                #[allow(dead_code)]
+                pub mod without_desks {
+                    #[allow(clashing_extern_declarations)]
+                    mod raw {
+                        rank_without_desks!(declare $front);
+                    }
+
+                    rank_without_desks!(over_slices);
+                }
             })*
         };
     }
@@ -147,7 +171,33 @@ pub const INDEPENDENT: Calls = calls_of!(differential);
 pub struct Placed {
     pub at: usize,
     pub now: Calls,
-    pub before: Calls,
+    /// With the arguments that the calls have now.
+    before: Calls,
+    /// With those that it had before request A.9: the desks that it is lent are dropped, and the counts of all rows stand as desk 0's.
+    rank_without_desks: cases::Rank,
+}
+
+impl Placed {
+    /// The earlier calls, each with the arguments of its archive.
+    pub fn before(&self) -> Calls {
+        let rank = if takes_desks(self.before.rank) {
+            self.before.rank
+        } else {
+            self.rank_without_desks
+        };
+        Calls {
+            rank,
+            ..self.before
+        }
+    }
+}
+
+/// Whether the archive is one from after request A.9: an earlier rank takes the list of one desk for counts, which are too few.
+fn takes_desks(rank: cases::Rank) -> bool {
+    let mut counts = [0; RANK_COUNTS];
+    let number = rank(2, &[0, 1], &[0, 1, 1, 0], &[0, 1], &[0], &mut counts);
+    assert!([0, 2].contains(&number), "the rank of one shuffle");
+    number == 0
 }
 
 #[cfg(before)]
@@ -157,6 +207,10 @@ macro_rules! placed {
             at: $at,
             now: calls_of!($now),
             before: calls_of!($before),
+            rank_without_desks: |n, values, weights, shuffles, _, counts| {
+                let (of_all, _) = counts.split_at_mut(3);
+                $before::without_desks::rank(n, values, weights, shuffles, of_all)
+            },
         }
     };
 }
@@ -177,7 +231,7 @@ pub const NOW_AND_BEFORE: &[Placed] = &[];
 
 pub mod cases {
     use crate::input::{Input, Refused};
-    use differential::{SUMS, TEXT};
+    use differential::{RANK_COUNTS, SUMS, TEXT};
     use std::hint::black_box;
 
     pub type Case<'a> = Box<dyn FnMut() + 'a>;
@@ -190,7 +244,7 @@ pub mod cases {
     ) -> u8;
     pub type Nearest = fn(i64, i64, &mut [f64], &mut [u8]) -> u8;
     pub type HotList = fn(usize, &[i32], &[u8], &mut [u8]) -> u8;
-    pub type Rank = fn(usize, &[i32], &[u8], &[u8], &mut [u64]) -> u8;
+    pub type Rank = fn(usize, &[i32], &[u8], &[u8], &[u8], &mut [u64]) -> u8;
     pub type JoinTable = fn(usize, &[i32], &[u8], &[u8], &mut [i64]) -> u8;
     pub type Gabriel = fn(usize, &[i32], &mut [u8]) -> u8;
     pub type Bands = fn(usize, &[i32], &[u32], &mut [u8]) -> u8;
@@ -267,8 +321,8 @@ pub mod cases {
         Rank,
         input,
         [input.n],
-        [input.values, input.weights, input.shuffles],
-        [counts = [0; 3]]
+        [input.values, input.weights, input.shuffles, input.desks],
+        [counts = [0; RANK_COUNTS]]
     );
     case!(
         join_table,

@@ -1,6 +1,6 @@
 //! The job that is measured: request A.4's, with everything that an image can hold.
 
-use differential::{BANDS, NOT_RETURNED, SHUFFLES};
+use differential::{BANDS, DESKS, NOT_RETURNED, SHUFFLES};
 
 pub struct Input {
     pub n: usize,
@@ -11,6 +11,8 @@ pub struct Input {
     pub places: Vec<i32>,
     pub bands: Vec<u32>,
     pub shuffles: Vec<u8>,
+    /// The desk of each shuffle: the four by turns.
+    pub desks: Vec<u8>,
     pub image: Vec<u8>,
 }
 
@@ -103,6 +105,7 @@ impl Input {
             places,
             bands,
             shuffles: shuffles(n, rows),
+            desks: (0..rows).map(|row| (row % DESKS) as u8).collect(),
             image: Vec::new(),
         };
         let number = differential::bands(n, &input.places, &input.bands, &mut input.classes);

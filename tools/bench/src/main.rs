@@ -8,13 +8,14 @@
 //! DCA_LIB_DIR names the folder of the archive libexports.a, if it is not crates/exports/out. DCA_BEFORE_DIR names the folder of an
 //! earlier libexports.a: then the calls are measured beside those of that archive instead, and one table is printed, now against before.
 //! Both are paths from the root. build.rs links the earlier archive under other names, so that the program is built anew for it.
-//! The calls of both have today's arguments.
+//! That may be one from before request A.9: its rank is called without desks. The counts of all desks together must be those of before.
 
 mod calls;
 mod input;
 
 use calls::cases::{self, Case};
 use calls::{proved, Calls, Placed};
+use differential::RANK_COUNTS;
 use input::{Input, Refused};
 use std::process::ExitCode;
 use std::time::{Duration, Instant};
@@ -234,6 +235,21 @@ fn earlier_row(name: &str, rounds: usize, placed: &mut [Beside]) {
     );
 }
 
+/// Less, equal and greater of all desks together, since an earlier archive may have no desks.
+fn counts_of_all(input: &Input, rank: cases::Rank) -> [u64; 3] {
+    let mut counts = [0; RANK_COUNTS];
+    let number = rank(
+        input.n,
+        &input.values,
+        &input.weights,
+        &input.shuffles,
+        &input.desks,
+        &mut counts,
+    );
+    assert_eq!(number, 0, "rank");
+    [0, 1, 2].map(|count| counts.iter().skip(count).step_by(3).sum())
+}
+
 /// Measures each call beside that of an earlier archive.
 fn beside_earlier(rounds: usize, placements: &[Placed]) {
     let inputs = &Inputs::new();
@@ -247,7 +263,11 @@ fn beside_earlier(rounds: usize, placements: &[Placed]) {
     println!("|---|{}", "---:|".repeat(at.len() + 4));
     let mut lines: Vec<(&str, Vec<Beside>)> = Vec::new();
     for placed in placements {
-        let lines_here = both(inputs, &placed.now, &placed.before);
+        let before = placed.before();
+        let [counts, former] =
+            [placed.now.rank, before.rank].map(|rank| counts_of_all(&inputs.job, rank));
+        assert_eq!(counts, former, "the counts of all desks, now and before");
+        let lines_here = both(inputs, &placed.now, &before);
         for (line, ((name, _, now), (_, _, before))) in lines_here.enumerate() {
             if line == lines.len() {
                 lines.push((name, Vec::new()));

@@ -1,4 +1,4 @@
-//! The calls of the district clustering account once more, written from document 01, requests A.2, A.6, A.7 and A.10 of document
+//! The calls of the district clustering account once more, written from document 01, requests A.2, A.6, A.7, A.9 and A.10 of document
 //! 02 and their readings alone.
 //!
 //! Nothing here is shared with the proved library or taken from it. Each function has the arguments of the exported call of
@@ -45,6 +45,10 @@ pub const CATEGORIES: usize = 8;
 pub const BANDS: usize = 8;
 /// The most shuffles of a job.
 pub const SHUFFLES: usize = 499;
+/// Desks 0 to 3.
+pub const DESKS: usize = 4;
+/// The counts of a rank: less, equal and greater of each desk.
+pub const RANK_COUNTS: usize = 3 * DESKS;
 /// The most joins of an image.
 pub const JOINS: usize = ZONES * (ZONES - 1);
 /// The length of the report's text buffer.

@@ -5,8 +5,8 @@
 //! First come the stored cases (folder cases), whose outcome both must have; `--stored` ends there, and `--case` makes only those of
 //! a name and prints what they give. Then come inputs that are drawn from the seed, which is printed; each can be drawn again alone
 //! (`--at`). The program ends with status 1 at the first difference, or where an answer that a call can give, a kind of job with
-//! zones left out or not returned, a side in a list of sides, or a tie in a hot list came too seldom or never; with status 2 where a stored
-//! case cannot be read.
+//! zones left out or not returned, a side in a list of sides, a tie in a hot list, or a kind of desks of a rank came too seldom or never;
+//! with status 2 where a stored case cannot be read.
 //! With `--broken` a wrong independent call is swapped in, with `--faulty` a faulty archive, and a difference must come; `--self-test`
 //! does so with each of them, and wants one from each among the drawn inputs.
 //! DCA_LIB_DIR names the folder of the archive libexports.a, if it is not crates/exports/out.
@@ -154,6 +154,8 @@ fn run_drawn(given: &Arguments) -> bool {
     tally.print_sides();
     println!();
     tally.print_ties();
+    println!();
+    tally.print_desks();
     let calls = plan.inputs.end - plan.inputs.start;
     let seconds = started.elapsed().as_secs_f64();
     println!("{calls} inputs, no difference, {seconds:.1} s");

@@ -1,8 +1,8 @@
-//! Part 9: how many shuffles have a lesser, an equal, a greater P than the job.
+//! Part 9 and request A.9: how many shuffles of each desk have a lesser, an equal, a greater P than the job.
 
 use crate::account::Spread;
 use crate::judge::Job;
-use crate::{judge, SHUFFLES, ZONES};
+use crate::{judge, DESKS, RANK_COUNTS, SHUFFLES, ZONES};
 use std::cmp::Ordering;
 
 /// P of the zones' deviations, which need not be in the job's own order.
@@ -33,17 +33,22 @@ fn shuffle(spread: &Spread, row: &[u8], shuffled: &mut [i64]) {
     }
 }
 
-/// Less, equal and greater, of a job that is not refused.
-pub(crate) fn count(spread: &Spread, weights: &[u8], shuffles: &[u8]) -> [u64; 3] {
+/// Less, equal and greater of each desk, of a job that is not refused. There is a desk for each row, 0 to 3.
+pub(crate) fn count(
+    spread: &Spread,
+    weights: &[u8],
+    shuffles: &[u8],
+    desks: impl IntoIterator<Item = u8>,
+) -> [[u64; 3]; DESKS] {
     let deviations = spread.deviations();
     let n = deviations.len();
     let own = numerator(deviations, weights);
-    let mut counts = [0; 3];
+    let mut counts = [[0; 3]; DESKS];
     let mut shuffled = [0; ZONES];
     let shuffled = &mut shuffled[..n];
-    for row in shuffles.chunks_exact(n) {
+    for (row, desk) in shuffles.chunks_exact(n).zip(desks) {
         shuffle(spread, row, shuffled);
-        counts[match numerator(shuffled, weights).cmp(&own) {
+        counts[usize::from(desk)][match numerator(shuffled, weights).cmp(&own) {
             Ordering::Less => 0,
             Ordering::Equal => 1,
             Ordering::Greater => 2,
@@ -52,7 +57,14 @@ pub(crate) fn count(spread: &Spread, weights: &[u8], shuffles: &[u8]) -> [u64; 3
     counts
 }
 
-pub fn rank(n: usize, values: &[i32], weights: &[u8], shuffles: &[u8], counts: &mut [u64]) -> u8 {
+pub fn rank(
+    n: usize,
+    values: &[i32],
+    weights: &[u8],
+    shuffles: &[u8],
+    desks: &[u8],
+    counts: &mut [u64],
+) -> u8 {
     if !judge::zones_fit(n) {
         return 1;
     }
@@ -60,7 +72,8 @@ pub fn rank(n: usize, values: &[i32], weights: &[u8], shuffles: &[u8], counts: &
         || weights.len() != n * n
         || !shuffles.len().is_multiple_of(n)
         || shuffles.len() / n > SHUFFLES
-        || counts.len() != 3
+        || desks.len() != shuffles.len() / n
+        || counts.len() != RANK_COUNTS
     {
         return 2;
     }
@@ -71,7 +84,11 @@ pub fn rank(n: usize, values: &[i32], weights: &[u8], shuffles: &[u8], counts: &
     if !judge::rows_are_shuffles(n, shuffles) {
         return 13;
     }
+    if usize::from(judge::greatest(desks)) >= DESKS {
+        return 24;
+    }
     let spread = Spread::of(&returned.values, kept);
-    counts.copy_from_slice(&count(&spread, &returned.weights, shuffles));
+    let desks = desks.iter().copied();
+    counts.copy_from_slice(count(&spread, &returned.weights, shuffles, desks).as_flattened());
     0
 }

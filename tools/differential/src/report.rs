@@ -89,7 +89,9 @@ fn lines(page: &mut Page, image: &Image) {
         class_lines(page, image, &spread, values, weights);
     }
     if !image.shuffles.is_empty() {
-        let counts = rank::count(&spread, weights, image.shuffles);
+        // An image has no desks: all its shuffles are desk 0's.
+        let all_of_one = std::iter::repeat(0);
+        let [counts, ..] = rank::count(&spread, weights, image.shuffles, all_of_one);
         page.line("rank", &counts.map(|count| count as i64), &[]);
     }
 }

@@ -1,5 +1,5 @@
-//! The figures that document 01, request A.6 and their readings print, by the independent calls; and what requests A.2, A.7 and A.10 say of
-//! them.
+//! The figures that document 01, request A.6 and their readings print, by the independent calls; and what requests A.2, A.7, A.9 and A.10 say
+//! of them.
 
 use differential as own;
 
@@ -9,6 +9,11 @@ fn job(n: usize, joins: &[(usize, usize, u8)]) -> Vec<u8> {
         weights[from * n + to] = weight;
     }
     weights
+}
+
+/// The counts of a rank whose rows are all of desk 0.
+fn of_desk_0(counts: [u64; 3]) -> [u64; own::RANK_COUNTS] {
+    std::array::from_fn(|place| counts.get(place).copied().unwrap_or(0))
 }
 
 #[test]
@@ -51,9 +56,9 @@ fn left_out() {
     assert_eq!(zones, [0, 1, 2, 3]);
     // The kept numbers 2 1 0 turn the three round, wherever 3 stands among them.
     for row in [[2, 1, 0, 3], [2, 3, 1, 0], [3, 2, 1, 0]] {
-        let mut counts = [7; 3];
-        assert_eq!(own::rank(4, &values, &weights, &row, &mut counts), 0);
-        assert_eq!(counts, [1, 0, 0]);
+        let mut counts = [7; own::RANK_COUNTS];
+        let number = own::rank(4, &values, &weights, &row, &[0], &mut counts);
+        assert_eq!((number, counts), (0, of_desk_0([1, 0, 0])));
     }
     // Equal kept values have no spread, whatever the others are; a bad value is refused wherever it stands.
     for (values, number) in [([5, 5, 5, 9], 7), ([1, 1, 3, 100_001], 3)] {
@@ -78,12 +83,9 @@ fn not_returned() {
     );
     assert_eq!(own::hot_list(5, &values, &weights, &mut zones), 0);
     assert_eq!(zones, [0, 1, 2, 3, 4]);
-    let mut counts = [7; 3];
-    assert_eq!(
-        own::rank(5, &values, &weights, &[2, 4, 1, 3, 0], &mut counts),
-        0
-    );
-    assert_eq!(counts, [0, 1, 0]);
+    let mut counts = [7; own::RANK_COUNTS];
+    let number = own::rank(5, &values, &weights, &[2, 4, 1, 3, 0], &[0], &mut counts);
+    assert_eq!((number, counts), (0, of_desk_0([0, 1, 0])));
     // Only the ends of the line, nobody, equal values, a value next to the mark; the join table takes what others refuse with 6.
     let none = own::NOT_RETURNED;
     for (values, number) in [
@@ -312,7 +314,7 @@ fn shuffles_of_park_and_miller() {
         shuffles.extend(row);
     }
     assert_eq!(state, 137_128_920);
-    let (mut locals, mut sums, mut counts) = ([0; 64], [0; own::SUMS], [0; 3]);
+    let (mut locals, mut sums, mut counts) = ([0; 64], [0; own::SUMS], [0; own::RANK_COUNTS]);
     assert_eq!(
         own::account(n, &values, &weights, &mut locals, &mut sums),
         0
@@ -329,8 +331,68 @@ fn shuffles_of_park_and_miller() {
             0
         ]
     );
-    assert_eq!(own::rank(n, &values, &weights, &shuffles, &mut counts), 0);
-    assert_eq!(counts, [271, 0, 228]);
+    let number = own::rank(n, &values, &weights, &shuffles, &[0; 499], &mut counts);
+    assert_eq!((number, counts), (0, of_desk_0([271, 0, 228])));
+}
+
+/// The path 2 1 6: P is -72, -162 with 6 in the middle and -18 with 2 there.
+const PATH: ([i32; 3], [u8; 9]) = ([2, 1, 6], [0, 1, 0, 1, 0, 1, 0, 1, 0]);
+
+#[test]
+fn ranks_by_desk() {
+    let (values, weights) = PATH;
+    let (less, equal, greater) = ([0, 2, 1], [2, 1, 0], [1, 0, 2]);
+    let rank = |rows: &[[u8; 3]], desks: &[u8]| {
+        let mut counts = [7; own::RANK_COUNTS];
+        let rows = rows.as_flattened();
+        let number = own::rank(3, &values, &weights, rows, desks, &mut counts);
+        (number, counts)
+    };
+    assert_eq!(rank(&[], &[]), (0, [0; own::RANK_COUNTS]));
+    let rows = [less, equal, greater, greater, less, greater];
+    let counts = [0, 1, 1, 0, 0, 0, 2, 0, 0, 0, 0, 2];
+    assert_eq!(rank(&rows, &[2, 0, 3, 0, 2, 3]), (0, counts));
+    assert_eq!(rank(&rows, &[0; 6]), (0, of_desk_0([2, 1, 3])));
+    // Desk 0 has the same where the others have other rows.
+    let rows = [equal, equal, less, greater, equal, less];
+    let counts = [0, 1, 1, 1, 0, 0, 0, 2, 0, 1, 0, 0];
+    assert_eq!(rank(&rows, &[2, 0, 3, 0, 2, 1]), (0, counts));
+    let counts = [0, 0, 0, 0, 0, 0, 0, 0, 0, 499, 0, 0];
+    assert_eq!(rank(&[less; 499], &[3; 499]), (0, counts));
+}
+
+/// 24 after all others, and 2 for a desk too few or too many; the counts stay.
+#[test]
+fn refused_ranks() {
+    let (values, weights) = PATH;
+    let two = [0, 1, 2, 2, 1, 0];
+    for (values, rows, desks, number) in [
+        (values, &two[..], &[0, 4][..], 24),
+        (values, &two, &[255, 0], 24),
+        (values, &[0, 1, 2, 2, 1, 1], &[4, 0], 13),
+        ([5; 3], &two, &[4, 0], 7),
+        (values, &two, &[0], 2),
+        (values, &two, &[0; 3], 2),
+        (values, &two, &[], 2),
+        (values, &two, &[4; 6], 2),
+        (values, &[], &[0], 2),
+        (values, &two[..4], &[0], 2),
+    ] {
+        let mut counts = [7; own::RANK_COUNTS];
+        let given = own::rank(3, &values, &weights, rows, desks, &mut counts);
+        assert_eq!((given, counts), (number, [7; own::RANK_COUNTS]));
+    }
+}
+
+#[test]
+fn counts_of_another_length() {
+    let (values, weights) = PATH;
+    let two = [0, 1, 2, 2, 1, 0];
+    for length in [3, 11, 13] {
+        let mut counts = vec![7; length];
+        let given = own::rank(3, &values, &weights, &two, &[0, 1], &mut counts);
+        assert_eq!((given, counts), (2, vec![7; length]));
+    }
 }
 
 /// The image of document 01's report.

@@ -6,11 +6,11 @@
 use super::left_out::parted;
 use super::ties::{job_of, standings, tied_by, Standing};
 use differential as own;
-use differential::{ABOVE, BELOW, EQUAL, NOT_RETURNED, SUMS, ZONES};
+use differential::{ABOVE, BELOW, DESKS, EQUAL, NOT_RETURNED, SUMS, ZONES};
 use std::cmp::Reverse;
 
 /// The names that `--broken` takes, and what is wrong.
-pub const NAMES: [(&str, &str); 59] = [
+pub const NAMES: [(&str, &str); 67] = [
     (
         "last-local",
         "account: the last local numerator is not stored",
@@ -126,6 +126,23 @@ pub const NAMES: [(&str, &str); 59] = [
     (
         "lonely-shuffled",
         "rank: zones not returned, and those left alone, take part in shuffles",
+    ),
+    (
+        "desk-by-place",
+        "rank: a row's desk is the rest of its place by 4",
+    ),
+    ("every-desk", "rank: every desk has the rows of all"),
+    ("desk-0-twice", "rank: desk 1 has the rows of desk 0 too"),
+    (
+        "less-of-all-first",
+        "rank: the counts are less of each desk, then equal, then greater",
+    ),
+    ("desk-before-shuffle", "rank: 24 before 13"),
+    ("desk-3-refused", "rank: desk 3 is refused with 24"),
+    ("desk-4-taken", "rank: desk 4 is taken"),
+    (
+        "desks-unjudged",
+        "rank: any length of the desks is taken, those that lack being 0",
     ),
     ("transposed", "join table: rows and columns exchanged"),
     ("joins-as-lent", "join table: the weights count as lent"),
@@ -450,7 +467,7 @@ pub fn left_out_as_zero(x: &[i32], w: &[u8], zones: &mut [u8]) {
     zones.sort_by_key(is_below);
 }
 
-pub fn rank_inverse(job: &Job, shuffles: &[u8], counts: &mut [u64]) {
+pub fn rank_inverse(job: &Job, shuffles: &[u8], desks: &[u8], counts: &mut [u64]) {
     let mut inverse = shuffles.to_vec();
     let rows = shuffles.chunks_exact(job.n);
     for (to, row) in inverse.chunks_exact_mut(job.n).zip(rows) {
@@ -458,35 +475,60 @@ pub fn rank_inverse(job: &Job, shuffles: &[u8], counts: &mut [u64]) {
             to[usize::from(zone)] = i;
         }
     }
-    own::rank(job.n, &job.x, &job.w, &inverse, counts);
+    own::rank(job.n, &job.x, &job.w, &inverse, desks, counts);
 }
 
 /// As before request A.6.
-pub fn by_place(job: &Job, shuffles: &[u8], counts: &mut [u64]) {
+pub fn by_place(job: &Job, shuffles: &[u8], desks: &[u8], counts: &mut [u64]) {
     let all: Vec<usize> = (0..job.n).collect();
-    shuffle_among(job, &all, shuffles, counts);
+    shuffle_among(job, &all, shuffles, desks, counts);
 }
 
 /// As request A.6 alone has it.
-pub fn lonely_shuffled(x: &[i32], w: &[u8], shuffles: &[u8], counts: &mut [u64]) {
+pub fn lonely_shuffled(x: &[i32], w: &[u8], shuffles: &[u8], desks: &[u8], counts: &mut [u64]) {
     let job = Job::left(x, w);
     let (weighty, _) = parted(&vec![0; job.n], w);
-    shuffle_among(&job, &weighty, shuffles, counts);
+    shuffle_among(&job, &weighty, shuffles, desks, counts);
 }
 
 /// Ranks the job where a row's numbers of these zones, in their order, go to these zones. Kept zones that become equal have a P of 0, as
 /// `worked` gives it.
-fn shuffle_among(job: &Job, zones: &[usize], shuffles: &[u8], counts: &mut [u64]) {
+fn shuffle_among(job: &Job, zones: &[usize], shuffles: &[u8], desks: &[u8], counts: &mut [u64]) {
     let p = |x: &[i32]| job.worked_with(x).1[3];
     counts.fill(0);
-    for row in shuffles.chunks_exact(job.n) {
+    for (row, &desk) in shuffles.chunks_exact(job.n).zip(desks) {
         let numbers = row.iter().map(|&number| usize::from(number));
         let numbers = numbers.filter(|number| zones.contains(number));
         let mut taken = job.x.clone();
         for (&zone, from) in zones.iter().zip(numbers) {
             taken[zone] = job.x[from];
         }
-        counts[(p(&taken).cmp(&p(&job.x)) as i8 + 1) as usize] += 1;
+        let count = (p(&taken).cmp(&p(&job.x)) as i8 + 1) as usize;
+        counts[3 * usize::from(desk) + count] += 1;
+    }
+}
+
+pub fn desk_by_place(job: &Job, shuffles: &[u8], counts: &mut [u64]) {
+    let rows = shuffles.len() / job.n;
+    let desks: Vec<u8> = (0..DESKS as u8).cycle().take(rows).collect();
+    own::rank(job.n, &job.x, &job.w, shuffles, &desks, counts);
+}
+
+pub fn every_desk(counts: &mut [u64]) {
+    let all = [0, 1, 2].map(|count| counts.iter().skip(count).step_by(3).sum());
+    counts.copy_from_slice([all; DESKS].as_flattened());
+}
+
+pub fn desk_0_twice(counts: &mut [u64]) {
+    let (first, others) = counts.split_at_mut(3);
+    let both = others.iter_mut().zip(first);
+    both.for_each(|(second, first)| *second += *first);
+}
+
+pub fn less_of_all_first(counts: &mut [u64]) {
+    let by_desk = counts.to_vec();
+    for (place, count) in counts.iter_mut().enumerate() {
+        *count = by_desk[3 * (place % DESKS) + place / DESKS];
     }
 }
 
@@ -677,6 +719,50 @@ pub fn five_as_left(number: u8, x: &[i32], w: &[u8]) -> u8 {
     } else {
         number
     }
+}
+
+/// 24 instead of 13, if a desk is above 3.
+pub fn desk_before_shuffle(number: u8, desks: &[u8]) -> u8 {
+    if number == 13 && desks.iter().any(|&desk| desk > 3) {
+        24
+    } else {
+        number
+    }
+}
+
+pub fn desk_3_refused(number: u8, desks: &[u8]) -> u8 {
+    if number == 0 && desks.contains(&3) {
+        24
+    } else {
+        number
+    }
+}
+
+/// 0 instead of 24, if no desk is above 4.
+pub fn desk_4_taken(number: u8, desks: &[u8]) -> u8 {
+    if number == 24 && desks.iter().all(|&desk| desk <= 4) {
+        0
+    } else {
+        number
+    }
+}
+
+/// What the call gives with as many desks as there are rows.
+pub fn desks_unjudged(
+    number: u8,
+    n: usize,
+    x: &[i32],
+    w: &[u8],
+    shuffles: &[u8],
+    desks: &[u8],
+    counts: &mut [u64],
+) -> u8 {
+    if number != 2 {
+        return number;
+    }
+    let mut desks = desks.to_vec();
+    desks.resize(shuffles.len() / n, 0);
+    own::rank(n, x, w, shuffles, &desks, counts)
 }
 
 /// 6 instead of 0, if no weight is left.

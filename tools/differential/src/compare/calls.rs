@@ -1,6 +1,7 @@
 //! Every call, proved and independent, on the same lent memory: what it takes, what is compared, and what can be swapped in.
 
 use super::broken::{self, Job};
+use super::desks::DeskKinds;
 use super::left_out::Kinds;
 use super::lent::{Lent, Memory};
 use super::stored::Arguments;
@@ -25,6 +26,8 @@ pub struct Run<'a> {
     pub kinds: Kinds,
     /// What ties it shows, of those that request A.2 settles.
     pub ties: Ties,
+    /// What the desks of a drawn rank show of request A.9.
+    pub desks: DeskKinds,
 }
 
 impl Run<'_> {
@@ -49,6 +52,7 @@ impl Run<'_> {
     ) -> Outcome {
         self.tally.add(call, own, &self.kinds);
         self.tally.add_ties(call, own, &self.ties);
+        self.tally.add_desks(own, &self.desks);
         if let Some(what) = self.wrong_number(proved, own) {
             return Err(format!("{call}: {what}"));
         }
@@ -229,7 +233,7 @@ calls! {
             "nan-quieted": faulty::nan_quieted [out],
             "nan-negated": faulty::nan_negated [out],
             "side-anyway": faulty::side_anyway [p, side],
-            "beyond-side": faulty::beyond_side [side]
+            "beyond-side": faulty::beyond_end [side]
         );
 
     hot_list: dca_hot_list
@@ -257,16 +261,40 @@ calls! {
 
     rank: dca_rank
         numbers(n: usize)
-        reads(values: i32, weights: u8, shuffles: u8)
+        reads(values: i32, weights: u8, shuffles: u8, desks: u8)
         lends(counts: u64)
         independent(own::rank)
         stores(
-            "rank-inverse": broken::rank_inverse [&left(values, weights), shuffles.own(), counts.own_mut()],
-            "by-place": broken::by_place [&left(values, weights), shuffles.own(), counts.own_mut()],
-            "lonely-shuffled": broken::lonely_shuffled [values.own(), weights.own(), shuffles.own(), counts.own_mut()]
+            "rank-inverse": broken::rank_inverse [
+                &left(values, weights), shuffles.own(), desks.own(), counts.own_mut()
+            ],
+            "by-place": broken::by_place [&left(values, weights), shuffles.own(), desks.own(), counts.own_mut()],
+            "lonely-shuffled": broken::lonely_shuffled [
+                values.own(), weights.own(), shuffles.own(), desks.own(), counts.own_mut()
+            ],
+            "desk-by-place": broken::desk_by_place [&left(values, weights), shuffles.own(), counts.own_mut()],
+            "every-desk": broken::every_desk [counts.own_mut()],
+            "desk-0-twice": broken::desk_0_twice [counts.own_mut()],
+            "less-of-all-first": broken::less_of_all_first [counts.own_mut()]
         )
-        answers()
-        faulty("weights-reduced": faulty::weights_reduced [values, weights]);
+        answers(
+            "desk-before-shuffle": broken::desk_before_shuffle [desks.own()],
+            "desk-3-refused": broken::desk_3_refused [desks.own()],
+            "desk-4-taken": broken::desk_4_taken [desks.own()],
+            "desks-unjudged": broken::desks_unjudged [
+                n, values.own(), weights.own(), shuffles.own(), desks.own(), counts.own_mut()
+            ]
+        )
+        faulty(
+            "weights-reduced": faulty::weights_reduced [values, weights],
+            "desks-sorted": faulty::desks_sorted [desks],
+            "desk-as-13": faulty::desk_as_13 [],
+            "greater-first": faulty::greater_first [counts],
+            "former-counts": faulty::former_counts [counts],
+            "beyond-counts": faulty::beyond_end [counts],
+            "counted-then-refused": faulty::counted_then_refused [counts],
+            "counts-cleared": faulty::counts_cleared [counts]
+        );
 
     join_table: dca_join_table
         numbers(n: usize)

@@ -1,7 +1,7 @@
 //! Drawn numbers, lists and jobs, good ones and spoiled ones.
 
 use super::left_out::{self, parted, Kinds};
-use differential::{BANDS, CATEGORIES, CLASSES, JOINS, NOT_RETURNED, SHUFFLES, ZONES};
+use differential::{BANDS, CATEGORIES, CLASSES, DESKS, JOINS, NOT_RETURNED, SHUFFLES, ZONES};
 
 /// SplitMix64.
 pub struct Draw(u64);
@@ -380,7 +380,7 @@ pub fn categories(draw: &mut Draw, n: usize) -> Vec<u8> {
     (0..n).map(|_| draw.below(kinds) as u8).collect()
 }
 
-/// A class or a category that is too large, or just not.
+/// A class, a category or a desk that is too large, or just not.
 pub fn spoil_kinds(draw: &mut Draw, list: &mut [u8], greatest: u8) {
     let entry = draw.pick(&[greatest + 1, greatest + 1, 255, 128, greatest]);
     put(draw, list, entry);
@@ -508,6 +508,35 @@ pub fn spoil_shuffles(draw: &mut Draw, n: usize, list: &mut [u8]) {
         _ => 0,
     };
     put(draw, list, entry);
+}
+
+/// The desk of each row: all of the first, or of another; by turns; of two; of any but one; of any.
+pub fn desks(draw: &mut Draw, rows: usize) -> Vec<u8> {
+    let style = draw.below(8);
+    let (one, other) = (draw.below(DESKS), draw.below(DESKS));
+    let mut desk = |row: usize| match style {
+        0 => 0,
+        1 => one,
+        2 => row % DESKS,
+        3 => draw.pick(&[one, other]),
+        4 => (one + 1 + draw.below(DESKS - 1)) % DESKS,
+        _ => draw.below(DESKS),
+    };
+    (0..rows).map(|row| desk(row) as u8).collect()
+}
+
+/// Another number of desks than of rows; new ones repeat the last.
+pub fn spoil_desk_count(draw: &mut Draw, n: usize, list: &mut Vec<u8>) {
+    let rows = list.len();
+    let count = match draw.below(6) {
+        0 => 0,
+        1 => rows.saturating_sub(1),
+        2 => rows + 1,
+        3 | 4 => rows * n,
+        _ => draw.below(2 * rows + 3),
+    };
+    let last = list.last().copied().unwrap_or_default();
+    list.resize(count, last);
 }
 
 /// A job as an image has it: the weights as a table, for the writer, and as joins.

@@ -1,12 +1,13 @@
 //! Each call with drawn arguments.
 
 use super::calls::{self, Outcome, Run};
+use super::desks;
 use super::draw::{self, Draw, Sections};
 use super::left_out::{self, Kinds};
 use super::lent::Lent;
 use super::ties;
 use differential::image::SHUFFLE_BYTES;
-use differential::{BANDS, CLASSES, SHUFFLES, SUMS, TEXT, ZONES};
+use differential::{BANDS, CLASSES, RANK_COUNTS, SHUFFLES, SUMS, TEXT, ZONES};
 
 /// A job as the account, the class account, the report, the hot list, the rank and the join table take it.
 struct Job {
@@ -36,6 +37,11 @@ impl Job {
             values,
             weights,
         }
+    }
+
+    /// Whether its lists have the lengths that n asks for.
+    fn fits(&self) -> bool {
+        self.values.len() == self.n && self.n.checked_mul(self.n) == Some(self.weights.len())
     }
 
     /// One fault in the job, or in the length of another list.
@@ -223,28 +229,35 @@ pub fn hot_list(run: &mut Run, draw: &mut Draw) -> Outcome {
 
 pub fn rank(run: &mut Run, draw: &mut Draw) -> Outcome {
     let mut job = Job::draw(draw);
-    let mut lengths = [3];
-    let rows = if draw.once_in(40) {
-        draw.pick(&[SHUFFLES + 1, SHUFFLES + 2, 1000])
-    } else {
-        draw::shuffle_count(draw)
+    let mut lengths = [RANK_COUNTS];
+    let rows = match draw.below(80) {
+        0 | 1 => draw.pick(&[SHUFFLES + 1, SHUFFLES + 2, 1000]),
+        2 => SHUFFLES,
+        _ => draw::shuffle_count(draw),
     };
     let n = job.n;
     let mut shuffles = draw::shuffles(draw, n, rows);
+    let mut desks = draw::desks(draw, rows);
     for _ in 0..draw.faults() {
-        match draw.below(6) {
+        match draw.below(9) {
             0 if draw.once_in(3) => draw::spoil_list(draw, &mut shuffles),
             0..=2 => draw::spoil_shuffles(draw, n, &mut shuffles),
+            3 | 4 => draw::spoil_kinds(draw, &mut desks, 3),
+            5 => draw::spoil_desk_count(draw, n, &mut desks),
             _ => job.spoil(draw, &mut lengths),
         }
     }
     run.kinds = job.kinds;
+    if job.fits() && lengths == [RANK_COUNTS] {
+        run.desks = desks::kinds(n, &shuffles, &desks);
+    }
     calls::rank::compare(
         run,
         job.n,
         &mut Lent::list(draw, &job.values),
         &mut Lent::list(draw, &job.weights),
         &mut Lent::list(draw, &shuffles),
+        &mut Lent::list(draw, &desks),
         &mut Lent::noise(draw, lengths[0]),
     )
 }

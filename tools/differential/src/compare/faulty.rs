@@ -10,7 +10,7 @@ use differential::NOT_RETURNED;
 use std::cmp::Reverse;
 
 /// The names that `--faulty` takes, and what is wrong.
-pub const NAMES: [(&str, &str); 30] = [
+pub const NAMES: [(&str, &str); 37] = [
     ("beyond-end", "account: an entry is stored beyond the sums"),
     ("count-of-all", "account: the zones kept are all zones"),
     (
@@ -76,6 +76,28 @@ pub const NAMES: [(&str, &str); 30] = [
         "weights-reduced",
         "rank: the lent weights of a zone not returned become 0",
     ),
+    ("desks-sorted", "rank: the lent desks get sorted"),
+    ("desk-as-13", "rank: a desk above 3 is refused with 13"),
+    (
+        "greater-first",
+        "rank: the counts of a desk are greater, equal and less",
+    ),
+    (
+        "former-counts",
+        "rank: the counts of all rows are stored as desk 0's, and no others",
+    ),
+    (
+        "beyond-counts",
+        "rank: an entry is stored beyond the counts",
+    ),
+    (
+        "counted-then-refused",
+        "rank: a count is stored, then a desk refused",
+    ),
+    (
+        "counts-cleared",
+        "rank: a refused call stores zeros as the counts",
+    ),
     (
         "diagonal-as-four",
         "join table: a weight on the diagonal is refused with 4",
@@ -118,10 +140,10 @@ fn spoil<T: Entry>(list: &mut Lent<T>, place: isize) {
     *entry = T::of_bits(!entry.bits());
 }
 
-pub fn beyond_end(number: u8, sums: &mut Lent<i64>) -> u8 {
-    let end = sums.len() as isize;
+pub fn beyond_end<T: Entry>(number: u8, list: &mut Lent<T>) -> u8 {
+    let end = list.len() as isize;
     if number == 0 {
-        spoil(sums, end);
+        spoil(list, end);
     }
     number
 }
@@ -241,14 +263,6 @@ pub fn side_anyway(number: u8, p: i64, side: &mut Lent<u8>) -> u8 {
     number
 }
 
-pub fn beyond_side(number: u8, side: &mut Lent<u8>) -> u8 {
-    let end = side.len() as isize;
-    if number == 0 {
-        spoil(side, end);
-    }
-    number
-}
-
 pub fn nan_quieted(number: u8, out: &mut Lent<f64>) -> u8 {
     if number == 18 {
         change_nan(out.proved_entry(0), |bits| bits | QUIET);
@@ -330,6 +344,56 @@ fn reduce(values: &[i32], weights: &mut [u8]) {
 pub fn weights_reduced(number: u8, values: &mut Lent<i32>, weights: &mut Lent<u8>) -> u8 {
     if number == 0 {
         reduce(values.own(), weights.proved_list());
+    }
+    number
+}
+
+pub fn desks_sorted(number: u8, desks: &mut Lent<u8>) -> u8 {
+    if number == 0 {
+        desks.proved_list().sort_unstable();
+    }
+    number
+}
+
+pub fn desk_as_13(number: u8) -> u8 {
+    if number == 24 {
+        13
+    } else {
+        number
+    }
+}
+
+pub fn greater_first(number: u8, counts: &mut Lent<u64>) -> u8 {
+    if number == 0 {
+        let desks = counts.proved_list().chunks_exact_mut(3);
+        desks.for_each(|counts| counts.swap(0, 2));
+    }
+    number
+}
+
+/// As before request A.9.
+pub fn former_counts(number: u8, counts: &mut Lent<u64>) -> u8 {
+    if number == 0 {
+        let before = counts.before()[3..].to_vec();
+        let (of_all, others) = counts.proved_list().split_at_mut(3);
+        for (place, count) in others.iter().enumerate() {
+            of_all[place % 3] += count;
+        }
+        others.copy_from_slice(&before);
+    }
+    number
+}
+
+pub fn counted_then_refused(number: u8, counts: &mut Lent<u64>) -> u8 {
+    if number == 24 {
+        spoil(counts, 0);
+    }
+    number
+}
+
+pub fn counts_cleared(number: u8, counts: &mut Lent<u64>) -> u8 {
+    if number != 0 {
+        counts.proved_list().fill(0);
     }
     number
 }

@@ -2,6 +2,7 @@
 
 pub mod broken;
 mod calls;
+mod desks;
 mod draw;
 mod drawn;
 pub mod faulty;
@@ -105,6 +106,7 @@ pub fn compare(plan: &Plan) -> Result<Tally, Difference> {
             expected: None,
             kinds: left_out::NONE,
             ties: ties::NONE,
+            desks: desks::NONE,
         };
         let outcome = if input < 2 * systematic {
             let mut image = sample.clone();

@@ -1,10 +1,10 @@
-//! Document 01's run-only cases, its figures (g) to (j) with their sides, and cases of requests A.2, A.6, A.7 and A.10. Each must be among
-//! the stored ones.
+//! Document 01's run-only cases, its figures (g) to (j) with their sides, and cases of requests A.2, A.6, A.7, A.9 and A.10. Each must be
+//! among the stored ones.
 
 use super::stored::Case;
 
 /// Name, call, number, and a line of the case.
-const REQUIRED: [(&str, &str, u8, &str); 54] = [
+const REQUIRED: [(&str, &str, u8, &str); 77] = [
     (
         "example-2",
         "dca_account",
@@ -15,7 +15,7 @@ const REQUIRED: [(&str, &str, u8, &str); 54] = [
     ("n-65", "dca_account", 1, "n 65"),
     ("two-zones", "dca_account", 0, "n 2"),
     ("request-a4", "dca_account", 0, "n 64"),
-    ("request-a4", "dca_rank", 0, "counts 3*7 -> 271 0 228"),
+    ("request-a4", "dca_rank", 0, "counts 12*7 -> 271 0 228 9*0"),
     ("value-100000", "dca_account", 0, "values 1 100000 6"),
     ("value-100001", "dca_account", 3, "values 1 100001 6"),
     ("weight-9", "dca_account", 0, "weights 0 1 0 1 0 9 0 1 0"),
@@ -76,7 +76,7 @@ const REQUIRED: [(&str, &str, u8, &str); 54] = [
         3,
         "values 1 2 6 100001",
     ),
-    ("left-out-shuffle", "dca_rank", 0, "counts 3*7 -> 0 2 0"),
+    ("left-out-shuffle", "dca_rank", 0, "counts 12*7 -> 10*0 2 0"),
     (
         "left-out-hot-list",
         "dca_hot_list",
@@ -194,6 +194,69 @@ const REQUIRED: [(&str, &str, u8, &str); 54] = [
         "zones 7*7 -> 1 2 4 6 0 3 5",
     ),
     ("ties-by-row-sum", "dca_report", 0, "length 7 -> 299"),
+    (
+        "request-a4-by-turns",
+        "dca_rank",
+        0,
+        "counts 12*7 -> 68 0 57 72 0 53 69 0 56 62 0 62",
+    ),
+    (
+        "desks-without-rows-or-desks",
+        "dca_rank",
+        0,
+        "counts 12*7 -> 12*0",
+    ),
+    (
+        "desks-of-their-own",
+        "dca_rank",
+        0,
+        "counts 12*7 -> 1 3*0 1 3*0 1 1 0 0",
+    ),
+    (
+        "desks-falling",
+        "dca_rank",
+        0,
+        "counts 12*7 -> 1 4*0 1 0 1 0 1 0 0",
+    ),
+    ("desks-all-3", "dca_rank", 0, "counts 12*7 -> 9*0 2 1 1"),
+    (
+        "desks-one-without-rows",
+        "dca_rank",
+        0,
+        "counts 12*7 -> 0 1 1 3*0 2 0 1 0 1 0",
+    ),
+    (
+        "desks-of-others",
+        "dca_rank",
+        0,
+        "counts 12*7 -> 1 3*0 1 0 1 0 2 1 0 0",
+    ),
+    (
+        "desks-of-others",
+        "dca_rank",
+        0,
+        "counts 12*7 -> 0 1 4*0 1 0 2 0 0 2",
+    ),
+    (
+        "desks-left-out",
+        "dca_rank",
+        0,
+        "counts 12*7 -> 0 0 1 2 6*0 2 1",
+    ),
+    ("desk-4", "dca_rank", 24, "desks 4*4"),
+    ("desk-4-first", "dca_rank", 24, "desks 4 0 1 2"),
+    ("desk-4-last", "dca_rank", 24, "desks 0 1 2 4"),
+    ("desk-4-last-of-499", "dca_rank", 24, "desks 498*3 4"),
+    ("desk-255", "dca_rank", 24, "desks 3*0 255"),
+    ("desk-4-and-shuffle", "dca_rank", 13, "desks 4 0"),
+    ("desk-4-and-equal", "dca_rank", 7, "desks 0 4"),
+    ("desks-one-less", "dca_rank", 2, "desks 0 1 2"),
+    ("desks-one-more", "dca_rank", 2, "desks 0 1 2 3 0"),
+    ("desks-lacking", "dca_rank", 2, "desks"),
+    ("desks-for-every-entry", "dca_rank", 2, "desks 12*0"),
+    ("desks-without-rows", "dca_rank", 2, "desks 0"),
+    ("counts-3", "dca_rank", 2, "counts 3*7"),
+    ("counts-13", "dca_rank", 2, "counts 13*7"),
 ];
 
 /// Says which one is not among the cases.

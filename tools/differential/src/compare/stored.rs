@@ -2,6 +2,7 @@
 //! cases/README.md says how they are written.
 
 use super::calls::{self, Comparison, Outcome, Run};
+use super::desks;
 use super::draw::Draw;
 use super::left_out;
 use super::lent::Lent;
@@ -146,8 +147,9 @@ impl<'a> Case<'a> {
 
     /// Whether the case has this line, word for word.
     pub fn has(&self, line: &str) -> bool {
+        let line = line.split_once(' ').unwrap_or((line, ""));
         let mut lines = self.arguments.iter();
-        lines.any(|has| line.split_once(' ') == Some((has.word, has.rest)))
+        lines.any(|has| line == (has.word, has.rest))
     }
 
     /// The lists that the call changes, as they are written.
@@ -181,6 +183,7 @@ impl<'a> Case<'a> {
             expected: Some(self.gives),
             kinds: left_out::NONE,
             ties: ties::NONE,
+            desks: desks::NONE,
         })
     }
 }

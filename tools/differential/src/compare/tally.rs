@@ -1,5 +1,6 @@
 //! Which answers came, and how often.
 
+use super::desks::{DeskKinds, DESK_KINDS};
 use super::left_out::{Kinds, KINDS};
 use super::lent::Memory;
 use super::ties::{Ties, TIES};
@@ -15,7 +16,7 @@ const CAN_GIVE: [(&str, &[u8]); 15] = [
     ("dca_float_report", &[1, 2, 3, 4, 5, 6, 7, 9]),
     ("dca_nearest", &[2, 18]),
     ("dca_hot_list", &[1, 2, 3, 4, 5, 6, 7]),
-    ("dca_rank", &[1, 2, 3, 4, 5, 6, 7, 13]),
+    ("dca_rank", &[1, 2, 3, 4, 5, 6, 7, 13, 24]),
     (JOIN_TABLE, &[1, 2, 3, 4, 5, 8]),
     ("dca_gabriel", &[1, 2, 10, 11]),
     ("dca_bands", &[1, 2, 10, 11, 12]),
@@ -79,6 +80,8 @@ pub struct Tally {
     sides: [[u64; SAID.len()]; SIDES.len()],
     /// By ordering call and tie, those that were accepted.
     ties: [[u64; TIES.len()]; ORDERED.len()],
+    /// By kind of a rank's desks, those that got the number of the kind.
+    desks: [u64; DESK_KINDS.len()],
 }
 
 impl Tally {
@@ -111,6 +114,14 @@ impl Tally {
         if let (Some(place), 0) = (place, number) {
             let counts = self.ties[place].iter_mut().zip(ties);
             counts.for_each(|(count, &is)| *count += u64::from(is));
+        }
+    }
+
+    /// Counts the kinds of a rank's desks; another call has none.
+    pub fn add_desks(&mut self, number: u8, kinds: &DeskKinds) {
+        let counts = self.desks.iter_mut().zip(kinds).zip(DESK_KINDS);
+        for ((count, &is), (_, of)) in counts {
+            *count += u64::from(is && number == of);
         }
     }
 
@@ -168,6 +179,22 @@ impl Tally {
         }
     }
 
+    pub fn print_desks(&self) {
+        println!("| desks of dca_rank | answer | came |");
+        println!("|---|---:|---:|");
+        for ((kind, of), came) in DESK_KINDS.iter().zip(self.desks) {
+            println!("| {kind} | {of} | {came} |");
+        }
+    }
+
+    /// The kinds of desks that came too seldom.
+    fn desk_faults(&self) -> impl Iterator<Item = String> + '_ {
+        let kinds = DESK_KINDS.iter().zip(self.desks);
+        let seldom = kinds.filter(|&(_, came)| came < SELDOM);
+        seldom
+            .map(|((kind, of), came)| format!("dca_rank: {kind} came {came} times only, with {of}"))
+    }
+
     /// The ties that came too seldom.
     fn tie_faults(&self) -> impl Iterator<Item = String> + '_ {
         ORDERED.iter().zip(self.ties).flat_map(|(call, counts)| {
@@ -199,13 +226,14 @@ impl Tally {
         })
     }
 
-    /// The answers that came too seldom though the call can give them, those that came though it cannot, and the kinds of jobs, the sides and
-    /// the ties that came too seldom.
+    /// The answers that came too seldom though the call can give them, those that came though it cannot, and the kinds of jobs, the sides,
+    /// the ties and the kinds of desks that came too seldom.
     pub fn faults(&self) -> Vec<String> {
         let mut faults: Vec<String> = self
             .kind_faults()
             .chain(self.side_faults())
             .chain(self.tie_faults())
+            .chain(self.desk_faults())
             .collect();
         for (call, numbers) in CAN_GIVE {
             for number in 0..=u8::MAX {

@@ -233,6 +233,8 @@ fn required_cases() {
         ("on-the-circle", "dca_gabriel"),
         ("left-out-hot-list", "dca_hot_list"),
         ("nothing-left", "dca_account"),
+        ("desks-falling", "dca_rank"),
+        ("desk-4-and-shuffle", "dca_rank"),
     ] {
         let said = one_less(name).unwrap_err();
         assert!(said.contains(&format!("{name} of {call}")), "{said}");
