@@ -25,7 +25,7 @@ use Rattle.kept.specs.Kept.{passing, keeps, kept_count, kept_place, kept_values,
 use Rattle.kept.proofs.KeptShuffle.{as_many, shuffle_at}
 use Rattle.kept.proofs.Passing.{all_pass, passing_length, passing_count, passing_cong, passing_none, nth_stands}
 use Rattle.account.specs.Measures.{total_of, deviation_of}
-use Rattle.account.specs.Rank.{shuffled, values_cross, shuffle_cross, compared, compared_of, of_desk, zones_rank, zones_desk, job_rank}
+use Rattle.account.specs.Rank.{values_cross, shuffle_cross, compared, compared_of, of_desk, zones_rank, zones_desk, job_rank}
 use Rattle.account.specs.Rank.{desk_rows, desk_rank, desk_ranks, four, rank_refusal}
 use Rattle.account.specs.Rank.{three, no_counts, twelve, counts_of, rank_counts}
 use Rattle.std.specs.Prelude.{IfOk}

@@ -3,9 +3,8 @@
 use mathlib.Core.Path.{◌≡◌, refl, sym, ap, ◌∙◌}
 use mathlib.Core.Bool.{false}
 use mathlib.Core.List.{List, [], ◌∷◌}
-use Prim.Native.Nat.{ℕ, ◌+◌, ◌/◌, ◌≤◌, ◌<◌}
+use Prim.Native.Nat.{ℕ, ◌+◌, ◌≤◌, ◌<◌}
 use native.Mathlib.Nat as N
-use native.Mathlib.Omega.{arith}
 use borrow.Author.Tests.{eq-eqb}
 use lib.IntN.{ℤ, pos, ◌-ℤ◌, ◌*ℤ◌}
 use lib.ListN.{length, get_or}
@@ -19,10 +18,9 @@ use Rattle.whole.specs.Table.{at, pair_at}
 use Rattle.whole.proofs.Compare.{less_scaled, equal_scaled}
 use Rattle.whole.proofs.Pairs.{pairs_sum}
 use Rattle.whole.proofs.Permutation.{stands, full, permuted_sum}
-use Rattle.whole.proofs.Rules.{first_least, first_applies, worked_when_taken}
+use Rattle.whole.proofs.Rules.{first_least, first_applies}
 use Rattle.whole.proofs.Size.{one_*}
 use Rattle.shuffles.specs.Shuffles.{shuffle_count}
-use Rattle.shuffles.proofs.ShuffleList.{whole_rows}
 use Rattle.kept.specs.Returned.{reduced}
 use Rattle.kept.specs.Kept.{kept_count, kept_values, kept_pairs, kept_shuffles}
 use Rattle.kept.proofs.KeptShuffle.{shuffle_full}
@@ -30,12 +28,6 @@ use Rattle.account.specs.Measures.{total_of, spread_of}
 use Rattle.account.specs.Refusals.{job_spread, job_rules, call_rules, account_rules, account_refusal}
 use Rattle.account.specs.Answers.{zones_figures, job_figures, job_row}
 use Rattle.account.specs.Rank.{shuffled, values_cross, shuffle_cross, compared, zones_rank, job_rank, rank_rules, rank_refusal}
-use Rattle.account.specs.Rank.{three, counts_of, rank_counts}
-use Rattle.std.proofs.Common.{Result, Ok, Err}
-use Rattle.refusals.specs.declared.Refusal.{Refusal}
-use Rattle.refusals.specs.Refusals.{number_of}
-use Rattle.refusals.proofs.Refusals.{not_refused, cause_unique}
-use Rattle.account.specs.declared.Counts.{Counts}
 use Rattle.account.proofs.Accepted.{rank_called, rank_accepted, let_in}
 use Rattle.account.proofs.Tallied.{all_counted}
 use Rattle.account.proofs.Theorems.{weight_one, spread_one}

@@ -2,7 +2,7 @@
 -- counts. Assumes nothing.
 use mathlib.Core.Path.{◌≡◌, refl, sym, ap, ◌∙◌}
 use mathlib.Core.Bool.{Bool, true, false, cond, ◌&&◌}
-use mathlib.Core.List.{List, [], ◌∷◌}
+use mathlib.Core.List.{List}
 use Prim.Native.Nat.{ℕ, ◌+◌, ◌≤◌, ◌<◌}
 use native.Mathlib.Decide.{ℕ_discrete}
 use native.Mathlib.Omega.{arith}
@@ -18,7 +18,7 @@ use Rattle.whole.specs.Search.{count}
 use Rattle.whole.proofs.Compare.{less_unequal, more_unequal, less_only, else_equal}
 use Rattle.whole.proofs.Counting.{count_zero, count_yes, count_no, count_le, count_cong, count_three}
 use Rattle.whole.proofs.Rules.{second_fails}
-use Rattle.account.specs.Rank.{compared, compared_of, of_desk, three, no_counts, four, twelve}
+use Rattle.account.specs.Rank.{compared_of, of_desk, three, no_counts, four, twelve}
 use Rattle.account.specs.Steps.{more}
 use Rattle.account.specs.declared.Counts.{Counts}
 

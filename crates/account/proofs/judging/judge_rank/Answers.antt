@@ -135,7 +135,7 @@ returns-in_err-judge_shuffles c =
     let e = (goal.at.returns-in_err-judge_shuffles c).Else-desks-shuffles in
     let p = err_from_is_err_and c.from_residual-in_err-judge_shuffles.result c.from_residual-in_err-judge_shuffles.ensures.1 in
     let first = first_here ((any_above 3 c.args.desks.now, 24) ∷ []) ((any_lacking c.args.n c.args.shuffles.now, 13) ∷ []) _
-            (c.in_err-judge_shuffles.ensures ∙ listed e) (not_refused _) in
+    (c.in_err-judge_shuffles.ensures ∙ listed e) (not_refused _) in
     rw (p.1, p.2) (record {
       number = by_rest _ _ _ (lent (s (o e))) (last (s (o e))) _ (sizes_good e) (sym c.in_ok-kept.ensures.number) first;
       job = tt;
