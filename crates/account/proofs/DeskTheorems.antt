@@ -176,14 +176,14 @@ module _ (n : ℕ) (values : List ℤ) (weights shuffles desks : List ℕ) (k : 
 
 -- ---- rows of another desk have no effect: two calls on one job in which the rows of a desk are the same, in their order, count the same for it
 pub other_desks :
-    (n : ℕ) (values : List ℤ) (weights shuffles desks others numbers : List ℕ) (k : ℕ) →
-    rank_refusal n values weights shuffles desks ≡ 0 → rank_refusal n values weights others numbers ≡ 0 →
-    desk_rows n shuffles desks k ≡ desk_rows n others numbers k →
-    desk_rank n values weights shuffles desks k ≡ desk_rank n values weights others numbers k
-other_desks n values weights shuffles desks others numbers k taken too same =
+    (n : ℕ) (values : List ℤ) (weights shuffles desks shuffles' desks' : List ℕ) (k : ℕ) →
+    rank_refusal n values weights shuffles desks ≡ 0 → rank_refusal n values weights shuffles' desks' ≡ 0 →
+    desk_rows n shuffles desks k ≡ desk_rows n shuffles' desks' k →
+    desk_rank n values weights shuffles desks k ≡ desk_rank n values weights shuffles' desks' k
+other_desks n values weights shuffles desks shuffles' desks' k taken too same =
     desk_alone n values weights shuffles desks k taken
     ∙ ap (job_rank n values weights) same
-    ∙ sym (desk_alone n values weights others numbers k too)
+    ∙ sym (desk_alone n values weights shuffles' desks' k too)
 
 -- ---- the four desks' counts add up to those of all shuffles
 module _ (desks : List ℕ) (passes : ℕ → Bool) where
