@@ -1,5 +1,6 @@
 // The weights of a job and the joins that they are: their judge, how many there are, and their bytes.
-ghost use Rattle.std.specs.Prelude.{◌≡◌, ◌*◌, ◌≤◌, ◌<◌, length};
+ghost use Rattle.std.specs.Prelude.{◌≡◌, ◌*◌, ◌≤◌, ◌<◌, length, ltb};
+ghost use Rattle.std.specs.List.{count_by};
 ghost use Rattle.whole.specs.Rules.{first_broken, in_turn};
 ghost use Rattle.whole.specs.Table.{each};
 ghost use Rattle.refusals.specs.Refusals.{number_of};
@@ -29,11 +30,20 @@ pub(super) fn judge_weights(table: &Table) -> Result<(), Refusal>
     Ok(())
 }
 
+// How many of up to 64 × 64 weights are above 0. By adding: a `count` of what a filter lets by goes weight by weight, and a write without
+// shuffles took a third longer (docs/DESIGN-PASS.md).
+fn weighty(weights: &[u8]) -> u32
+    requires { length weights.now ≤ 4096 }
+    ensures { result ≡ count_by (λ w. ltb 0 w) weights.now }
+{
+    weights.iter().map(|weight| u32::from(*weight > 0)).sum()
+}
+
 // How many joins a table has: one for each weight above 0.
 pub(super) fn count_joins(table: &Table) -> usize
     ensures { result ≡ length (joins_of table.now.n table.now.weights.now) }
 {
-    table.weights.iter().filter(|weight| **weight > 0).count()
+    weighty(table.weights) as usize // no From leads here from a u32
 }
 
 // The bytes of the join of a weight above 0.
