@@ -4,9 +4,10 @@ use mathlib.Core.Path.{◌≡◌, refl, sym, ap, ◌∙◌}
 use mathlib.Core.List.{List, [], ◌∷◌, ◌++◌, append-nil, append_assoc}
 use Prim.Native.Nat.{ℕ, suc, ◌+◌, ◌-◌, ◌≤◌, ◌<◌, min}
 use native.Mathlib.Nat.{eq-zero-or-pos}
+use native.Mathlib.Numerals.{add-one}
 use native.Mathlib.Omega.{arith}
-use lib.ListN.{length, get_or, take, drop, length-append, length-take, length-drop, take-append-drop, drop_of_length-le}
-use lib.Seq.{sets, length-sets, set_out, sets-eq, length-take-le}
+use lib.ListN.{length, get_or, set, take, drop, length-append, length-take, length-drop, take-append-drop, drop_of_length-le}
+use lib.Seq.{sets, length-sets, set_out, sets-eq, length-take-le, take-suc, take-suc-set}
 use borrow.Rule.Slice.PartMut.{put_mid, Post-is}
 use Rattle.whole.specs.Table.{each}
 use Rattle.whole.proofs.Stores.{Stored, stored_next, front_next, front_all, each_none, each_both}
@@ -87,6 +88,13 @@ puts_copied old text part at start fits from most copied =
     ∙ ap (λ k. take start old ++ (take fits text ++ drop (start + k) old)) (sym long)
     ∙ sym (append_assoc (take start old) (take fits text) _)
     ∙ sym (sets-eq (take fits text) old start (omega arith))))
+
+-- bytes copied one by one: one more
+pub copied_next :
+    (bytes places : List ℕ) (k byte : ℕ) → k < length bytes → k < length places → byte ≡ get_or bytes k 0 →
+    take k places ≡ take k bytes → take (k + 1) (set places k byte) ≡ take (k + 1) bytes
+copied_next bytes places k byte h room is before =
+    rw (add-one, take-suc-set places k byte room, before, is) (sym (take-suc bytes k 0 h))
 
 -- ---- a text for each item of a list
 module _ {A : Type 0} (text : A → List ℕ) where

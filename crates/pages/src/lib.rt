@@ -8,6 +8,17 @@ ghost use Rattle.digits.specs.Digits.{decimal};
 ghost use Rattle.pages.specs.Lines.{field, numbers, bits as bits_of};
 ghost use Rattle.pages.specs.Pages.{Puts};
 
+// Bytes into as many places. One by one: for the library's copy the calls for C would need memmove from outside, which they do not name.
+#[tactic(auto, using(crate::proofs::Puts::copied_next))]
+fn copy(bytes: &[u8], places: &mut [u8])
+    requires { length bytes.now ≡ length places.old }
+    ensures { places.new ≡ bytes.now }
+{
+    for (k, place) in places.iter_mut().enumerate() {
+        *place = bytes[k];
+    }
+}
+
 // Bytes as they are.
 #[tactic(auto, using(crate::proofs::Puts::puts_copied))]
 pub fn put(page: &mut [u8], at: usize, text: &[u8]) -> usize
@@ -16,7 +27,7 @@ pub fn put(page: &mut [u8], at: usize, text: &[u8]) -> usize
     let start = at.min(page.len());
     let fits = text.len().min(page.len() - start);
     let end = start + fits;
-    page[start..end].copy_from_slice(&text[..fits]);
+    copy(&text[..fits], &mut page[start..end]);
     end
 }
 

@@ -8,6 +8,7 @@ use crate::joining;
 use crate::judging::Sections;
 
 // The whole job. The six lists come as C lends them: a struct of six `&mut` would be made by the caller only to be taken apart here.
+// Bytes are taken one by one, as all numbers are: for the library's copy the calls for C would need memmove from outside.
 pub(super) fn store(
     job: &Sections,
     values: &mut [i32],
@@ -24,9 +25,14 @@ pub(super) fn store(
 {
     let n = job.values.count;
     words::entries_in(job.values.items, &mut values[..n]);
-    categories[..job.categories.count].copy_from_slice(job.categories.items);
+    words::entries_in(
+        job.categories.items,
+        &mut categories[..job.categories.count],
+    );
     joining::put_joins(n, job.joins, &mut weights[..n * n]);
     words::entries_in(job.places.items, &mut places[..2 * job.places.count]);
     words::entries_in(job.bands.items, &mut bands[..job.bands.count]);
-    shuffles[..n * job.shuffles.count].copy_from_slice(job.shuffles.items);
+    // by one length for both: with two the compiler asks at each byte whether it is the last
+    let entries = n * job.shuffles.count;
+    words::entries_in(&job.shuffles.items[..entries], &mut shuffles[..entries]);
 }
