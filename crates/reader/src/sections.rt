@@ -29,7 +29,7 @@ fn count_of(bytes: &[u8]) -> Result<(usize, &[u8]), Refusal>
         (λ e. (ltb (length bytes.now) 2 ≡ true) × (number_by e ≡ 14)) }
 {
     let (count, rest) = bytes.split_first_chunk::<2>().ok_or(Refusal::Cut)?;
-    Ok((usize::from(u16::from_le_bytes(*count)), rest))
+    Ok((words::two_at(count, 0) as usize, rest)) // no From leads here from a u32
 }
 
 // So many items of a size, and what follows them: 14 if they are cut.

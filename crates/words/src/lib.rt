@@ -23,7 +23,7 @@ fn taken<const N: usize>(bytes: &[u8], at: usize) -> [u8; N]
     array::from_fn(|k| byte(bytes, at.saturating_add(k)))
 }
 
-// The number of one byte. Public functions stay, by a rule of the project, though no other crate calls this one, or that of two bytes.
+// The number of one byte. Public functions stay, by a rule of the project, though no other crate calls this one.
 pub fn byte_at(bytes: &[u8], at: usize) -> u32
     ensures value { result ≡ byte_at bytes.now at }
     ensures upper_bound { result < 256 }
