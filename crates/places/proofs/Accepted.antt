@@ -10,8 +10,9 @@ use lib.Dec.{eqb}
 use lib.IntN.{ℤ}
 use lib.ListN.{length}
 use Rattle.whole.specs.Rules.{Rule, first_broken, outside, size_rules}
+use Rattle.whole.specs.Search.{any_beyond}
 use Rattle.whole.proofs.Rules.{holds, first_here, first_next, first_none, neither, in_range, fits, sizes_hold}
-use Rattle.places.specs.Places.{place_rules, call_rules}
+use Rattle.places.specs.Places.{any_at_one_place, place_rules, call_rules}
 use Rattle.places.specs.Gabriel.{gabriel_refusal}
 use Rattle.places.specs.Bands.{bands_broken, band_refusal}
 
@@ -50,15 +51,26 @@ fitting n places room e =
     let l2 = fits room (n * n) [] l1.1 in
     record { two = s.two; zones = s.zones; places_fit = l1.0; room_fit = l2.0 }
 
+-- ---- a call in which 10 and 11 hold besides
+pub record Placed (n : ℕ) (places : List ℤ) (room : ℕ) : Type 0 where
+  pub sizes : Fitting n (length places) room
+  pub near : any_beyond 30000 places ≡ false
+  pub apart : any_at_one_place n places ≡ false
+
 -- ---- a call in which no rule is broken
 module _ (n : ℕ) (places : List ℤ) (room : ℕ) (besides : List Rule) where
-  -- the sizes are good, and what is judged besides holds too
-  pub accepted : first_broken (call_rules n places room besides) ≡ 0 → Fitting n (length places) room × (first_broken besides ≡ 0)
+  -- what is judged besides holds too
+  pub placed : first_broken (call_rules n places room besides) ≡ 0 → Placed n places room × (first_broken besides ≡ 0)
   unfolding call_rules place_rules
-  accepted e =
-      let both = first_none besides 0 (call_rules n places room []) (tt, (tt, (tt, (tt, tt)))) e in
-      let sizes = first_none (place_rules n places) 0 (sizes_of n (length places) room) (tt, (tt, tt)) both.0 in
-      (fitting n (length places) room sizes.0, both.1)
+  placed e =
+      let both = first_none (place_rules n places ++ besides) 0 (sizes_of n (length places) room) (tt, (tt, tt)) e in
+      let e10 = holds (any_beyond 30000 places) 9 _ both.1 in
+      let e11 = holds (any_at_one_place n places) 10 _ e10.1 in
+      (record { sizes = fitting n (length places) room both.0; near = e10.0; apart = e11.0 }, e11.1)
+
+  -- of which the sizes
+  pub accepted : first_broken (call_rules n places room besides) ≡ 0 → Fitting n (length places) room × (first_broken besides ≡ 0)
+  accepted e = let p = placed e in (p.0.sizes, p.1)
 
   module _ (r : ℕ) where
     -- the sizes' number
@@ -86,20 +98,20 @@ module _ (n : ℕ) (places : List ℤ) (room : ℕ) (besides : List Rule) where
     by_rest good e = e ∙ first_next besides 0 (call_rules n places room []) (tt, (tt, (tt, (tt, tt)))) good
 
 -- ---- of the Gabriel network
-pub gabriel_accepted : (n : ℕ) (places : List ℤ) (room : ℕ) → gabriel_refusal n places room ≡ 0 → Fitting n (length places) room
+pub gabriel_accepted : (n : ℕ) (places : List ℤ) (room : ℕ) → gabriel_refusal n places room ≡ 0 → Placed n places room
 unfolding gabriel_refusal
-gabriel_accepted n places room e = (accepted n places room [] e).0
+gabriel_accepted n places room e = (placed n places room [] e).0
 
 -- ---- of the bands
 pub record Banded (n : ℕ) (places : List ℤ) (bands : List ℕ) (room : ℕ) : Type 0 where
-  pub sizes : Fitting n (length places) room
+  pub good : Placed n places room
   pub few_bands : length bands ≤ 8
 
 pub bands_accepted :
     (n : ℕ) (places : List ℤ) (bands : List ℕ) (room : ℕ) → band_refusal n places bands room ≡ 0 → Banded n places bands room
 unfolding band_refusal bands_broken
 bands_accepted n places bands room e =
-    let p = accepted n places room ((bands_broken bands, 12) ∷ []) e in
+    let p = placed n places room ((bands_broken bands, 12) ∷ []) e in
     let e12 = holds (bands_broken bands) 11 0 p.1 in
     let r = in_range 1 8 (length bands) (neither (outside 1 8 (length bands)) _ e12.0).0 in
-    record { sizes = p.0; few_bands = r.1 }
+    record { good = p.0; few_bands = r.1 }

@@ -46,7 +46,7 @@ class_pairs-requires c =
     let g = good ((goal.at.class_pairs-requires c).In_ok-judge_bands) in
     record {
       bands_len_bound = g.few_bands;
-      classes_len = g.sizes.room_fit ∙ ap (λ k. k * k) (sym (zones_count _ _ _ c.in_ok-zones.ensures.zones g.sizes.places_fit));
+      classes_len = g.good.sizes.room_fit ∙ ap (λ k. k * k) (sym (zones_count _ _ _ c.in_ok-zones.ensures.zones g.good.sizes.places_fit));
     }
 
 pub returns : goal.returns
@@ -57,6 +57,6 @@ returns c =
       number = none t;
       lent =
           c.class_pairs.ensures
-          ∙ worked_from _ _ _ c.in_ok-zones.ensures.zones (good t).sizes.places_fit (λ k p. band_classes k p c.args.bands.now)
+          ∙ worked_from _ _ _ c.in_ok-zones.ensures.zones (good t).good.sizes.places_fit (λ k p. band_classes k p c.args.bands.now)
           ∙ sym (worked_by _ _ _ (none t));
     }

@@ -24,7 +24,7 @@ module _ (c : In_ok-zones) where
   none = c.in_ok-zones.ensures.number
 
   sizes : Fitting c.args.n (length c.args.places.now) (length c.args.weights.now)
-  sizes = gabriel_accepted _ _ _ (sym none)
+  sizes = (gabriel_accepted _ _ _ (sym none)).sizes
 
 pub join_pairs-requires : goal.join_pairs-requires
 join_pairs-requires c =
