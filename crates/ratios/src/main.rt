@@ -10,18 +10,28 @@ use std::io;
 use std::io::Print;
 
 // The sign of a side.
-fn sign(side: Side) -> char {
+fn sign(side: Side) -> u8 {
     match side {
-        Side::Equal => '=',
-        Side::Below => '<',
-        Side::Above => '>',
+        Side::Equal => b'=',
+        Side::Below => b'<',
+        Side::Above => b'>',
     }
+}
+
+// The line of a float. By `{:016X}` a run of many ratios takes a third longer.
+fn print_float(rt: &impl Print, bits: u64, sign: u8) -> io::Result<()> {
+    let mut text = [0; 16];
+    digits::hexadecimal(bits, &mut text);
+    let mut line = [b'\n'; 18];
+    line[..16].copy_from_slice(&text);
+    line[16] = sign;
+    rt.write_all(&line)
 }
 
 // The line of one ratio.
 fn print_answer(rt: &impl Print, p: i64, q: i64) -> io::Result<()> {
     match nearest::nearest(p, q) {
-        Ok(x) => println!(rt; "{:016X}{}", x.float.to_bits(), sign(x.side)),
+        Ok(x) => print_float(rt, x.float.to_bits(), sign(x.side)),
         Err(refusal) => println!(rt; "refused {}", refusals::number_by(refusal)),
     }
 }
